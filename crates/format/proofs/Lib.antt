@@ -1,0 +1,4 @@
+pub mod Widths
+pub mod Complement
+pub mod SignedTests
+pub mod Table

@@ -1,0 +1,34 @@
+-- A table that holds f k at each place k below its length, and tables of numbered rows. Assumes nothing.
+use mathlib.Core.Path.{_≡_, refl}
+use mathlib.Core.Bool.{Bool, true, false, _&&_}
+use mathlib.Core.List.{List, [], _∷_}
+use Prim.Native.Nat.{ℕ, zero, suc, _<_, _≤_}
+use native.Mathlib.Omega.{arith}
+use lib.Dec.{ltb, eqb, T, ltb→lt}
+use lib.ListN.{getD}
+use mir.Facts.{and-yes}
+use borrow.Author.Tests.{ne-eqb}
+use Rattle.format.specs.Tables.{lookup}
+
+-- f 0, f 1, .. f (n - 1)
+abbrev pub tabulate : {A : Type 0} → ℕ → (ℕ → A) → List A
+tabulate zero f = []
+tabulate (suc n) f = f zero ∷ tabulate n (λ k. f (suc k))
+
+pub tabled : {A : Type 0} (n : ℕ) (f : ℕ → A) (d : A) (k : ℕ) → k < n → getD (tabulate n f) k d ≡ f k
+tabled zero f d k h = absurd (omega arith)
+tabled (suc n) f d zero h = refl
+tabled (suc n) f d (suc k) h = tabled n (λ k. f (suc k)) d k (omega arith)
+
+-- all numbers of the rows are below m
+abbrev pub keysBelow : {A : Type 0} → ℕ → List (ℕ × A) → Bool
+keysBelow m [] = true
+keysBelow m (p ∷ ps) = ltb (p .0) m && keysBelow m ps
+
+pub lookup-above : {A : Type 0} (other : A) (m : ℕ) (ps : List (ℕ × A)) (x : ℕ) → T (keysBelow m ps) → m ≤ x → lookup other ps x ≡ other
+lookup-above other m [] x t h = refl
+lookup-above other m (p ∷ ps) x t h =
+    let both = and-yes (ltb (p .0) m) (keysBelow m ps) t in
+    let low : p .0 < m = ltb→lt (p .0) m (both .0) in
+    let differ : eqb x (p .0) ≡ false = ne-eqb x (p .0) (λ e. omega arith) in
+    rw differ (lookup-above other m ps x (both .1) h)

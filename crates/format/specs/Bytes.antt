@@ -1,0 +1,30 @@
+-- Numbers in a list of bytes: either byte order, and two's complement. Assumes nothing.
+use Prim.Native.Nat.{ℕ, suc, _+_, _-_, _*_, _^_}
+use mathlib.Core.Bool.{cond}
+use mathlib.Core.List.{List, [], _∷_}
+use lib.ListN.{take, drop}
+use lib.Dec.{ltb}
+use lib.IntN.{ℤ, pos, negsuc}
+
+-- bytes after the number n, each less significant than the one before
+abbrev pub bigFrom : ℕ → List ℕ → ℕ
+bigFrom n [] = n
+bigFrom n (b ∷ bs) = bigFrom (n * 256 + b) bs
+
+-- the n bytes at an offset, "big-endian": the first the most significant
+unfoldable pub bigAt : List ℕ → ℕ → ℕ → ℕ
+bigAt s at n = bigFrom 0 (take n (drop at s))
+
+-- bytes of which the first is the least significant
+abbrev pub littleOf : List ℕ → ℕ
+littleOf [] = 0
+littleOf (b ∷ bs) = b + 256 * littleOf bs
+
+-- the n bytes at an offset, "little-endian"
+unfoldable pub littleAt : List ℕ → ℕ → ℕ → ℕ
+littleAt s at n = littleOf (take n (drop at s))
+
+-- two's complement: of k + 1 bits, a number of 2 ^ k or more stands for that number less 2 ^ (k + 1)
+-- ("A 2-byte signed value above 32,767 as a plain number is that number less 65,536; likewise for 1 and 4 bytes")
+abbrev pub signedOf : ℕ → ℕ → ℤ
+signedOf k n = cond (ltb n (2 ^ k)) (pos n) (negsuc (2 ^ suc k - suc n))

@@ -1,0 +1,50 @@
+-- Control fields, and the end of the file. Assumes nothing.
+use Prim.Native.Nat.{ℕ, _/_, _%_}
+use mathlib.Core.Bool.{Bool, true, false}
+use mathlib.Core.List.{List}
+use lib.ListN.{length}
+use lib.Dec.{eqb}
+use lib.IntN.{ℤ, pos, negsuc}
+use lib.Signed.{leZ}
+use Rattle.format.specs.Bytes.{bigAt, signedOf}
+
+-- where the file ends: records, links and fields lie before it
+unfoldable pub endOf : List ℕ → ℕ
+endOf f = length f
+
+-- "All control fields are 4-byte two's complement, big-endian"
+unfoldable pub fieldAt : List ℕ → ℕ → ℤ
+fieldAt f at = signedOf 31 (bigAt f at 4)
+
+abbrev pub eqZ : ℤ → ℤ → Bool
+eqZ (pos a) (pos b) = eqb a b
+eqZ (pos a) (negsuc b) = false
+eqZ (negsuc a) (pos b) = false
+eqZ (negsuc a) (negsuc b) = eqb a b
+
+-- the field at an offset is k, "k or more", at most k
+unfoldable pub isAt : List ℕ → ℕ → ℤ → Bool
+isAt f at k = eqZ (fieldAt f at) k
+
+unfoldable pub atLeast : List ℕ → ℕ → ℤ → Bool
+atLeast f at k = leZ k (fieldAt f at)
+
+unfoldable pub atMost : List ℕ → ℕ → ℤ → Bool
+atMost f at k = leZ (fieldAt f at) k
+
+-- a number that is 0 or more as a natural number, and other for a negative one
+abbrev pub natOr : ℕ → ℤ → ℕ
+natOr other (pos n) = n
+natOr other (negsuc n) = other
+
+-- a field as a natural number, a negative one as 0
+unfoldable pub natAt : List ℕ → ℕ → ℕ
+natAt f at = natOr 0 (fieldAt f at)
+
+-- a link as an offset; a negative one as 1, where no record starts either ("A link below 8 .. is no start")
+unfoldable pub linkAt : List ℕ → ℕ → ℕ
+linkAt f at = natOr 1 (fieldAt f at)
+
+-- the bit of weight w of the flags at an offset is set
+unfoldable pub bitAt : List ℕ → ℕ → ℕ → Bool
+bitAt f at w = eqb (bigAt f at 4 / w % 2) 1

@@ -1,0 +1,5 @@
+pub mod Bytes
+pub mod Fields
+pub mod Tables
+pub mod Types
+pub mod Encodings

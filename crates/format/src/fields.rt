@@ -1,0 +1,78 @@
+// Control fields, and the end of the file.
+ghost use mathlib.Core.Path.{_≡_};
+ghost use Prim.Native.Nat.{_+_, _≤_, _<_};
+ghost use lib.ListN.{length};
+ghost use Rattle.format.specs.Fields.{endOf, fieldAt, isAt, atLeast, atMost, natOr, natAt, linkAt, bitAt};
+use crate::bytes;
+use crate::signed;
+
+// Where the file ends.
+pub fn end(f: &[u8]) -> usize
+    ensures { λ r. ⌜ (r ≡ endOf (now (f .entry))) × (r ≤ length (now (f .entry))) ⌝ }
+{
+    f.len()
+}
+
+// The control field at an offset.
+pub fn field(f: &[u8], at: usize) -> i32
+    requires { ⌜ at + 4 ≤ length (now f) ⌝ }
+    ensures { λ r. ⌜ r ≡ fieldAt (now (f .entry)) at ⌝ }
+{
+    signed::signed4(bytes::big4(f, at))
+}
+
+// The field at an offset is k.
+pub fn is(f: &[u8], at: usize, k: i32) -> bool
+    requires { ⌜ at + 4 ≤ length (now f) ⌝ }
+    ensures { λ r. ⌜ r ≡ isAt (now (f .entry)) at k ⌝ }
+{
+    field(f, at) == k
+}
+
+// The field at an offset is k or more.
+pub fn at_least(f: &[u8], at: usize, k: i32) -> bool
+    requires { ⌜ at + 4 ≤ length (now f) ⌝ }
+    ensures { λ r. ⌜ r ≡ atLeast (now (f .entry)) at k ⌝ }
+{
+    k <= field(f, at)
+}
+
+// The field at an offset is k or less.
+pub fn at_most(f: &[u8], at: usize, k: i32) -> bool
+    requires { ⌜ at + 4 ≤ length (now f) ⌝ }
+    ensures { λ r. ⌜ r ≡ atMost (now (f .entry)) at k ⌝ }
+{
+    field(f, at) <= k
+}
+
+// A number that is not negative, and other for one that is.
+fn nat_or(x: i32, other: u32) -> u32
+    requires { ⌜ other < 2 ⌝ }
+    ensures { λ r. ⌜ r ≡ natOr other x ⌝ }
+{
+    if x < 0 { other } else { x as u32 }
+}
+
+// The field at an offset as a natural number, a negative one as 0.
+pub fn nat_at(f: &[u8], at: usize) -> u32
+    requires { ⌜ at + 4 ≤ length (now f) ⌝ }
+    ensures { λ r. ⌜ (r ≡ natAt (now (f .entry)) at) × (r < 2147483648) ⌝ }
+{
+    nat_or(field(f, at), 0)
+}
+
+// The link at an offset, a negative one as 1.
+pub fn link_at(f: &[u8], at: usize) -> u32
+    requires { ⌜ at + 4 ≤ length (now f) ⌝ }
+    ensures { λ r. ⌜ (r ≡ linkAt (now (f .entry)) at) × (r < 2147483648) ⌝ }
+{
+    nat_or(field(f, at), 1)
+}
+
+// The bit of weight w of the flags at an offset is set.
+pub fn bit(f: &[u8], at: usize, w: u32) -> bool
+    requires { ⌜ (at + 4 ≤ length (now f)) × (0 < w) ⌝ }
+    ensures { λ r. ⌜ r ≡ bitAt (now (f .entry)) at w ⌝ }
+{
+    bytes::big4(f, at) / w % 2 == 1
+}
