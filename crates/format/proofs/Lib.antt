@@ -2,3 +2,4 @@ pub mod Widths
 pub mod Complement
 pub mod SignedTests
 pub mod Table
+pub mod Each

@@ -1,6 +1,6 @@
 -- Control fields, and the end of the file. Assumes nothing.
-use Prim.Native.Nat.{ℕ, _/_, _%_}
-use mathlib.Core.Bool.{Bool, true, false}
+use Prim.Native.Nat.{ℕ, zero, suc, _+_, _/_, _%_}
+use mathlib.Core.Bool.{Bool, true, false, _&&_}
 use mathlib.Core.List.{List}
 use lib.ListN.{length}
 use lib.Dec.{eqb}
@@ -31,6 +31,15 @@ atLeast f at k = leZ k (fieldAt f at)
 
 unfoldable pub atMost : List ℕ → ℕ → ℤ → Bool
 atMost f at k = leZ (fieldAt f at) k
+
+-- the field at p is at most the field at q
+unfoldable pub inOrder : List ℕ → ℕ → ℕ → Bool
+inOrder f p q = leZ (fieldAt f p) (fieldAt f q)
+
+-- each of the n fields from an offset on lies in lo to hi
+unfoldable pub eachWithin : List ℕ → ℕ → ℕ → ℤ → ℤ → Bool
+eachWithin f at zero lo hi = true
+eachWithin f at (suc n) lo hi = atLeast f at lo && atMost f at hi && eachWithin f (at + 4) n lo hi
 
 -- a number that is 0 or more as a natural number, and other for a negative one
 abbrev pub natOr : ℕ → ℤ → ℕ

@@ -1,8 +1,8 @@
 // Control fields, and the end of the file.
 ghost use mathlib.Core.Path.{_≡_};
-ghost use Prim.Native.Nat.{_+_, _≤_, _<_};
+ghost use Prim.Native.Nat.{_+_, _*_, _≤_, _<_};
 ghost use lib.ListN.{length};
-ghost use Rattle.format.specs.Fields.{endOf, fieldAt, isAt, atLeast, atMost, natOr, natAt, linkAt, bitAt};
+ghost use Rattle.format.specs.Fields.{endOf, fieldAt, isAt, atLeast, atMost, inOrder, eachWithin, natOr, natAt, linkAt, bitAt};
 use crate::bytes;
 use crate::signed;
 
@@ -43,6 +43,31 @@ pub fn at_most(f: &[u8], at: usize, k: i32) -> bool
     ensures { λ r. ⌜ r ≡ atMost (now (f .entry)) at k ⌝ }
 {
     field(f, at) <= k
+}
+
+// The field at p is at most the field at q.
+pub fn in_order(f: &[u8], p: usize, q: usize) -> bool
+    requires { ⌜ (p + 4 ≤ length (now f)) × (q + 4 ≤ length (now f)) ⌝ }
+    ensures { λ r. ⌜ r ≡ inOrder (now (f .entry)) p q ⌝ }
+{
+    field(f, p) <= field(f, q)
+}
+
+// Each of the n fields from an offset on lies in lo to hi.
+pub fn each_within(f: &[u8], at: usize, n: usize, lo: i32, hi: i32) -> bool
+    requires { ⌜ at + 4 * n ≤ length (now f) ⌝ }
+    ensures { λ r. ⌜ r ≡ eachWithin (now (f .entry)) at n lo hi ⌝ }
+{
+    let mut p = at;
+    let mut left = n;
+    while 0 < left {
+        if !(at_least(f, p, lo) & at_most(f, p, hi)) {
+            return false;
+        }
+        p += 4;
+        left -= 1;
+    }
+    true
 }
 
 // A number that is not negative, and other for one that is.
