@@ -1,14 +1,16 @@
 -- A table that holds f k at each place k below its length, and tables of numbered rows. Assumes nothing.
 use mathlib.Core.Path.{_≡_, refl}
-use mathlib.Core.Bool.{Bool, true, false, _&&_}
+use mathlib.Core.Bool.{Bool, true, false, cond, _&&_}
 use mathlib.Core.List.{List, [], _∷_}
 use Prim.Native.Nat.{ℕ, zero, suc, _<_, _≤_}
 use native.Mathlib.Omega.{arith}
-use lib.Dec.{ltb, eqb, T, ltb→lt}
+use lib.Dec.{ltb, leb, eqb, T, ltb→lt, leb→le}
 use lib.ListN.{getD}
 use mir.Facts.{and-yes}
 use borrow.Author.Tests.{ne-eqb}
+use Rattle.format.specs.declared.types.DataType.{DataType}
 use Rattle.format.specs.Tables.{lookup}
+use Rattle.format.specs.Types.{typeOf, types, takes, signed}
 
 -- f 0, f 1, .. f (n - 1)
 abbrev pub tabulate : {A : Type 0} → ℕ → (ℕ → A) → List A
@@ -32,3 +34,24 @@ lookup-above other m (p ∷ ps) x t h =
     let low : p .0 < m = ltb→lt (p .0) m (both .0) in
     let differ : eqb x (p .0) ≡ false = ne-eqb x (p .0) (λ e. omega arith) in
     rw differ (lookup-above other m ps x (both .1) h)
+
+-- all rows pass a test
+abbrev pub rowsPass : {A : Type 0} → (A → Bool) → List (ℕ × A) → Bool
+rowsPass t [] = true
+rowsPass t (p ∷ ps) = t (p .1) && rowsPass t ps
+
+-- so does what is looked up
+pub lookup-passes : {A : Type 0} (t : A → Bool) (other : A) (ps : List (ℕ × A)) (x : ℕ) → T (t other) → T (rowsPass t ps) → T (t (lookup other ps x))
+lookup-passes t other [] x o h = o
+lookup-passes t other (p ∷ ps) x o h =
+    let both = and-yes (t (p .1)) (rowsPass t ps) h in
+    go (eqb x (p .0)) (both .0) (lookup-passes t other ps x o (both .1))
+  where
+    go : (b : Bool) → T (t (p .1)) → T (t (lookup other ps x)) → T (t (cond b (p .1) (lookup other ps x)))
+    go true h k = h
+    go false h k = k
+
+-- no element is longer than 8 bytes
+pub type-small : (t : ℕ) → typeOf t .size ≤ 8
+unfolding typeOf
+type-small t = leb→le (typeOf t .size) 8 (lookup-passes (λ (d : DataType). leb (d .size) 8) (takes 0 signed) types t tt tt)
