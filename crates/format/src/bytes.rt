@@ -1,6 +1,6 @@
 // Numbers in a slice of bytes, in either byte order.
 ghost use mathlib.Core.Path.{_≡_};
-ghost use Prim.Native.Nat.{_+_, _≤_, _<_};
+ghost use Prim.Native.Nat.{_+_, _^_, _≤_, _<_};
 ghost use lib.ListN.{length};
 ghost use Rattle.format.specs.Bytes.{bigAt, littleAt};
 
@@ -26,7 +26,7 @@ pub fn big4(s: &[u8], at: usize) -> u32
 // The n bytes at an offset, the first the most significant.
 pub fn big(s: &[u8], at: usize, n: usize) -> u64
     requires { ⌜ (at + n ≤ length (now s)) × (n ≤ 8) ⌝ }
-    ensures { λ r. ⌜ r ≡ bigAt (now (s .entry)) at n ⌝ }
+    ensures { λ r. ⌜ (r ≡ bigAt (now (s .entry)) at n) × (r < 256 ^ n) ⌝ }
 {
     let mut acc: u64 = 0;
     let mut i = 0;
@@ -40,7 +40,7 @@ pub fn big(s: &[u8], at: usize, n: usize) -> u64
 // The n bytes at an offset, the last the most significant.
 pub fn little(s: &[u8], at: usize, n: usize) -> u64
     requires { ⌜ (at + n ≤ length (now s)) × (n ≤ 8) ⌝ }
-    ensures { λ r. ⌜ r ≡ littleAt (now (s .entry)) at n ⌝ }
+    ensures { λ r. ⌜ (r ≡ littleAt (now (s .entry)) at n) × (r < 256 ^ n) ⌝ }
 {
     let mut acc: u64 = 0;
     let mut i = n;

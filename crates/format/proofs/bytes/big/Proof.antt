@@ -42,7 +42,7 @@ loop-again : tie.Need-loop-again Inv-loop μ-loop
 loop-again c = let l = c .before .before .before .loop in let a = c .before .before .before .before .before .args in (search needs, (rw (big-more (a .s .now) (a .at) (l .i) (omega arith)) (omega arith), omega (arith, grow (l .i))))
 
 returns : tie.Need-returns Inv-loop μ-loop
-returns c = let done : c .before .loop .i ≡ c .before .before .before .args .n = omega arith in rw done at (c .before .loop .inv .1 .0)
+returns c = let done : c .before .loop .i ≡ c .before .before .before .args .n = omega arith in rw done at (c .before .loop .inv .1)
 
 pub big-spec : {M : Type 1} → statement M
 big-spec =

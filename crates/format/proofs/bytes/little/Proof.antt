@@ -43,7 +43,7 @@ loop-again : tie.Need-loop-again Inv-loop μ-loop
 loop-again c = let l = c .before .before .before .loop in let a = c .before .before .before .before .before .args in let t = c .before .before .loop-test .taken in (omega arith, (rw (little-more (a .s .now) (a .at) (l .i) (a .n) t (l .inv .0) (omega arith)) (omega arith), rw (more (l .i) (a .n) t (l .inv .0)) (omega (arith, grow (a .n - l .i)))))
 
 returns : tie.Need-returns Inv-loop μ-loop
-returns c = let a = c .before .before .before .args in let i = c .before .loop .i in let p : a .at + i ≡ a .at = omega arith in let q : a .n - i ≡ a .n = omega arith in rw (p, q) at (c .before .loop .inv .1 .0)
+returns c = let a = c .before .before .before .args in let i = c .before .loop .i in let p : a .at + i ≡ a .at = omega arith in let q : a .n - i ≡ a .n = omega arith in rw (p, q) at (c .before .loop .inv .1)
 
 pub little-spec : {M : Type 1} → statement M
 little-spec =

@@ -1,0 +1,77 @@
+-- Values: the element at an offset, by its data type and its encoding. Assumes nothing.
+use Prim.Native.Nat.{ℕ, suc, _+_, _-_, _*_, _^_}
+use mathlib.Core.Bool.{Bool, not, cond, _&&_, _||_}
+use mathlib.Core.List.{List}
+use lib.Dec.{eqb, ltb}
+use lib.IntN.{ℤ, pos, negsuc}
+use lib.Ieee.{binary32, binary64, ofBits}
+use Rattle.format.specs.Bytes.{bigAt, littleAt, signedOf}
+use Rattle.format.specs.Fields.{endOf}
+use Rattle.format.specs.Types.{signed, unsigned, single, double, code, typeOf}
+use Rattle.format.specs.Encodings.{big, ieee, encodingOf}
+use Rattle.format.specs.declared.types.DataType.{DataType}
+use Rattle.format.specs.declared.encodings.Encoding.{Encoding}
+use Rattle.values.specs.declared.value.Value.{Value}
+use Rattle.values.specs.declared.value.Value.the-variants.{Signed, Unsigned, Single, Double, Code}
+use Rattle.values.specs.declared.value.Answer.{Answer}
+use Rattle.values.specs.declared.value.Decoded.{Decoded}
+use Rattle.values.specs.declared.value.Decoded.the-variants.{Given, Vax, Nothing}
+
+-- "one case per kind, signed, unsigned, single, double or character code": the number of each
+abbrev pub kindOf : Value → ℕ
+kindOf (Signed x) = signed
+kindOf (Unsigned n) = unsigned
+kindOf (Single x) = single
+kindOf (Double x) = double
+kindOf (Code n) = code
+
+-- the number that comes back: "value given", "float in encoding 3, 14 or 15", "the way to the answer breaks a rule"
+abbrev pub refusalOf : Decoded → ℕ
+refusalOf (Given a) = 0
+refusalOf Vax = 19
+refusalOf Nothing = 20
+
+-- the number of the n bytes at an offset: "big-endian, the rest little-endian"
+unfoldable pub rawAt : List ℕ → ℕ → ℕ → ℕ → ℕ
+rawAt f at n order = cond (eqb order big) (bigAt f at n) (littleAt f at n)
+
+-- "A 2-byte signed value above 32,767 as a plain number is that number less 65,536; likewise for 1 and 4 bytes";
+-- "the last two float kinds carrying the float itself"; "types 51 and 52 give codes 0 to 255"
+unfoldable pub valueOf : ℕ → ℕ → ℕ → Value
+valueOf kind size n =
+    cond (eqb kind signed) (Signed (signedOf (8 * size - 1) n))
+    (cond (eqb kind unsigned) (Unsigned n)
+    (cond (eqb kind single) (Single (ofBits binary32 n))
+    (cond (eqb kind double) (Double (ofBits binary64 n)) (Code n))))
+
+-- two's complement of 64 bits
+abbrev pub extendedOf : ℤ → ℕ
+extendedOf (pos n) = n
+extendedOf (negsuc n) = 2 ^ 64 - suc n
+
+-- a signed value sign-extended; of any other the bytes' own bits: "Floats keep their bits", a NaN's too
+unfoldable pub bitsOf : ℕ → ℕ → ℕ → ℕ
+bitsOf kind size n = cond (eqb kind signed) (extendedOf (signedOf (8 * size - 1) n)) n
+
+-- "with it comes the file offset it was read from"
+abbrev pub answerOf : ℕ → ℕ → ℕ → ℕ → Answer
+answerOf kind size n at = record { value = valueOf kind size n; bits = bitsOf kind size n; offset = at }
+
+-- a float of an encoding whose floats are not IEEE 754: "3, 14, 15 have VAX floats"
+unfoldable pub isVax : ℕ → ℕ → Bool
+isVax kind float = not (eqb float ieee) && (eqb kind single || eqb kind double)
+
+-- no data type's size, no encoding's byte order, or an element that does not lie before the file's end
+unfoldable pub isNothing : List ℕ → ℕ → ℕ → ℕ → Bool
+isNothing f at size order = eqb size 0 || (eqb order 0 || ltb (endOf f) (at + size))
+
+-- "the first in the order 20, .. 19 is given"
+abbrev pub decodedBy : List ℕ → ℕ → DataType → Encoding → Decoded
+decodedBy f at d c =
+    cond (isNothing f at (d .size) (c .order)) Nothing
+    (cond (isVax (d .kind) (c .float)) Vax
+    (Given (answerOf (d .kind) (d .size) (rawAt f at (d .size) (c .order)) at)))
+
+-- the element at an offset, of the data type t in the encoding e
+unfoldable pub decodedOf : List ℕ → ℕ → ℕ → ℕ → Decoded
+decodedOf f at t e = decodedBy f at (typeOf t) (encodingOf e)

@@ -1,0 +1,247 @@
+//! Damages good files: control fields, links, length.
+
+use crate::build::random::Random;
+use crate::build::records::put;
+use crate::second::bytes::field;
+use crate::second::rules::Record;
+
+/// One damage to a file.
+#[derive(Clone, Debug, PartialEq, Eq)]
+pub enum Damage {
+    /// A control field gets another value.
+    Field {
+        /// File offset of the field.
+        offset: usize,
+        /// The value.
+        value: i64,
+    },
+    /// The file ends early.
+    Cut {
+        /// Its new length.
+        length: usize,
+        /// The GDR's eof is made to agree.
+        eof: bool,
+    },
+    /// Bytes follow the file.
+    Grow {
+        /// How many.
+        by: usize,
+        /// The GDR's eof is made to agree.
+        eof: bool,
+    },
+}
+
+/// A record of a good file.
+#[derive(Clone, Copy, Debug, PartialEq, Eq)]
+pub struct Found {
+    /// File offset of its start.
+    pub offset: usize,
+    /// Its size.
+    pub size: usize,
+    /// Its type.
+    pub record_type: i64,
+}
+
+/// The records of a good file in file order.
+pub fn records(file: &[u8]) -> Vec<Found> {
+    let mut found = Vec::new();
+    let mut offset = 8;
+    while let Some(record) = Record::at(file, offset).filter(Record::is_inside) {
+        found.push(Found {
+            offset: usize::try_from(offset).unwrap_or(0),
+            size: usize::try_from(record.size).unwrap_or(0),
+            record_type: record.record_type,
+        });
+        offset += record.size;
+    }
+    found
+}
+
+/// Bytes at a record's start that hold control fields only, names and values left out.
+fn leading_control(record_type: i64) -> usize {
+    match record_type {
+        1 => 48,
+        2 => usize::MAX,
+        3 | 8 => 64,
+        4 => 52,
+        5 | 9 => 48,
+        6 => usize::MAX,
+        7 => 8,
+        _ => 16,
+    }
+}
+
+/// File offsets of a record's control fields.
+pub fn control_fields(file: &[u8], record: &Found) -> Vec<usize> {
+    let mut ends = vec![(0, leading_control(record.record_type).min(record.size))];
+    if matches!(record.record_type, 3 | 8) {
+        ends.push((128, record.size - pad_bytes(file, record)));
+    }
+    let inside = ends.iter().flat_map(|(start, end)| (*start..*end).step_by(4));
+    inside.filter(|at| at + 4 <= record.size).map(|at| record.offset + at).collect()
+}
+
+/// Bytes of a VDR's pad value: what its dimensions leave.
+fn pad_bytes(file: &[u8], vdr: &Found) -> usize {
+    let own = number(file, vdr.offset + 128);
+    let gdr = number(file, 16);
+    let dimensions = number(file, usize::try_from(gdr).unwrap_or(0) + 36);
+    let fixed = if vdr.record_type == 8 { 132 + 8 * own } else { 128 + 4 * dimensions };
+    vdr.size.saturating_sub(usize::try_from(fixed).unwrap_or(0))
+}
+
+fn number(file: &[u8], offset: usize) -> i64 {
+    i64::try_from(offset).ok().and_then(|at| field(file, at)).unwrap_or(0)
+}
+
+/// Places of a record's links.
+fn link_places(file: &[u8], record: &Found) -> Vec<usize> {
+    match record.record_type {
+        1 => vec![8],
+        2 => vec![8, 12, 16, 44],
+        3 | 8 => vec![8, 20, 24],
+        4 => vec![8, 12, 36],
+        5 | 9 => vec![8],
+        6 => index_links(file, record),
+        -1 if record.size >= 16 => vec![8, 12],
+        _ => Vec::new(),
+    }
+}
+
+/// A VXR's next and the offsets of its used entries.
+fn index_links(file: &[u8], vxr: &Found) -> Vec<usize> {
+    let entries = usize::try_from(number(file, vxr.offset + 12)).unwrap_or(0);
+    let used = usize::try_from(number(file, vxr.offset + 16)).unwrap_or(0);
+    let offsets = (0..used.min(vxr.size)).map(|entry| 20 + 8 * entries + 4 * entry);
+    offsets.chain([8]).collect()
+}
+
+/// File offsets of all links in use, VXRtail and a listed UIR's previous among them.
+pub fn links(file: &[u8]) -> Vec<usize> {
+    let found = records(file);
+    let listed = listed_unused(file);
+    let in_use = |record: &&Found| record.record_type != -1 || listed.contains(&record.offset);
+    let of = |record: &Found| -> Vec<usize> {
+        link_places(file, record).into_iter().map(|at| record.offset + at).collect()
+    };
+    found.iter().filter(in_use).flat_map(of).collect()
+}
+
+/// File offsets of the UIRs on a good file's list.
+fn listed_unused(file: &[u8]) -> Vec<usize> {
+    let mut listed = Vec::new();
+    let mut link = number(file, usize::try_from(number(file, 16)).unwrap_or(0) + 44);
+    while let Ok(offset) = usize::try_from(link) {
+        if offset == 0 || listed.contains(&offset) {
+            break;
+        }
+        listed.push(offset);
+        link = number(file, offset + 8);
+    }
+    listed
+}
+
+fn to_value(offset: usize, value: i64) -> Damage {
+    Damage::Field { offset, value }
+}
+
+/// The edge values, and the field's own value one less and one more.
+fn edge_values(own: i64) -> [i64; 11] {
+    let least = i64::from(i32::MIN);
+    let greatest = i64::from(i32::MAX);
+    [least, -2, -1, 0, 1, 7, 8, own - 1, own + 1, greatest, greatest - 1]
+}
+
+/// Every control field, the magics too, set to every edge value.
+pub fn edge_damages(file: &[u8]) -> Vec<Damage> {
+    let found = records(file);
+    let fields = found.iter().flat_map(|record| control_fields(file, record)).chain([0, 4]);
+    let of = |offset: usize| edge_values(number(file, offset)).map(|value| to_value(offset, value));
+    fields.flat_map(of).collect()
+}
+
+/// These fields, each set to each of these values.
+fn every_value(fields: Vec<usize>, values: &[i64]) -> Vec<Damage> {
+    let of = |offset: usize| values.iter().map(move |value| to_value(offset, *value));
+    fields.into_iter().flat_map(of).collect()
+}
+
+/// File offsets of all records.
+fn starts(file: &[u8]) -> Vec<i64> {
+    records(file).iter().filter_map(|record| i64::try_from(record.offset).ok()).collect()
+}
+
+/// Every control field set to every record's start.
+pub fn start_damages(file: &[u8]) -> Vec<Damage> {
+    let found = records(file);
+    let fields = found.iter().flat_map(|record| control_fields(file, record)).collect();
+    every_value(fields, &starts(file))
+}
+
+/// Every link set to every record's start and to a place behind it: cross links and rings.
+pub fn link_damages(file: &[u8]) -> Vec<Damage> {
+    let targets: Vec<i64> = starts(file).into_iter().flat_map(|to| [to, to + 4]).collect();
+    every_value(links(file), &targets)
+}
+
+/// Every record's next link set to the record itself and to those of its type: rings.
+pub fn ring_damages(file: &[u8]) -> Vec<Damage> {
+    let found = records(file);
+    let has_next = |record: &&Found| matches!(record.record_type, 3..=6 | 8 | 9);
+    let of = |from: &Found| -> Vec<Damage> {
+        let same = found.iter().filter(|to| to.record_type == from.record_type);
+        let targets = same.filter_map(|to| i64::try_from(to.offset).ok());
+        targets.map(|to| to_value(from.offset + 8, to)).collect()
+    };
+    found.iter().filter(has_next).flat_map(of).collect()
+}
+
+/// The file cut short and made longer, eof agreeing or not.
+pub fn length_damages(file: &[u8]) -> Vec<Damage> {
+    let found = records(file);
+    let starts = found.iter().flat_map(|record| [record.offset, record.offset + 7]);
+    let round = [0, 7, 8, 311, 312, 371, 372, file.len().saturating_sub(1)].into_iter();
+    let cuts = starts.chain(round).filter(|length| *length < file.len());
+    let cut = |length: usize| [false, true].map(|eof| Damage::Cut { length, eof });
+    let grow = |by: usize| [false, true].map(|eof| Damage::Grow { by, eof });
+    cuts.flat_map(cut).chain([1, 4, 7, 8, 9, 16].into_iter().flat_map(grow)).collect()
+}
+
+/// Damages of all kinds.
+pub fn all_damages(file: &[u8]) -> Vec<Damage> {
+    let mut all = edge_damages(file);
+    all.extend(link_damages(file));
+    all.extend(length_damages(file));
+    all
+}
+
+/// One to three of these damages.
+pub fn some_of(damages: &[Damage], random: &mut Random) -> Vec<Damage> {
+    let count = random.between(1, 3);
+    (0..count).filter_map(|_| random.one_of(damages).cloned()).collect()
+}
+
+/// The file with the damage done.
+pub fn damaged(file: &[u8], damage: &Damage) -> Vec<u8> {
+    let mut bytes = file.to_vec();
+    match damage {
+        Damage::Field { offset, value } => put(&mut bytes, *offset, *value),
+        Damage::Cut { length, eof } => {
+            bytes.truncate(*length);
+            agree(&mut bytes, *eof);
+        }
+        Damage::Grow { by, eof } => {
+            bytes.resize(bytes.len().saturating_add(*by), 0);
+            agree(&mut bytes, *eof);
+        }
+    }
+    bytes
+}
+
+/// Sets the GDR's eof to the length, if asked for and if there is one.
+fn agree(file: &mut [u8], eof: bool) {
+    let length = i64::try_from(file.len()).unwrap_or(0);
+    if let (true, Ok(gdr)) = (eof, usize::try_from(number(file, 16))) {
+        put(file, gdr.saturating_add(20), length);
+    }
+}

@@ -1,0 +1,14 @@
+//! The second implementation of document 01.
+//!
+//! `bytes`, `tables` and `rules` say what fields, numbers and records are;
+//! `check` makes the steps, `read` gives values and descriptors, and `dump`
+//! writes all that the reader finds in a file as text.
+
+pub mod bytes;
+pub mod check;
+pub mod dump;
+pub mod read;
+pub mod rules;
+pub mod tables;
+mod walk;
+mod way;

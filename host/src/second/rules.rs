@@ -1,0 +1,422 @@
+//! Each record's rule (document 01, "Records"), for the checker and the reader alike.
+
+use super::bytes::{field, length};
+use super::tables::{self, record_type, DataType, Encoding, VariableKind, GREATEST};
+
+/// Why a record does not meet its rule.
+#[derive(Clone, Copy, Debug, PartialEq, Eq)]
+pub(crate) enum Breach {
+    /// Its fields or its size are wrong, or its own size ends before a field it is judged by.
+    Rule,
+    /// A field lies inside the record's own size, but past the end of the file.
+    PastEnd,
+}
+
+/// A record: where it starts, its own size and its type.
+#[derive(Clone, Copy, Debug)]
+pub(crate) struct Record<'a> {
+    file: &'a [u8],
+    /// File offset of its first byte.
+    pub offset: i64,
+    /// The size it states.
+    pub size: i64,
+    /// The type it states.
+    pub record_type: i64,
+}
+
+impl<'a> Record<'a> {
+    /// The record at this offset, if its size and type lie in the file.
+    pub fn at(file: &'a [u8], offset: i64) -> Option<Record<'a>> {
+        let size = field(file, offset)?;
+        let record_type = field(file, offset.checked_add(4)?)?;
+        Some(Record { file, offset, size, record_type })
+    }
+
+    /// Its whole size lies inside the file.
+    pub fn is_inside(&self) -> bool {
+        self.size >= 8 && self.offset.saturating_add(self.size) <= length(self.file)
+    }
+
+    /// The field at this place of the record: own size first, the file's end second.
+    pub fn field(&self, at: i64) -> Result<i64, Breach> {
+        demand(self.size >= at.saturating_add(4))?;
+        field(self.file, self.offset.saturating_add(at)).ok_or(Breach::PastEnd)
+    }
+
+    /// `count` fields in a row.
+    fn fields(&self, at: i64, count: i64) -> Result<Vec<i64>, Breach> {
+        (0..count).map(|n| self.field(at + 4 * n)).collect()
+    }
+
+    /// The name of up to 64 bytes that stands here.
+    fn name(&self, at: i64) -> Name {
+        let offset = self.offset.saturating_add(at);
+        let bytes = usize::try_from(offset).ok().and_then(|start| self.file.get(start..));
+        let letters = bytes.unwrap_or(&[]).iter().take(64).take_while(|byte| **byte != 0);
+        Name { offset, length: i64::try_from(letters.count()).unwrap_or(64) }
+    }
+}
+
+/// A breach unless the clause is met.
+fn demand(met: bool) -> Result<(), Breach> {
+    if met {
+        Ok(())
+    } else {
+        Err(Breach::Rule)
+    }
+}
+
+/// A name: where it stands in the file, and its length up to the NUL.
+#[derive(Clone, Copy, Debug, PartialEq, Eq)]
+pub struct Name {
+    /// File offset of the first byte.
+    pub offset: i64,
+    /// Bytes before the NUL, at most 64.
+    pub length: i64,
+}
+
+/// What CDR and GDR say.
+#[derive(Clone, Debug, PartialEq, Eq)]
+pub(crate) struct Header {
+    /// File offset of the GDR.
+    pub gdr: i64,
+    /// The last varying index runs fastest.
+    pub row_majority: bool,
+    /// Encoding of the values.
+    pub encoding: Encoding,
+    /// Dimension sizes of the rVariables.
+    pub sizes: Vec<i64>,
+    /// NrVars.
+    pub r_variables: i64,
+    /// NzVars.
+    pub z_variables: i64,
+    /// NumAttr.
+    pub attributes: i64,
+}
+
+const FIRST_MAGIC: i64 = 0xCDF2_6002_u32 as i32 as i64;
+const PLAIN: i64 = 0x0000_FFFF;
+const COMPRESSED: i64 = 0xCCCC_0001_u32 as i32 as i64;
+const CDR_OFFSET: i64 = 8;
+const CDR_SIZE: i64 = 304;
+
+/// The opening from refusal 3 on: 3, 4, 5, 14, 6 in that order.
+pub(crate) fn opening(file: &[u8]) -> Result<Header, i32> {
+    magics(file)?;
+    let (flags, encoding) = cdr(file).ok_or(5)?;
+    if flags & 2 == 0 {
+        return Err(14);
+    }
+    gdr(file, flags & 1 == 1, encoding).ok_or(6)
+}
+
+/// The file's length is one that is carried.
+pub(crate) fn length_carried(file: &[u8]) -> bool {
+    length(file) <= GREATEST
+}
+
+/// 3 for length and magics, 4 for a compressed file.
+fn magics(file: &[u8]) -> Result<(), i32> {
+    if length(file) < 372 || field(file, 0) != Some(FIRST_MAGIC) {
+        return Err(3);
+    }
+    match field(file, 4) {
+        Some(PLAIN) => Ok(()),
+        Some(COMPRESSED) => Err(4),
+        _ => Err(3),
+    }
+}
+
+/// Flags and encoding of a CDR that meets its rule.
+fn cdr(file: &[u8]) -> Option<(i64, Encoding)> {
+    let record = Record::at(file, CDR_OFFSET)?;
+    let version = record.field(12).ok()?;
+    let encoding = tables::encoding(record.field(20).ok()?)?;
+    let flags = record.field(24).ok()?;
+    let met = record.record_type == record_type::CDR
+        && record.size == CDR_SIZE
+        && version == 2
+        && (0..=3).contains(&flags);
+    met.then_some((flags, encoding))
+}
+
+/// The header, if the GDR meets its rule.
+fn gdr(file: &[u8], row_majority: bool, encoding: Encoding) -> Option<Header> {
+    let offset = field(file, CDR_OFFSET + 8)?;
+    let record = Record::at(file, offset)?;
+    let number = |at: i64| record.field(at).ok();
+    let sizes = r_sizes(&record).ok()?;
+    let header = Header {
+        gdr: offset,
+        row_majority,
+        encoding,
+        r_variables: number(24)?,
+        z_variables: number(40)?,
+        attributes: number(28)?,
+        sizes,
+    };
+    let counts = [header.r_variables, header.z_variables, header.attributes];
+    let met = offset >= CDR_OFFSET + CDR_SIZE
+        && record.record_type == record_type::GDR
+        && record.is_inside()
+        && record.size == 60 + 4 * number(36)?
+        && header.sizes.iter().all(|size| *size >= 1)
+        && counts.iter().all(|count| *count >= 0)
+        && number(32)? >= -1
+        && number(20)? == length(file);
+    met.then_some(header)
+}
+
+/// The rVariables' dimension sizes as the GDR has them, 0 to 10.
+pub(crate) fn r_sizes(gdr: &Record) -> Result<Vec<i64>, Breach> {
+    let count = gdr.field(36)?;
+    demand((0..=10).contains(&count))?;
+    gdr.fields(60, count)
+}
+
+/// A VDR's fields.
+#[derive(Clone, Debug, PartialEq, Eq)]
+pub struct Variable {
+    /// File offset of the VDR.
+    pub offset: i64,
+    /// Data type of its values.
+    pub data_type: DataType,
+    /// Greatest record number, or -1.
+    pub max_rec: i64,
+    /// First VXR, or 0.
+    pub vxr_head: i64,
+    /// Last VXR, or 0.
+    pub vxr_tail: i64,
+    /// Flags as stored.
+    pub flags: i64,
+    /// Kind of sparse records, 0 to 2.
+    pub s_records: i64,
+    /// Elements of a value.
+    pub elements: i64,
+    /// Its number as stored.
+    pub number: i64,
+    /// Its name.
+    pub name: Name,
+    /// Dimension sizes; an rVariable's are the GDR's.
+    pub sizes: Vec<i64>,
+    /// Dimension variances.
+    pub variances: Vec<bool>,
+    /// File offset of the pad value, if there is one.
+    pub pad: Option<i64>,
+    /// Bytes of one record.
+    pub record_bytes: i64,
+}
+
+impl Variable {
+    /// Bit 0 of Flags.
+    pub fn record_variance(&self) -> bool {
+        self.flags & 1 == 1
+    }
+}
+
+/// Flags bit 2, looked at only in a VDR of 32 bytes or more.
+pub(crate) fn is_compressed(vdr: &Record) -> Result<bool, Breach> {
+    Ok(vdr.size >= 32 && vdr.field(28)? & 4 != 0)
+}
+
+/// The VDR's rule, Flags bit 2 aside.
+pub(crate) fn variable(
+    vdr: &Record,
+    kind: &VariableKind,
+    r_sizes: &[i64],
+) -> Result<Variable, Breach> {
+    let fixed = if kind.own_dimensions { 132 } else { 128 };
+    demand(vdr.size >= fixed)?;
+    let data_type = tables::data_type(vdr.field(12)?).ok_or(Breach::Rule)?;
+    let flags = vdr.field(28)?;
+    let elements = vdr.field(48)?;
+    demand(elements == 1 || elements > 1 && data_type.form == tables::Form::Character)?;
+    demand((0..=7).contains(&flags))?;
+    let pad_bytes = if flags & 2 != 0 { elements * data_type.size } else { 0 };
+    let (sizes, variances) = dimensions(vdr, kind, r_sizes, fixed, pad_bytes)?;
+    let found = Variable {
+        offset: vdr.offset,
+        data_type,
+        max_rec: vdr.field(16)?,
+        vxr_head: vdr.field(20)?,
+        vxr_tail: vdr.field(24)?,
+        flags,
+        s_records: vdr.field(32)?,
+        elements,
+        number: vdr.field(52)?,
+        name: vdr.name(64),
+        record_bytes: record_bytes(elements * data_type.size, &sizes, &variances)?,
+        sizes,
+        variances,
+        pad: (flags & 2 != 0).then_some(vdr.offset + vdr.size - pad_bytes),
+    };
+    demand(found.max_rec >= -1 && (0..=2).contains(&found.s_records))?;
+    Ok(found)
+}
+
+/// The exact size of a VDR, then its dimension sizes and variances.
+fn dimensions(
+    vdr: &Record,
+    kind: &VariableKind,
+    r_sizes: &[i64],
+    fixed: i64,
+    pad_bytes: i64,
+) -> Result<(Vec<i64>, Vec<bool>), Breach> {
+    let own = if kind.own_dimensions { vdr.field(128)? } else { 0 };
+    demand((0..=10).contains(&own))?;
+    let all = if kind.own_dimensions { own } else { length_of(r_sizes) };
+    demand(vdr.size == fixed + 4 * own + 4 * all + pad_bytes)?;
+    let sizes = if kind.own_dimensions { vdr.fields(132, own)? } else { r_sizes.to_vec() };
+    let variances = vdr.fields(fixed + 4 * own, all)?;
+    demand(sizes.iter().all(|size| *size >= 1))?;
+    demand(variances.iter().all(|variance| (-1..=0).contains(variance)))?;
+    Ok((sizes, variances.iter().map(|variance| *variance == -1).collect()))
+}
+
+/// How many sizes there are.
+fn length_of(sizes: &[i64]) -> i64 {
+    i64::try_from(sizes.len()).unwrap_or(i64::from(u32::MAX))
+}
+
+/// Bytes of one record: the value's bytes times the sizes of varying dimensions.
+fn record_bytes(value_bytes: i64, sizes: &[i64], variances: &[bool]) -> Result<i64, Breach> {
+    let varying = sizes.iter().zip(variances).filter(|(_, varies)| **varies);
+    let mut bytes = value_bytes;
+    demand(bytes <= GREATEST)?;
+    for (size, _) in varying {
+        bytes = bytes.checked_mul(*size).ok_or(Breach::Rule)?;
+        demand(bytes <= GREATEST)?;
+    }
+    Ok(bytes)
+}
+
+/// A VXR's fields.
+#[derive(Clone, Copy, Debug, PartialEq, Eq)]
+pub(crate) struct Index {
+    /// File offset of the VXR.
+    pub offset: i64,
+    /// Entries it has room for.
+    pub entries: i64,
+    /// Entries in use.
+    pub used: i64,
+}
+
+/// One used entry of a VXR.
+#[derive(Clone, Copy, Debug, PartialEq, Eq)]
+pub(crate) struct IndexEntry {
+    /// First record number.
+    pub first: i64,
+    /// Last record number.
+    pub last: i64,
+    /// File offset of the VVR.
+    pub values: i64,
+}
+
+impl IndexEntry {
+    /// The record number lies in First..Last.
+    pub fn covers(&self, record: i64) -> bool {
+        (self.first..=self.last).contains(&record)
+    }
+
+    /// First at least 0 and above the previous Last (-1 if there is none), Last at least First.
+    pub fn rises_above(&self, previous_last: i64) -> bool {
+        self.first >= 0 && self.first > previous_last && self.last >= self.first
+    }
+}
+
+impl Index {
+    /// The used entry of this number, if it lies in the file.
+    pub fn entry(&self, file: &[u8], number: i64) -> Option<IndexEntry> {
+        let at = |column: i64| self.offset + 20 + 4 * (column * self.entries + number);
+        Some(IndexEntry {
+            first: field(file, at(0))?,
+            last: field(file, at(1))?,
+            values: field(file, at(2))?,
+        })
+    }
+}
+
+/// The VXR's rule.
+pub(crate) fn index(vxr: &Record) -> Result<Index, Breach> {
+    demand(vxr.size >= 20)?;
+    let entries = vxr.field(12)?;
+    let used = vxr.field(16)?;
+    demand((0..=entries).contains(&used) && vxr.size == 20 + 12 * entries)?;
+    Ok(Index { offset: vxr.offset, entries, used })
+}
+
+/// The VVR's rule, for the index entry that names it.
+pub(crate) fn values(vvr: &Record, entry: &IndexEntry, record_bytes: i64) -> Result<(), Breach> {
+    demand(vvr.size == 8 + (entry.last - entry.first + 1) * record_bytes)
+}
+
+/// An ADR's fields.
+#[derive(Clone, Copy, Debug, PartialEq, Eq)]
+pub struct Attribute {
+    /// File offset of the ADR.
+    pub offset: i64,
+    /// 1 global, 2 variable.
+    pub scope: i64,
+    /// Its number as stored.
+    pub number: i64,
+    /// Number of g/rEntries.
+    pub gr_entries: i64,
+    /// Greatest g/rEntry number.
+    pub gr_maximum: i64,
+    /// Number of zEntries.
+    pub z_entries: i64,
+    /// Greatest zEntry number.
+    pub z_maximum: i64,
+    /// Its name.
+    pub name: Name,
+}
+
+/// The ADR's rule.
+pub(crate) fn attribute(adr: &Record) -> Result<Attribute, Breach> {
+    demand(adr.size == 116)?;
+    let scope = adr.field(16)?;
+    demand(scope == 1 || scope == 2)?;
+    Ok(Attribute {
+        offset: adr.offset,
+        scope,
+        number: adr.field(20)?,
+        gr_entries: adr.field(24)?,
+        gr_maximum: adr.field(28)?,
+        z_entries: adr.field(40)?,
+        z_maximum: adr.field(44)?,
+        name: adr.name(52),
+    })
+}
+
+/// An AEDR's fields.
+#[derive(Clone, Copy, Debug, PartialEq, Eq)]
+pub struct Entry {
+    /// Its attribute's number as stored.
+    pub attribute: i64,
+    /// Data type of its elements.
+    pub data_type: DataType,
+    /// Entry number.
+    pub number: i64,
+    /// How many elements it has.
+    pub elements: i64,
+    /// File offset of its value.
+    pub value: i64,
+}
+
+/// The AEDR's rule.
+pub(crate) fn entry(aedr: &Record) -> Result<Entry, Breach> {
+    demand(aedr.size >= 48)?;
+    let data_type = tables::data_type(aedr.field(16)?).ok_or(Breach::Rule)?;
+    let number = aedr.field(20)?;
+    let elements = aedr.field(24)?;
+    demand(number >= 0 && elements >= 1)?;
+    demand(aedr.size == 48 + elements * data_type.size)?;
+    let attribute = aedr.field(12)?;
+    Ok(Entry { attribute, data_type, number, elements, value: aedr.offset + 48 })
+}
+
+/// The rule of a listed UIR: 16 bytes or more. Gives the previous UIR it names.
+pub(crate) fn unused(uir: &Record) -> Result<i64, Breach> {
+    demand(uir.size >= 16)?;
+    uir.field(12)
+}

@@ -1,0 +1,217 @@
+//! The reader's way to an answer (document 01, "Values"): CDR and GDR, a list to the
+//! wanted place, then the index chain or the list of entries.
+
+use super::bytes::{field, length, sign_extended, unsigned};
+use super::rules::{self, Attribute, Entry, Header, IndexEntry, Record, Variable};
+use super::tables::{
+    entry_kind, record_type, variable_kind, DataType, EntryKind, Form, VariableKind,
+};
+
+/// The way breaks a rule, or is too long.
+pub const BROKEN: u32 = 20;
+/// No such variable or attribute.
+pub const NO_PLACE: u32 = 15;
+/// No such record or entry number.
+pub const NO_NUMBER: u32 = 16;
+/// The record number lies in a gap of the index.
+pub const GAP: u32 = 17;
+/// Dimension index or element out of range, or wrong number of indices.
+pub const OUT_OF_RANGE: u32 = 18;
+/// Float in an encoding of VAX floats.
+pub const VAX_FLOAT: u32 = 19;
+
+/// A value read: its kind, its bits and the file offset of its lowest byte.
+#[derive(Clone, Copy, Debug, PartialEq, Eq)]
+pub struct Answer {
+    /// 0 signed, 1 unsigned, 2 single, 3 double, 4 character code.
+    pub kind: u64,
+    /// Signed values sign-extended to 64 bits; floats their own bits, zero-extended.
+    pub bits: u64,
+    /// File offset the value was read from.
+    pub offset: u64,
+}
+
+/// Which entry of an attribute is wanted.
+#[derive(Clone, Copy, Debug)]
+pub enum Wanted {
+    /// The first of this entry number.
+    Number(i64),
+    /// The one at this place of the list, from 0.
+    Place(i64),
+}
+
+/// The way so far.
+pub struct Way<'a> {
+    file: &'a [u8],
+    /// What CDR and GDR say.
+    pub header: Header,
+    met: i64,
+}
+
+impl<'a> Way<'a> {
+    /// CDR and GDR: a file that the opening refuses gives 20.
+    pub fn open(file: &'a [u8]) -> Result<Way<'a>, u32> {
+        if !rules::length_carried(file) {
+            return Err(BROKEN);
+        }
+        let header = rules::opening(file).map_err(|_| BROKEN)?;
+        Ok(Way { file, header, met: 2 })
+    }
+
+    /// Meets the record a link leads to: at 8 or above, of the right type, inside the file.
+    fn meet(&mut self, link: i64, record_type: i64) -> Result<Record<'a>, u32> {
+        self.met = self.met.saturating_add(1);
+        if self.met.saturating_mul(8) > length(self.file) || link < 8 {
+            return Err(BROKEN);
+        }
+        Record::at(self.file, link)
+            .filter(|record| record.record_type == record_type && record.is_inside())
+            .ok_or(BROKEN)
+    }
+
+    /// A field on the way.
+    fn needed(&self, offset: i64) -> Result<i64, u32> {
+        field(self.file, offset).ok_or(BROKEN)
+    }
+
+    /// Goes along one of the GDR's lists to a place, judging every record met.
+    fn place<T>(
+        &mut self,
+        head: i64,
+        record_type: i64,
+        place: i64,
+        judge: impl Fn(&Record, &Header) -> Result<T, u32>,
+    ) -> Result<T, u32> {
+        let mut link_field = self.header.gdr + head;
+        let mut left = place;
+        while left >= 0 {
+            let link = self.needed(link_field)?;
+            if link == 0 {
+                return Err(NO_PLACE);
+            }
+            let record = self.meet(link, record_type)?;
+            let found = judge(&record, &self.header)?;
+            if left == 0 {
+                return Ok(found);
+            }
+            left -= 1;
+            link_field = link + 8;
+        }
+        Err(NO_PLACE)
+    }
+
+    /// The variable of this kind and number: its kind and its VDR.
+    pub fn variable(
+        &mut self,
+        kind: i64,
+        number: i64,
+    ) -> Result<(&'static VariableKind, Variable), u32> {
+        let kind = variable_kind(kind).ok_or(NO_PLACE)?;
+        let judge = |record: &Record, header: &Header| {
+            if rules::is_compressed(record).unwrap_or(true) {
+                return Err(BROKEN);
+            }
+            rules::variable(record, kind, &header.sizes).map_err(|_| BROKEN)
+        };
+        let variable = self.place(kind.head, kind.record_type, number, judge)?;
+        Ok((kind, variable))
+    }
+
+    /// The attribute of this number.
+    pub fn attribute(&mut self, number: i64) -> Result<Attribute, u32> {
+        let judge = |record: &Record, _: &Header| rules::attribute(record).map_err(|_| BROKEN);
+        self.place(16, record_type::ADR, number, judge)
+    }
+
+    /// An attribute's entry of this kind.
+    pub fn entry(&mut self, attribute: i64, kind: i64, wanted: Wanted) -> Result<Entry, u32> {
+        let kind = entry_kind(kind).ok_or(NO_PLACE)?;
+        let adr = self.attribute(attribute)?;
+        self.listed_entry(adr.offset + kind.head, kind, wanted)
+    }
+
+    /// Goes along a list of entries to the wanted one; 16 at its end.
+    fn listed_entry(&mut self, head: i64, kind: &EntryKind, wanted: Wanted) -> Result<Entry, u32> {
+        let mut link = self.needed(head)?;
+        let mut place = 0;
+        while link != 0 {
+            let record = self.meet(link, kind.record_type)?;
+            let entry = rules::entry(&record).map_err(|_| BROKEN)?;
+            let found = match wanted {
+                Wanted::Number(number) => entry.number == number,
+                Wanted::Place(wanted) => place == wanted,
+            };
+            if found {
+                return Ok(entry);
+            }
+            place += 1;
+            link = self.needed(link + 8)?;
+        }
+        Err(NO_NUMBER)
+    }
+
+    /// File offset of the first byte of a variable's record: 16, then the chain and the VVR.
+    pub fn record(&mut self, variable: &Variable, record: i64) -> Result<i64, u32> {
+        let varies = variable.record_variance();
+        let greatest = if varies { variable.max_rec } else { i64::MAX };
+        if variable.max_rec == -1 || !(0..=greatest).contains(&record) {
+            return Err(NO_NUMBER);
+        }
+        let wanted = if varies { record } else { 0 };
+        let entry = self.covering_entry(variable.vxr_head, wanted)?;
+        let vvr = self.meet(entry.values, record_type::VVR)?;
+        rules::values(&vvr, &entry, variable.record_bytes).map_err(|_| BROKEN)?;
+        Ok(vvr.offset + 8 + (wanted - entry.first) * variable.record_bytes)
+    }
+
+    /// The used entry that covers the record; 17 at the chain's end.
+    fn covering_entry(&mut self, head: i64, record: i64) -> Result<IndexEntry, u32> {
+        let mut link = head;
+        let mut previous_last = -1;
+        while link != 0 {
+            let vxr = self.meet(link, record_type::VXR)?;
+            let index = rules::index(&vxr).map_err(|_| BROKEN)?;
+            for number in 0..index.used {
+                let entry = index.entry(self.file, number).ok_or(BROKEN)?;
+                if !entry.rises_above(previous_last) {
+                    return Err(BROKEN);
+                }
+                if entry.covers(record) {
+                    return Ok(entry);
+                }
+                previous_last = entry.last;
+            }
+            link = self.needed(link + 8)?;
+        }
+        Err(GAP)
+    }
+
+    /// The element at this offset, decoded: 19 for a float in an encoding of VAX floats.
+    pub fn value(&self, data_type: DataType, offset: i64) -> Result<Answer, u32> {
+        let encoding = self.header.encoding;
+        if encoding.vax_floats && data_type.form.is_float() {
+            return Err(VAX_FLOAT);
+        }
+        let number = unsigned(self.file, offset, data_type.size, encoding.little_endian);
+        let number = number.ok_or(BROKEN)?;
+        let bits = match data_type.form {
+            Form::Signed => sign_extended(number, data_type.size),
+            _ => number,
+        };
+        let offset = u64::try_from(offset).map_err(|_| BROKEN)?;
+        Ok(Answer { kind: data_type.form.number(), bits, offset })
+    }
+}
+
+/// The place of a value in its record: 18 for wrong indices. Only varying dimensions move it.
+pub fn place_in_record(variable: &Variable, row: bool, indices: &[i64]) -> Result<i64, u32> {
+    let sizes = &variable.sizes;
+    let in_range = |(index, size): (&i64, &i64)| (0..*size).contains(index);
+    if indices.len() != sizes.len() || !indices.iter().zip(sizes).all(in_range) {
+        return Err(OUT_OF_RANGE);
+    }
+    let steps = indices.iter().zip(sizes).zip(&variable.variances);
+    let varying = steps.filter(|(_, varies)| **varies).map(|(step, _)| step);
+    let add = |place: i64, (index, size): (&i64, &i64)| place * size + index;
+    Ok(if row { varying.fold(0, add) } else { varying.rev().fold(0, add) })
+}

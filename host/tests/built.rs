@@ -1,0 +1,342 @@
+//! Files that the builder makes: accepted, with the steps, marks, values and descriptors of
+//! the model they are made of.
+
+use tlepozaluh_host::build;
+use tlepozaluh_host::build::model::{Attribute, Entry, File, Variable};
+use tlepozaluh_host::build::random::Random;
+use tlepozaluh_host::damage;
+use tlepozaluh_host::second::check::{run, Granted};
+use tlepozaluh_host::second::read;
+use tlepozaluh_host::second::rules::Name;
+use tlepozaluh_host::second::tables::{DataType, DATA_TYPES, ENCODINGS};
+
+const FILES: u64 = 5000;
+
+/// Links of a list of so many records: one each, and the zero link.
+fn links<T>(list: &[T]) -> u64 {
+    list.len() as u64 + 1
+}
+
+/// Steps of the check: the opening, one a record, one a link.
+fn steps(model: &File, records: usize) -> u64 {
+    let variables = model.r_variables.iter().chain(&model.z_variables);
+    let chain = |variable: &Variable| -> u64 {
+        let entries = variable.chain.iter().map(|index| index.entries.len() as u64);
+        links(&variable.chain) + entries.sum::<u64>()
+    };
+    let entries =
+        |attribute: &Attribute| links(&attribute.gr_entries) + links(&attribute.z_entries);
+    let heads = links(&model.r_variables)
+        + links(&model.z_variables)
+        + links(&model.attributes)
+        + links(&model.listed_unused);
+    let own = variables.map(chain).sum::<u64>() + model.attributes.iter().map(entries).sum::<u64>();
+    1 + records as u64 + 1 + heads + own
+}
+
+#[test]
+fn accepted_with_steps_and_marks() {
+    for seed in 0..FILES {
+        let (model, file) = build::any(seed);
+        let records = damage::records(&file);
+        let mut marks = vec![0xAA; file.len()];
+        let answer = run(&file, &mut marks);
+        let expected = Granted { verdict: 0, steps: steps(&model, records.len()) };
+        assert_eq!(answer, expected, "seed {seed}");
+        let ones = marks[8..].iter().filter(|mark| **mark == 1).count();
+        let twos = marks[8..].iter().filter(|mark| **mark == 2).count();
+        assert_eq!(ones, 1 + model.unlisted_unused.len(), "seed {seed}");
+        assert_eq!(ones + twos, records.len(), "seed {seed}");
+        assert!(records.iter().all(|record| marks[record.offset] != 0), "seed {seed}");
+    }
+}
+
+#[test]
+fn equal_seeds_give_equal_files() {
+    assert_eq!(build::any(3).1, build::any(3).1);
+    assert_ne!(build::any(3).1, build::any(4).1);
+}
+
+fn is_vax(model: &File, data_type: DataType) -> bool {
+    model.encoding.vax_floats && data_type.form.is_float()
+}
+
+/// What the reader must answer for an element: its kind and bits, or 19.
+fn element(model: &File, data_type: DataType, bits: u64) -> Result<(u64, u64), u32> {
+    if is_vax(model, data_type) {
+        return Err(19);
+    }
+    Ok((data_type.form.number(), bits))
+}
+
+fn shown(answer: Result<read::Answer, u32>) -> Result<(u64, u64), u32> {
+    answer.map(|answer| (answer.kind, answer.bits))
+}
+
+/// A question about a variable's value, mostly of places that are there.
+struct Question {
+    record: i64,
+    indices: Vec<i64>,
+    element: i64,
+}
+
+fn any_question(random: &mut Random, of: &Variable) -> Question {
+    let near = of.max_rec.min(20);
+    let record = if random.once_in(8) { of.max_rec } else { random.between(-1, near + 1) };
+    let mut indices: Vec<i64> = of.sizes.iter().map(|size| random.below(*size)).collect();
+    if random.once_in(8) {
+        let place = random.place(indices.len());
+        let wrong = [-1, of.sizes.get(place).copied().unwrap_or(0)][random.place(2)];
+        indices.iter_mut().skip(place).take(1).for_each(|index| *index = wrong);
+    }
+    if random.once_in(16) {
+        indices.push(0);
+    }
+    let element = if random.once_in(8) { of.elements } else { random.below(of.elements) };
+    Question { record, indices, element }
+}
+
+/// The model's answer: 16, 17, 18, 19 in that order, or the element.
+fn expected_value(model: &File, of: &Variable, asked: &Question) -> Result<(u64, u64), u32> {
+    let wanted = if of.record_variance { asked.record } else { asked.record.min(0) };
+    if wanted < 0 || of.max_rec == -1 || wanted > of.max_rec {
+        return Err(16);
+    }
+    let entries = of.chain.iter().flat_map(|index| &index.entries);
+    if !entries.clone().any(|entry| (entry.first..=entry.last()).contains(&wanted)) {
+        return Err(17);
+    }
+    let in_range = asked.indices.iter().zip(&of.sizes).all(|(at, size)| (0..*size).contains(at));
+    let counts_agree = asked.indices.len() == of.sizes.len();
+    if !in_range || !counts_agree || !(0..of.elements).contains(&asked.element) {
+        return Err(18);
+    }
+    let at = asked.element as usize;
+    let bits = of.bits(model.row_majority, wanted, &asked.indices, at).expect("a stored element");
+    element(model, of.data_type, bits)
+}
+
+#[test]
+fn values_are_the_models() {
+    let mut random = Random::seeded(17);
+    let mut given = 0;
+    let mut refused = [0; 21];
+    for seed in 0..FILES {
+        let (model, file) = build::any(seed);
+        for kind in [3, 8] {
+            for (number, of) in model.variables(kind).iter().enumerate() {
+                let asked = any_question(&mut random, of);
+                let number = number as i64;
+                let answer = read::read_value(
+                    &file,
+                    kind,
+                    number,
+                    asked.record,
+                    &asked.indices,
+                    asked.element,
+                );
+                assert_eq!(shown(answer), expected_value(&model, of, &asked), "seed {seed}");
+                answer.map_or_else(|refusal| refused[refusal as usize] += 1, |_| given += 1);
+            }
+        }
+    }
+    assert!(given > 1000, "{given}");
+    assert!(refused[16..=19].iter().all(|count| *count > 50), "{refused:?}");
+}
+
+/// Asks for a variable's pad value, one element below and one above included.
+fn check_pad(model: &File, file: &[u8], kind: i64, number: i64, of: &Variable) -> u64 {
+    let pad = of.pad.clone().unwrap_or_default();
+    let mut given = 0;
+    for at in -1..=of.elements {
+        let bits = usize::try_from(at).ok().and_then(|at| pad.get(at));
+        let expected = bits.map_or(Err(18), |bits| element(model, of.data_type, *bits));
+        let answer = shown(read::read_pad(file, kind, number, at));
+        assert_eq!(answer, expected, "kind {kind} number {number}");
+        given += u64::from(answer.is_ok());
+    }
+    given
+}
+
+#[test]
+fn pad_values_are_the_models() {
+    let mut given = 0;
+    for seed in 0..FILES {
+        let (model, file) = build::any(seed);
+        for kind in [3, 8] {
+            for (number, of) in (0..).zip(model.variables(kind)) {
+                given += check_pad(&model, &file, kind, number, of);
+            }
+        }
+    }
+    assert!(given > 1000, "{given}");
+}
+
+fn check_entries(model: &File, file: &[u8], attribute: i64, kind: i64, entries: &[Entry]) -> u64 {
+    let mut given = 0;
+    for number in [-1, 0, 1, 2, 3, 4, 5, 6, i64::from(i32::MAX)] {
+        let first = entries.iter().find(|entry| entry.number == number);
+        for at in [-1, 0, 1, 4, 5] {
+            let bits = |entry: &Entry| match usize::try_from(at).ok() {
+                Some(at) => entry.elements.get(at).copied().ok_or(18),
+                None => Err(18),
+            };
+            let expected = match first {
+                None => Err(16),
+                Some(entry) => bits(entry).and_then(|bits| element(model, entry.data_type, bits)),
+            };
+            let answer = shown(read::read_entry(file, attribute, kind, number, at));
+            assert_eq!(answer, expected, "attribute {attribute} kind {kind} entry {number}");
+            given += u64::from(answer.is_ok());
+        }
+    }
+    given
+}
+
+#[test]
+fn entries_are_the_models() {
+    let mut given = 0;
+    for seed in 0..FILES {
+        let (model, file) = build::any(seed);
+        for (number, attribute) in model.attributes.iter().enumerate() {
+            for kind in [5, 9] {
+                let entries = attribute.entries(kind);
+                given += check_entries(&model, &file, number as i64, kind, entries);
+            }
+        }
+        let beyond = model.attributes.len() as i64;
+        assert_eq!(read::read_entry(&file, beyond, 5, 0, 0), Err(15), "seed {seed}");
+        assert_eq!(read::read_entry(&file, -1, 9, 0, 0), Err(15), "seed {seed}");
+        assert_eq!(read::read_entry(&file, 0, 3, 0, 0), Err(15), "seed {seed}");
+    }
+    assert!(given > 1000, "{given}");
+}
+
+fn name_bytes(file: &[u8], name: Name) -> &[u8] {
+    &file[name.offset as usize..(name.offset + name.length) as usize]
+}
+
+fn check_variable(file: &[u8], kind: i64, number: i64, of: &Variable) {
+    let found = read::variable(file, kind, number).expect("a variable");
+    assert_eq!(found.data_type, of.data_type);
+    assert_eq!((found.max_rec, found.s_records), (of.max_rec, of.s_records));
+    assert_eq!((found.elements, found.number), (of.elements, number));
+    assert_eq!(found.flags, i64::from(of.record_variance) + 2 * i64::from(of.pad.is_some()));
+    assert_eq!((&found.sizes, &found.variances), (&of.sizes, &of.variances));
+    assert_eq!(name_bytes(file, found.name), of.name);
+    let dimensions = of.sizes.len() as i64;
+    let own = |answer: i64| if kind == 8 { Ok(answer) } else { Err(18) };
+    assert_eq!(read::dimension_count(file, kind, number), own(dimensions));
+    for (at, (size, varies)) in (0..).zip(of.sizes.iter().zip(&of.variances)) {
+        assert_eq!(read::dimension_size(file, kind, number, at), own(*size));
+        assert_eq!(read::variance(file, kind, number, at), Ok(-i64::from(*varies)));
+    }
+    for at in [-1, dimensions] {
+        assert_eq!(read::dimension_size(file, kind, number, at), Err(18));
+        assert_eq!(read::variance(file, kind, number, at), Err(18));
+    }
+}
+
+fn check_attribute(file: &[u8], number: i64, of: &Attribute) {
+    let found = read::attribute(file, number).expect("an attribute");
+    let greatest = |list: &[Entry]| list.iter().map(|entry| entry.number).max().unwrap_or(-1);
+    assert_eq!((found.scope, found.number), (of.scope, number));
+    assert_eq!(found.gr_entries, of.gr_entries.len() as i64);
+    assert_eq!(found.z_entries, of.z_entries.len() as i64);
+    assert_eq!(found.gr_maximum, greatest(&of.gr_entries));
+    assert_eq!(found.z_maximum, greatest(&of.z_entries));
+    assert_eq!(name_bytes(file, found.name), of.name);
+    for kind in [5, 9] {
+        for entry in of.entries(kind) {
+            let first = of.entries(kind).iter().find(|other| other.number == entry.number);
+            let found = read::entry(file, number, kind, entry.number).expect("an entry");
+            assert_eq!((found.attribute, found.number), (number, entry.number));
+            assert_eq!(Some(found.data_type), first.map(|first| first.data_type));
+            let elements = first.map(|first| first.elements.len() as i64);
+            assert_eq!(Some(found.elements), elements);
+        }
+    }
+}
+
+#[test]
+fn descriptors_are_the_models() {
+    for seed in 0..FILES {
+        let (model, file) = build::any(seed);
+        assert_eq!(read::majority(&file), Ok(i64::from(model.row_majority)));
+        assert_eq!(read::encoding(&file), Ok(model.encoding));
+        assert_eq!(read::r_dimensions(&file).as_ref(), Ok(&model.r_sizes));
+        assert_eq!(read::r_dimension_size(&file, -1), Err(18));
+        assert_eq!(read::r_dimension_size(&file, model.r_sizes.len() as i64), Err(18));
+        let counts = read::counts(&file).expect("counts");
+        assert_eq!(counts.r_variables, model.r_variables.len() as i64);
+        assert_eq!(counts.z_variables, model.z_variables.len() as i64);
+        assert_eq!(counts.attributes, model.attributes.len() as i64);
+        for kind in [3, 8] {
+            for (number, of) in (0..).zip(model.variables(kind)) {
+                check_variable(&file, kind, number, of);
+            }
+            let beyond = model.variables(kind).len() as i64;
+            assert_eq!(read::variable(&file, kind, beyond), Err(15));
+            assert_eq!(read::variable(&file, kind, -1), Err(15));
+        }
+        for (number, of) in (0..).zip(&model.attributes) {
+            check_attribute(&file, number, of);
+        }
+        assert_eq!(read::attribute(&file, counts.attributes), Err(15));
+        assert_eq!(read::variable(&file, 5, 0), Err(15));
+    }
+}
+
+/// What the builder must have made at least once.
+#[derive(Default)]
+struct Seen {
+    types: [Vec<i64>; 2],
+    encodings: Vec<i64>,
+    happened: [bool; 12],
+}
+
+impl Seen {
+    fn look(&mut self, model: &File) {
+        self.encodings.push(model.encoding.number);
+        self.happened[0] |= model.listed_unused.len() > 1;
+        self.happened[1] |= model.unlisted_unused.iter().any(|size| *size < 16);
+        self.happened[2] |= model.r_sizes.len() == 10;
+        self.happened[3] |= !model.row_majority;
+        for (seen, list) in self.types.iter_mut().zip([&model.r_variables, &model.z_variables]) {
+            seen.extend(list.iter().map(|variable| variable.data_type.number));
+        }
+        for variable in model.r_variables.iter().chain(&model.z_variables) {
+            self.look_at_variable(variable);
+        }
+        for attribute in &model.attributes {
+            let numbers: Vec<i64> = attribute.gr_entries.iter().map(|entry| entry.number).collect();
+            self.happened[10] |= numbers.len() > 1 && numbers[1..].contains(&numbers[0]);
+            self.happened[11] |= attribute.z_entries.len() > 1;
+        }
+    }
+
+    fn look_at_variable(&mut self, variable: &Variable) {
+        let entries: Vec<_> = variable.chain.iter().flat_map(|index| &index.entries).collect();
+        let gap = entries.windows(2).any(|pair| pair[1].first > pair[0].last() + 1);
+        self.happened[4] |= gap;
+        self.happened[5] |=
+            variable.chain.iter().filter(|index| index.entries.len() > 1).count() > 1;
+        self.happened[6] |= variable.chain.iter().any(|index| index.spare > 0);
+        self.happened[7] |= variable.chain.iter().any(|index| index.entries.is_empty());
+        self.happened[8] |= !variable.record_variance && variable.max_rec > 0;
+        self.happened[9] |= variable.pad.is_some() && variable.variances.contains(&false);
+    }
+}
+
+#[test]
+fn every_kind_of_file_is_built() {
+    let mut seen = Seen::default();
+    for seed in 0..500 {
+        seen.look(&build::any(seed).0);
+    }
+    for data_type in DATA_TYPES {
+        assert!(seen.types.iter().all(|types| types.contains(&data_type.number)), "{data_type:?}");
+    }
+    assert!(ENCODINGS.iter().all(|encoding| seen.encodings.contains(&encoding.number)));
+    assert_eq!(seen.happened, [true; 12]);
+}

@@ -1,0 +1,209 @@
+//! Damaged files: the check ends in time, the reader ends, and on an accepted file the
+//! reader never answers 20.
+
+use tlepozaluh_host::build;
+use tlepozaluh_host::build::random::Random;
+use tlepozaluh_host::damage::{self, Damage};
+use tlepozaluh_host::second::check::run;
+use tlepozaluh_host::second::read;
+
+const GREATEST: i64 = 2_147_483_647;
+
+/// Asks the reader for variables' values; gives the refusals.
+fn ask_values(file: &[u8], refusals: &mut Vec<u32>) {
+    for kind in [3, 8] {
+        for number in 0..3 {
+            let dimensions = read::variable(file, kind, number).map_or(0, |of| of.sizes.len());
+            for record in [0, 5, GREATEST] {
+                let indices = vec![0; dimensions];
+                let answer = read::read_value(file, kind, number, record, &indices, 0);
+                refusals.extend(answer.err());
+            }
+            refusals.extend(read::read_pad(file, kind, number, 0).err());
+            refusals.extend(read::dimension_count(file, kind, number).err());
+            refusals.extend(read::variance(file, kind, number, 0).err());
+        }
+    }
+}
+
+/// Asks the reader for attributes' entries and the file's descriptors; gives the refusals.
+fn ask_entries(file: &[u8], refusals: &mut Vec<u32>) {
+    refusals.extend(read::majority(file).err());
+    refusals.extend(read::encoding(file).err());
+    refusals.extend(read::counts(file).err());
+    refusals.extend(read::r_dimensions(file).err());
+    for attribute in 0..3 {
+        refusals.extend(read::attribute(file, attribute).err());
+        for kind in [5, 9] {
+            for entry in [0, GREATEST] {
+                refusals.extend(read::read_entry(file, attribute, kind, entry, 0).err());
+            }
+        }
+    }
+}
+
+/// Checks and reads a file; gives the verdict.
+fn tried(file: &[u8], what: &dyn Fn() -> String) -> i32 {
+    let mut marks = vec![0xAA; file.len()];
+    let answer = run(file, &mut marks);
+    assert!((0..=14).contains(&answer.verdict), "{}", what());
+    assert!(answer.steps <= file.len() as u64 / 4 + 1, "{}: {} steps", what(), answer.steps);
+    let mut refusals = Vec::new();
+    ask_values(file, &mut refusals);
+    ask_entries(file, &mut refusals);
+    assert!(refusals.iter().all(|refusal| (15..=20).contains(refusal)), "{}", what());
+    let broken = refusals.iter().filter(|refusal| **refusal == 20).count();
+    if answer.verdict == 0 {
+        assert_eq!(broken, 0, "{}", what());
+    }
+    if answer.steps == 1 {
+        assert_eq!(broken, refusals.len(), "{}", what());
+    }
+    answer.verdict
+}
+
+/// Tries each damage on files of these seeds; counts the verdicts.
+fn tried_all(seeds: std::ops::Range<u64>, damages: impl Fn(&[u8]) -> Vec<Damage>) -> [u64; 15] {
+    let mut verdicts = [0; 15];
+    for seed in seeds {
+        let (_, file) = build::any(seed);
+        for damage in damages(&file) {
+            let damaged = damage::damaged(&file, &damage);
+            let verdict = tried(&damaged, &|| format!("seed {seed}: {damage:?}"));
+            verdicts[verdict as usize] += 1;
+        }
+    }
+    verdicts
+}
+
+#[test]
+fn every_control_field_at_its_edges() {
+    let verdicts = tried_all(0..20, damage::edge_damages);
+    let expected = [0, 3, 5, 6, 7, 8, 10, 11, 12, 13, 14];
+    assert!(expected.iter().all(|verdict| verdicts[*verdict] > 0), "{verdicts:?}");
+}
+
+#[test]
+fn every_control_field_to_every_record() {
+    let verdicts = tried_all(100..106, damage::start_damages);
+    let expected = [0, 5, 6, 7, 8, 9, 10, 11, 12];
+    assert!(expected.iter().all(|verdict| verdicts[*verdict] > 0), "{verdicts:?}");
+}
+
+/// Only unlisted unused records at the file's end may be cut away, if eof agrees.
+#[test]
+fn every_length() {
+    let mut cut_away = 0;
+    for seed in 0..300 {
+        let (_, file) = build::any(seed);
+        let records = damage::records(&file);
+        for damage in damage::length_damages(&file) {
+            let damaged = damage::damaged(&file, &damage);
+            if tried(&damaged, &|| format!("seed {seed}: {damage:?}")) != 0 {
+                continue;
+            }
+            let Damage::Cut { length, eof: true } = damage else {
+                panic!("seed {seed}: {damage:?} is accepted");
+            };
+            let mut behind = records.iter().filter(|record| record.offset + record.size > length);
+            assert!(behind.all(|record| record.record_type == -1), "seed {seed}: {damage:?}");
+            cut_away += 1;
+        }
+    }
+    assert!(cut_away > 0);
+}
+
+/// A link that leads elsewhere than before is always refused.
+#[test]
+fn every_link_to_every_record() {
+    for seed in 0..20 {
+        let (_, file) = build::any(seed);
+        for damage in damage::link_damages(&file) {
+            let damaged = damage::damaged(&file, &damage);
+            let verdict = tried(&damaged, &|| format!("seed {seed}: {damage:?}"));
+            assert_eq!(verdict == 0, damaged == file, "seed {seed}: {damage:?}");
+        }
+    }
+}
+
+#[test]
+fn every_ring() {
+    let mut rings = 0;
+    for seed in 0..300 {
+        let (_, file) = build::any(seed);
+        for damage in damage::ring_damages(&file) {
+            let damaged = damage::damaged(&file, &damage);
+            let verdict = tried(&damaged, &|| format!("seed {seed}: {damage:?}"));
+            assert_eq!(verdict == 0, damaged == file, "seed {seed}: {damage:?}");
+            rings += u64::from(verdict == 9);
+        }
+    }
+    assert!(rings > 1000, "{rings}");
+}
+
+#[test]
+fn several_damages_together() {
+    let mut random = Random::seeded(5);
+    let mut refused = 0;
+    for seed in 0..300 {
+        let (_, file) = build::any(seed);
+        let all = damage::all_damages(&file);
+        for _ in 0..30 {
+            let damages = damage::some_of(&all, &mut random);
+            let damaged =
+                damages.iter().fold(file.clone(), |file, damage| damage::damaged(&file, damage));
+            let verdict = tried(&damaged, &|| format!("seed {seed}: {damages:?}"));
+            refused += u64::from(verdict != 0);
+        }
+    }
+    assert!(refused > 3000, "{refused}");
+}
+
+/// Bytes at random, in a file whose opening is left whole.
+#[test]
+fn bytes_at_random() {
+    let mut random = Random::seeded(6);
+    let mut refused = 0;
+    for seed in 0..6000 {
+        let (_, mut file) = build::any(seed);
+        for _ in 0..random.between(1, 30) {
+            let at = 312 + random.place(file.len() - 312);
+            file[at] = random.byte();
+        }
+        let verdict = tried(&file, &|| format!("seed {seed}"));
+        refused += u64::from(verdict != 0);
+    }
+    assert!(refused > 3000, "{refused}");
+}
+
+/// Fields that no rule names: rfu, release, increment, compression offset and blocking.
+fn unread_fields(record_type: i64) -> &'static [usize] {
+    match record_type {
+        1 => &[16, 28, 32, 36, 40, 44],
+        2 => &[48, 52, 56],
+        3 | 8 => &[36, 40, 44, 56, 60],
+        4 => &[32, 48],
+        5 | 9 => &[28, 32, 36, 40, 44],
+        _ => &[],
+    }
+}
+
+#[test]
+fn unread_fields_change_nothing() {
+    let mut tried = 0;
+    for seed in 0..200 {
+        let (_, file) = build::any(seed);
+        let mut marks = vec![0; file.len()];
+        let answer = run(&file, &mut marks);
+        for record in damage::records(&file) {
+            for at in unread_fields(record.record_type) {
+                let damage = Damage::Field { offset: record.offset + at, value: -2 };
+                let mut other_marks = vec![0; file.len()];
+                let other = run(&damage::damaged(&file, &damage), &mut other_marks);
+                assert_eq!((other, &other_marks), (answer, &marks), "seed {seed}: {damage:?}");
+                tried += 1;
+            }
+        }
+    }
+    assert!(tried > 1000, "{tried}");
+}
