@@ -1,16 +1,16 @@
 -- Tests of signed numbers as the code makes them, once for every width: a signed local is read back from its bits at each use. Assumes nothing.
 use mathlib.Core.Path.{_≡_, refl, sym, ap, _∙_, subst}
-use mathlib.Core.Bool.{Bool, true, false, true≢false}
-use Prim.Native.Nat.{ℕ, _^_, _<_}
+use mathlib.Core.Bool.{Bool, true, false, _&&_, true≢false}
+use Prim.Native.Nat.{ℕ, zero, suc, _-_, _^_, _<_}
 use native.Mathlib.Omega.{arith}
-use borrow.Author.Tests.{eq-eqb, eqb-true, ltb-true}
+use borrow.Author.Tests.{eq-eqb, eqb-true, ltb-true, le-leb}
 use lib.Dec.{T, ltb, eqb}
 use lib.Signed.{ltZ, leZ, nonNeg}
 use lib.IntN.{ℤ, pos, negsuc, natAbs}
 use mir.Syntax.{Width}
 use mir.Val.{Fits, SFits, toZ, ofZ, bits, hbits}
 use mir.Facts.{toZ-ofZ, fits-natAbs}
-use Rattle.format.specs.Fields.{eqZ, natOr}
+use Rattle.format.specs.Fields.{eqZ, natOr, before}
 
 pub eqZ-same : (x : ℤ) → eqZ x x ≡ true
 eqZ-same (pos n) = eq-eqb n n refl
@@ -70,3 +70,12 @@ module _ (w : Width) (other : ℕ) (x : ℤ) (f : SFits w x) where
 -- a signed result that is passed on as an argument
 pub nat-is : (w : Width) (other : ℕ) (x : ℤ) {r : ℕ} → SFits w x → r ≡ natOr other (toZ w (ofZ w x)) → r ≡ natOr other x
 nat-is w other x f e = rw (toZ-ofZ {w = w} f) at e
+
+-- a number is n: it is 0 or more, and n as a natural number
+pub natural-is : (x : ℤ) (n : ℕ) → (leZ (pos 0) x && eqb (natOr 0 x) n) ≡ eqZ x (pos n)
+natural-is (pos m) n = rw (le-leb 0 m (omega arith))
+natural-is (negsuc m) n = refl
+
+pub before-some : (n : ℕ) → (n ≡ 0 → ⊥) → pos (n - 1) ≡ before n
+before-some zero h = absurd (h refl)
+before-some (suc n) h = ap pos (omega arith)

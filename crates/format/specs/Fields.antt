@@ -1,6 +1,6 @@
 -- Control fields, and the end of the file. Assumes nothing.
 use Prim.Native.Nat.{ℕ, zero, suc, _+_, _/_, _%_}
-use mathlib.Core.Bool.{Bool, true, false, _&&_}
+use mathlib.Core.Bool.{Bool, true, false, cond, _&&_}
 use mathlib.Core.List.{List}
 use lib.ListN.{length}
 use lib.Dec.{eqb}
@@ -36,6 +36,10 @@ atMost f at k = leZ (fieldAt f at) k
 unfoldable pub inOrder : List ℕ → ℕ → ℕ → Bool
 inOrder f p q = leZ (fieldAt f p) (fieldAt f q)
 
+-- the field at p is the field at q
+unfoldable pub sameAt : List ℕ → ℕ → ℕ → Bool
+sameAt f p q = eqZ (fieldAt f p) (fieldAt f q)
+
 -- each of the n fields from an offset on lies in lo to hi
 unfoldable pub eachWithin : List ℕ → ℕ → ℕ → ℤ → ℤ → Bool
 eachWithin f at zero lo hi = true
@@ -49,6 +53,15 @@ natOr other (negsuc n) = other
 -- a field as a natural number, a negative one as 0
 unfoldable pub natAt : List ℕ → ℕ → ℕ
 natAt f at = natOr 0 (fieldAt f at)
+
+-- one more than a field that is 0 or more; 0 for -1
+unfoldable pub afterAt : List ℕ → ℕ → ℕ
+afterAt f at = cond (atLeast f at (pos 0)) (natAt f at + 1) 0
+
+-- one less: -1 for 0
+abbrev pub before : ℕ → ℤ
+before zero = negsuc 0
+before (suc n) = pos n
 
 -- a link as an offset; a negative one as 1, where no record starts either ("A link below 8 .. is no start")
 unfoldable pub linkAt : List ℕ → ℕ → ℕ

@@ -2,7 +2,8 @@
 ghost use mathlib.Core.Path.{_≡_};
 ghost use Prim.Native.Nat.{_+_, _*_, _≤_, _<_};
 ghost use lib.ListN.{length};
-ghost use Rattle.format.specs.Fields.{endOf, fieldAt, isAt, atLeast, atMost, inOrder, eachWithin, natOr, natAt, linkAt, bitAt};
+ghost use lib.IntN.{pos};
+ghost use Rattle.format.specs.Fields.{endOf, fieldAt, isAt, atLeast, atMost, inOrder, sameAt, eachWithin, natOr, natAt, linkAt, afterAt, before, bitAt};
 use crate::bytes;
 use crate::signed;
 
@@ -53,6 +54,14 @@ pub fn in_order(f: &[u8], p: usize, q: usize) -> bool
     field(f, p) <= field(f, q)
 }
 
+// The field at p is the field at q.
+pub fn same(f: &[u8], p: usize, q: usize) -> bool
+    requires { ⌜ (p + 4 ≤ length (now f)) × (q + 4 ≤ length (now f)) ⌝ }
+    ensures { λ r. ⌜ r ≡ sameAt (now (f .entry)) p q ⌝ }
+{
+    field(f, p) == field(f, q)
+}
+
 // Each of the n fields from an offset on lies in lo to hi.
 pub fn each_within(f: &[u8], at: usize, n: usize, lo: i32, hi: i32) -> bool
     requires { ⌜ at + 4 * n ≤ length (now f) ⌝ }
@@ -92,6 +101,37 @@ pub fn link_at(f: &[u8], at: usize) -> u32
     ensures { λ r. ⌜ (r ≡ linkAt (now (f .entry)) at) × (r < 2147483648) ⌝ }
 {
     nat_or(field(f, at), 1)
+}
+
+// The field at an offset is n.
+pub fn is_nat(f: &[u8], at: usize, n: u32) -> bool
+    requires { ⌜ at + 4 ≤ length (now f) ⌝ }
+    ensures { λ r. ⌜ r ≡ isAt (now (f .entry)) at (pos n) ⌝ }
+{
+    at_least(f, at, 0) & (nat_at(f, at) == n)
+}
+
+// The field at an offset is one less than n.
+pub fn is_before(f: &[u8], at: usize, n: u32) -> bool
+    requires { ⌜ at + 4 ≤ length (now f) ⌝ }
+    ensures { λ r. ⌜ r ≡ isAt (now (f .entry)) at (before n) ⌝ }
+{
+    if n == 0 {
+        return is(f, at, -1);
+    }
+    is_nat(f, at, n - 1)
+}
+
+// One more than the field at an offset, 0 for -1.
+pub fn after_at(f: &[u8], at: usize) -> u32
+    requires { ⌜ at + 4 ≤ length (now f) ⌝ }
+    ensures { λ r. ⌜ (r ≡ afterAt (now (f .entry)) at) × (r ≤ 2147483648) ⌝ }
+{
+    if at_least(f, at, 0) {
+        nat_at(f, at) + 1
+    } else {
+        0
+    }
 }
 
 // The bit of weight w of the flags at an offset is set.

@@ -17,7 +17,7 @@ fn adr_right(f: &[u8], o: usize) -> bool
 
 // The number of the ADR at an offset: 0, 10 or 20.
 pub fn adr(f: &[u8], at: u32) -> u32
-    ensures { λ r. ⌜ r ≡ adrRule (now (f .entry)) at ⌝ }
+    ensures { λ r. ⌜ (r ≡ adrRule (now (f .entry)) at) × (r ≡ 0 → at + 116 ≤ length (now (f .entry))) ⌝ }
 {
     let reached = rules::reach(f, at, 116);
     if reached != 0 {
@@ -50,7 +50,7 @@ fn aedr_right(f: &[u8], o: usize) -> bool
 
 // The number of the AEDR at an offset: 0, 10 or 20.
 pub fn aedr(f: &[u8], at: u32) -> u32
-    ensures { λ r. ⌜ r ≡ aedrRule (now (f .entry)) at ⌝ }
+    ensures { λ r. ⌜ (r ≡ aedrRule (now (f .entry)) at) × (r ≡ 0 → at + 48 ≤ length (now (f .entry))) ⌝ }
 {
     let reached = rules::reach(f, at, 48);
     if reached != 0 {

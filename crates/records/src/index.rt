@@ -19,7 +19,7 @@ fn vxr_right(f: &[u8], x: usize) -> bool
 
 // The number of the VXR at an offset: 0, 10 or 20.
 pub fn vxr(f: &[u8], at: u32) -> u32
-    ensures { λ r. ⌜ r ≡ vxrRule (now (f .entry)) at ⌝ }
+    ensures { λ r. ⌜ (r ≡ vxrRule (now (f .entry)) at) × (r ≡ 0 → at + 20 ≤ length (now (f .entry))) ⌝ }
 {
     let reached = rules::reach(f, at, 20);
     if reached != 0 {

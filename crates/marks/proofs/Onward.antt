@@ -1,0 +1,35 @@
+-- The walk's last step, one record after the other. Assumes nothing.
+use mathlib.Core.Path.{_≡_, sym, ap, _∙_}
+use mathlib.Core.Bool.{Bool, true, false, cond}
+use mathlib.Core.List.{List}
+use Prim.Native.Nat.{ℕ, suc, _+_, _-_, _≤_, _<_}
+use native.Mathlib.Omega.{arith}
+use borrow.Author.Tests.{eq-eqb, ne-eqb}
+use Rattle.format.specs.Fields.{endOf}
+use Rattle.records.specs.Rules.{sizeAt}
+use Rattle.marks.specs.Marks.{leftFrom, followedAt, unclaimedAt}
+
+module _ (f m : List ℕ) (n o : ℕ) where
+  more : 0 < n → leftFrom f m (suc (n - 1)) o ≡ leftFrom f m n o
+  more h = let up : suc (n - 1) ≡ n = omega arith in ap (λ (k : ℕ). leftFrom f m k o) up
+
+  pub at-end : 0 < n → o ≡ endOf f → 0 ≡ leftFrom f m n o
+  unfolding leftFrom
+  at-end h e = rw (← more h, eq-eqb o (endOf f) e)
+
+  pub not-followed : 0 < n → (o ≡ endOf f → ⊥) → followedAt f o ≡ false → 20 ≡ leftFrom f m n o
+  unfolding leftFrom
+  not-followed h e k = rw (← more h, ne-eqb o (endOf f) e, k)
+
+  module _ (h : 0 < n) (e : o ≡ endOf f → ⊥) (k : followedAt f o ≡ true) where
+    pub not-claimed : unclaimedAt f m o ≡ true → 13 ≡ leftFrom f m n o
+    unfolding leftFrom
+    not-claimed u = rw (← more h, ne-eqb o (endOf f) e, k, u)
+
+    pub next-one : unclaimedAt f m o ≡ false → leftFrom f m n o ≡ leftFrom f m (n - 1) (o + sizeAt f o)
+    unfolding leftFrom
+    next-one u = sym (more h) ∙ rw (ne-eqb o (endOf f) e, k, u)
+
+  pub none-left : n ≤ 0 → 20 ≡ leftFrom f m n o
+  unfolding leftFrom
+  none-left h = let z : n ≡ 0 = omega arith in rw z

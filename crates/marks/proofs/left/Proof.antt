@@ -1,0 +1,93 @@
+use mathlib.Core.Path.{_≡_, _∙_, sym}
+use Prim.Native.Nat.{_+_, _≤_}
+use lib.ListN.{length}
+use borrow.Author.Tests.{not-true, not-false}
+use Rattle.marks.specs.Marks.{leftOf, leftFrom}
+use Rattle.marks.proofs.Onward.{at-end, not-followed, not-claimed, next-one, none-left}
+use borrow.Author.Needs.{needs}
+use native.Mathlib.Omega.{arith}
+use Rattle.marks.proofs.left.Statement.{statement}
+use Rattle.marks.proofs.left.Tie as tie
+
+abbrev Inv-loop : tie.InvT-loop
+Inv-loop f m end o₀ n₀ o n = (o ≤ length f + 8) × (leftOf f m ≡ leftFrom f m n o)
+
+abbrev μ-loop : tie.MeasureT-loop
+μ-loop f m end o₀ n₀ o n = n
+
+end-requires : tie.Need-end-requires Inv-loop μ-loop
+end-requires c κs = search needs
+
+loop-holds : tie.Need-loop-holds Inv-loop μ-loop
+unfolding leftOf
+loop-holds c = search needs
+
+returns : tie.Need-returns Inv-loop μ-loop
+returns c = let l = c .before .before .loop in let a = c .before .before .before .before .before .before .args in at-end (a .f .now) (a .m .now) (l .n) (l .o) (c .before .loop-test .taken) (c .if1 .taken ∙ c .before .before .before .end .ensures .0) ∙ sym (l .inv .1)
+
+is-followed-requires : tie.Need-is-followed-requires Inv-loop μ-loop
+is-followed-requires c κs = omega arith
+
+returns-2 : tie.Need-returns-2 Inv-loop μ-loop
+returns-2 c =
+    let l = c .before .before .before .before .loop in
+    let a = c .before .before .before .before .before .before .before .before .args in
+    let k = c .before .is-followed in
+    not-followed (a .f .now) (a .m .now) (l .n) (l .o) (c .before .before .before .loop-test .taken) (λ e. c .before .before .if1 .left (e ∙ sym (c .before .before .before .before .before .end .ensures .0))) (sym (k .ensures .0) ∙ not-true (k .result) (c .if2 .taken)) ∙ sym (l .inv .1)
+
+is-unclaimed-requires : tie.Need-is-unclaimed-requires Inv-loop μ-loop
+is-unclaimed-requires c κs = let k = c .before .is-followed in (search needs, k .ensures .1 (not-false (k .result) (c .if2 .left)) .fields)
+
+returns-3 : tie.Need-returns-3 Inv-loop μ-loop
+returns-3 c =
+    let l = c .before .before .before .before .before .before .loop in
+    let a = c .before .before .before .before .before .before .before .before .before .before .args in
+    let k = c .before .before .before .is-followed in
+    not-claimed (a .f .now) (a .m .now) (l .n) (l .o) (c .before .before .before .before .before .loop-test .taken) (λ e. c .before .before .before .before .if1 .left (e ∙ sym (c .before .before .before .before .before .before .before .end .ensures .0))) (sym (k .ensures .0) ∙ not-false (k .result) (c .before .before .if2 .left)) (sym (c .before .is-unclaimed .ensures) ∙ c .if3 .taken) ∙ sym (l .inv .1)
+
+nat-at-requires : tie.Need-nat-at-requires Inv-loop μ-loop
+nat-at-requires c κs = let k = c .before .before .before .is-followed in omega (arith, k .ensures .1 (not-false (k .result) (c .before .before .if2 .left)) .fields)
+
+cast-o : tie.Need-cast-o Inv-loop μ-loop
+cast-o c = search needs
+
+add-o : tie.Need-add-o Inv-loop μ-loop
+add-o c = search needs
+
+sub-n : tie.Need-sub-n Inv-loop μ-loop
+sub-n c = search needs
+
+loop-less : tie.Need-loop-less Inv-loop μ-loop
+loop-less c = search needs
+
+loop-again : tie.Need-loop-again Inv-loop μ-loop
+loop-again c =
+    let l = c .before .before .before .before .before .before .before .loop in
+    let a = c .before .before .before .before .before .before .before .before .before .before .before .args in
+    let k = c .before .before .before .before .is-followed in
+    let t = not-false (k .result) (c .before .before .before .if2 .left) in
+    (omega (arith, k .ensures .1 t .next, c .nat-at .ensures .0), l .inv .1 ∙ next-one (a .f .now) (a .m .now) (l .n) (l .o) (c .before .before .before .before .before .before .loop-test .taken) (λ e. c .before .before .before .before .before .if1 .left (e ∙ sym (c .before .before .before .before .before .before .before .before .end .ensures .0))) (sym (k .ensures .0) ∙ t) (sym (c .before .before .is-unclaimed .ensures) ∙ c .before .if3 .left) ∙ rw (c .nat-at .ensures .0))
+
+returns-4 : tie.Need-returns-4 Inv-loop μ-loop
+returns-4 c = let l = c .before .loop in let a = c .before .before .before .before .before .args in none-left (a .f .now) (a .m .now) (l .n) (l .o) (c .loop-test .left) ∙ sym (l .inv .1)
+
+pub left-spec : {M : Type 1} → statement M
+left-spec =
+    tie.close
+    (tie.spec
+    Inv-loop
+    μ-loop
+    end-requires
+    loop-holds
+    returns
+    is-followed-requires
+    returns-2
+    is-unclaimed-requires
+    returns-3
+    nat-at-requires
+    cast-o
+    add-o
+    sub-n
+    loop-less
+    loop-again
+    returns-4)

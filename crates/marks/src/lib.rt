@@ -1,0 +1,100 @@
+// Marks: what the sweep writes, and what the walk's last step looks at.
+ghost use mathlib.Core.Path.{_≡_};
+ghost use Prim.Native.Nat.{_+_, _≤_, _<_};
+ghost use lib.ListN.{length, replicate};
+ghost use mathlib.Core.Bool.{true};
+ghost use Rattle.marks.specs.Marks.{cleared, marked, startAt, unclaimedAt, followedAt, Followed, leftOf};
+use format::fields;
+
+// Zeros in every place of a slice.
+fn clear_all(m: &mut [u8])
+    ensures { λ _. ⌜ now (m .exit) ≡ replicate (length (now (m .entry))) 0 ⌝ }
+{
+    let mut i = 0;
+    while i < m.len() {
+        m[i] = 0;
+        i += 1;
+    }
+}
+
+// Zeros in the n places from an offset on.
+fn clear(m: &mut [u8], at: usize, n: usize)
+    requires { ⌜ at + n ≤ length (now m) ⌝ }
+    ensures { λ _. ⌜ now (m .exit) ≡ cleared (now (m .entry)) at n ⌝ }
+{
+    let e = at + n;
+    clear_all(&mut m[at..e]);
+}
+
+// The marks of a record of n bytes at an offset.
+pub fn mark(m: &mut [u8], at: usize, n: usize)
+    requires { ⌜ (at + n ≤ length (now m)) × (0 < n) ⌝ }
+    ensures { λ _. ⌜ now (m .exit) ≡ marked (now (m .entry)) at n ⌝ }
+{
+    clear(m, at, n);
+    m[at] = 1;
+}
+
+// A record starts at an offset.
+pub fn is_start(f: &[u8], m: &[u8], t: u32) -> bool
+    requires { ⌜ length (now f) ≤ length (now m) ⌝ }
+    ensures { λ r. ⌜ (r ≡ startAt (now (f .entry)) (now (m .entry)) t) × (r ≡ true → t < length (now (f .entry))) ⌝ }
+{
+    let o = t as usize;
+    if o < 8 {
+        return false;
+    }
+    if fields::end(f) <= o {
+        return false;
+    }
+    let b = m[o];
+    (b == 1) | (b == 2)
+}
+
+// The record at an offset is in use, and no link claimed it.
+fn is_unclaimed(f: &[u8], m: &[u8], o: usize) -> bool
+    requires { ⌜ (length (now f) ≤ length (now m)) × (o + 8 ≤ length (now f)) ⌝ }
+    ensures { λ r. ⌜ r ≡ unclaimedAt (now (f .entry)) (now (m .entry)) o ⌝ }
+{
+    (o != 8) & !fields::is(f, o + 4, -1) & (m[o] != 2)
+}
+
+// The record at an offset has 8 bytes or more and ends in the file.
+fn is_followed(f: &[u8], o: usize) -> bool
+    requires { ⌜ o ≤ 4611686018427387904 ⌝ }
+    ensures { λ r. ⌜ (r ≡ followedAt (now (f .entry)) o) × (r ≡ true → Followed (now (f .entry)) o) ⌝ }
+{
+    let end = fields::end(f);
+    if end < o + 8 {
+        return false;
+    }
+    let size = fields::nat_at(f, o) as usize;
+    if size < 8 {
+        return false;
+    }
+    o + size <= end
+}
+
+// What the walk's last step finds: 13 for a record in use that no link claimed, 20 where a record is not followed by another, or 0.
+pub fn left(f: &[u8], m: &[u8]) -> u32
+    requires { ⌜ (length (now f) ≤ length (now m)) × (length (now f) ≤ 2147483647) ⌝ }
+    ensures { λ r. ⌜ r ≡ leftOf (now (f .entry)) (now (m .entry)) ⌝ }
+{
+    let end = fields::end(f);
+    let mut o = 8;
+    let mut n = f.len();
+    while 0 < n {
+        if o == end {
+            return 0;
+        }
+        if !is_followed(f, o) {
+            return 20;
+        }
+        if is_unclaimed(f, m, o) {
+            return 13;
+        }
+        o += fields::nat_at(f, o) as usize;
+        n -= 1;
+    }
+    20
+}
