@@ -1,7 +1,9 @@
 -- Index records, their entries, and value records. Assumes nothing.
-use Prim.Native.Nat.{ℕ, _+_, _*_}
+use Prim.Native.Nat.{ℕ, _+_, _*_, _≤_, _<_}
 use mathlib.Core.Bool.{Bool, cond, _&&_}
 use mathlib.Core.List.{List}
+use mathlib.Core.Path.{_≡_}
+use lib.ListN.{length}
 use lib.Dec.{ltb, leb, eqb}
 use lib.IntN.{pos}
 use Rattle.format.specs.Fields.{endOf, atLeast, inOrder, natAt, linkAt}
@@ -48,6 +50,13 @@ entryAmong f x n i floor =
 
 unfoldable pub entryOf : List ℕ → ℕ → ℕ → ℕ → Entry
 entryOf f x i floor = cond (ltb (endOf f) (x + 20)) (entryFault 20) (entryAmong f x (entriesAt f x) i floor)
+
+-- the bounds of an entry that was looked at
+pub record Bounds (f : List ℕ) (x : ℕ) (e : Entry) : Type 0 where
+  pub order : e .first ≤ e .last
+  pub small : e .last < 2147483648
+  pub link : e .link < 2147483648
+  pub inside : e .fault ≡ 0 → x + 20 ≤ length f
 
 -- "VVR (7). Size 8 + (Last - First + 1) × record bytes": of n records of the given bytes each
 unfoldable pub vvrRule : List ℕ → ℕ → ℕ → ℕ → ℕ

@@ -1,0 +1,5 @@
+pub mod Capped
+pub mod Places
+pub mod Product
+pub mod Bound
+pub mod Known

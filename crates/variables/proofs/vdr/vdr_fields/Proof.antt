@@ -1,0 +1,86 @@
+use Rattle.variables.specs.Vdr.{vdrFields}
+use borrow.Author.Needs.{needs}
+use Rattle.variables.proofs.vdr.vdr_fields.Statement.{statement}
+use Rattle.variables.proofs.vdr.vdr_fields.Tie as tie
+
+add-is : tie.Need-add-is
+add-is c = search needs
+
+is-requires : tie.Need-is-requires
+is-requires c κs = search needs
+
+add-is-2 : tie.Need-add-is-2
+add-is-2 c = search needs
+
+is-requires-2 : tie.Need-is-requires-2
+is-requires-2 c κs = search needs
+
+add-is-3 : tie.Need-add-is-3
+add-is-3 c = search needs
+
+is-requires-3 : tie.Need-is-requires-3
+is-requires-3 c κs = search needs
+
+add-element-size : tie.Need-add-element-size
+add-element-size c = search needs
+
+element-size-requires : tie.Need-element-size-requires
+element-size-requires c κs = search needs
+
+add-at-least : tie.Need-add-at-least
+add-at-least c = search needs
+
+at-least-requires : tie.Need-at-least-requires
+at-least-requires c κs = search needs
+
+add-big4 : tie.Need-add-big4
+add-big4 c = search needs
+
+big4-requires : tie.Need-big4-requires
+big4-requires c κs = search needs
+
+add-at-least-2 : tie.Need-add-at-least-2
+add-at-least-2 c = search needs
+
+at-least-requires-2 : tie.Need-at-least-requires-2
+at-least-requires-2 c κs = search needs
+
+add-at-most : tie.Need-add-at-most
+add-at-most c = search needs
+
+at-most-requires : tie.Need-at-most-requires
+at-most-requires c κs = search needs
+
+add-at-least-3 : tie.Need-add-at-least-3
+add-at-least-3 c = search needs
+
+at-least-requires-3 : tie.Need-at-least-requires-3
+at-least-requires-3 c κs = search needs
+
+returns : tie.Need-returns
+unfolding vdrFields
+returns c = simp (← c .at-least3 .ensures, ← c .before .at-most .ensures, ← c .before .before .at-least2 .ensures, ← c .before .before .before .big4 .ensures, ← c .before .before .before .before .at-least .ensures, ← c .before .before .before .before .before .element-size .ensures .0, ← c .before .before .before .before .before .before .is3 .ensures, ← c .before .before .before .before .before .before .before .is2 .ensures, ← c .before .before .before .before .before .before .before .before .is .ensures)
+
+pub vdr-fields-spec : {M : Type 1} → statement M
+vdr-fields-spec =
+    tie.close
+    (tie.spec
+    add-is
+    is-requires
+    add-is-2
+    is-requires-2
+    add-is-3
+    is-requires-3
+    add-element-size
+    element-size-requires
+    add-at-least
+    at-least-requires
+    add-big4
+    big4-requires
+    add-at-least-2
+    at-least-requires-2
+    add-at-most
+    at-most-requires
+    add-at-least-3
+    at-least-requires-3
+    returns)

@@ -1,0 +1,242 @@
+// Variables: the rule of a VDR of either kind, and record bytes. A kind is a record type: 8 for zVariables, 3 for rVariables.
+ghost use mathlib.Core.Path.{_≡_};
+ghost use Prim.Native.Nat.{_+_, _*_, _≤_, _<_};
+ghost use lib.ListN.{length};
+ghost use Rattle.format.specs.Fields.{endOf};
+ghost use Rattle.variables.specs.Limit.{capped};
+ghost use Rattle.variables.specs.Vdr.{carriedOf, vdrFields, headOf, countPlace, countRight, layoutOf, layoutFits, valueBytes, factorOf, sizeExact, dimensionsRight, spread, recordBytes, vdrFault, dimensioned, variableOf};
+use crate::limit;
+use format::bytes;
+use format::fields;
+use records::attributes;
+use records::rules;
+
+// The dimensions of a variable: how many, and where their sizes and variances stand.
+pub struct Layout {
+    pub count: usize,
+    pub sizes: usize,
+    pub variances: usize,
+}
+
+// A VDR: the number of its rule, and where that is 0 its dimensions, the bytes of a value and the bytes of a record.
+pub struct Variable {
+    pub fault: u32,
+    pub dimensions: Layout,
+    pub value: u64,
+    pub bytes: u64,
+}
+
+// 14 for a VDR of compressed values, 20 where the file ends before its flags, else 0.
+pub fn carried(f: &[u8], at: u32) -> u32
+    ensures { λ r. ⌜ r ≡ carriedOf (now (f .entry)) at ⌝ }
+{
+    let o = at as usize;
+    let end = fields::end(f);
+    if end < o + 8 {
+        return 20;
+    }
+    if fields::nat_at(f, o) < 32 {
+        return 0;
+    }
+    if end < o + 32 {
+        return 20;
+    }
+    if fields::bit(f, o + 28, 4) {
+        return 14;
+    }
+    0
+}
+
+// The fields of a VDR but those of its dimensions.
+fn vdr_fields(f: &[u8], o: usize) -> bool
+    requires { ⌜ o + 128 ≤ length (now f) ⌝ }
+    ensures { λ r. ⌜ r ≡ vdrFields (now (f .entry)) o ⌝ }
+{
+    let single = fields::is(f, o + 12, 51) | fields::is(f, o + 12, 52) | fields::is(f, o + 48, 1);
+    (1 <= attributes::element_size(f, o + 12))
+        & fields::at_least(f, o + 16, -1)
+        & (bytes::big4(f, o + 28) < 8)
+        & fields::at_least(f, o + 32, 0)
+        & fields::at_most(f, o + 32, 2)
+        & fields::at_least(f, o + 48, 1)
+        & single
+}
+
+// The bytes of a VDR before its dimensions.
+fn head_of(kind: u32) -> u32
+    ensures { λ r. ⌜ (r ≡ headOf kind) × (128 ≤ r) ⌝ }
+{
+    if kind == 8 { 132 } else { 128 }
+}
+
+// Where the number of its dimensions stands.
+fn count_place(f: &[u8], kind: u32, o: usize) -> usize
+    requires { ⌜ (o + 128 ≤ length (now f)) × (o < 4294967296) ⌝ }
+    ensures { λ r. ⌜ (r ≡ countPlace (now (f .entry)) kind o) × (r < 8589934592) ⌝ }
+{
+    if kind == 8 {
+        o + 128
+    } else {
+        fields::link_at(f, 16) as usize + 36
+    }
+}
+
+// There are 0 to 10 dimensions.
+fn count_right(f: &[u8], p: usize) -> bool
+    requires { ⌜ p + 4 ≤ length (now f) ⌝ }
+    ensures { λ r. ⌜ r ≡ countRight (now (f .entry)) p ⌝ }
+{
+    fields::at_least(f, p, 0) & fields::at_most(f, p, 10)
+}
+
+// The dimensions that are counted at p.
+fn dimensions_at(f: &[u8], kind: u32, o: usize, p: usize) -> Layout
+    requires { ⌜ (o < 4294967296) × (p < 8589934592) × (p + 4 ≤ length (now f)) × (p ≡ countPlace (now f) kind o) ⌝ }
+    ensures { λ r. ⌜ (r ≡ layoutOf (now (f .entry)) kind o) × layoutFits r ⌝ }
+{
+    let n = fields::nat_at(f, p) as usize;
+    if kind == 8 {
+        Layout {
+            count: n,
+            sizes: p + 4,
+            variances: p + 4 + 4 * n,
+        }
+    } else {
+        Layout {
+            count: n,
+            sizes: p + 24,
+            variances: o + 128,
+        }
+    }
+}
+
+// The bytes of one value.
+fn value_bytes(f: &[u8], o: usize) -> u64
+    requires { ⌜ o + 128 ≤ length (now f) ⌝ }
+    ensures { λ r. ⌜ (r ≡ valueBytes (now (f .entry)) o) × (r ≤ 17179869184) ⌝ }
+{
+    let elements = fields::nat_at(f, o + 48) as u64;
+    elements * attributes::element_size(f, o + 12) as u64
+}
+
+// The size of a VDR is that of its fields, dimensions and pad value.
+fn size_exact(f: &[u8], o: usize, l: Layout) -> bool
+    requires { ⌜ (o + 128 ≤ length (now f)) × (o < 4294967296) × layoutFits l ⌝ }
+    ensures { λ r. ⌜ r ≡ sizeExact (now (f .entry)) o l ⌝ }
+{
+    let dimensions = l.variances as u64 + 4 * (l.count as u64);
+    let size = o as u64 + fields::nat_at(f, o) as u64;
+    if fields::bit(f, o + 28, 2) {
+        return size == dimensions + value_bytes(f, o);
+    }
+    size == dimensions
+}
+
+// The sizes and variances of the dimensions.
+fn dimensions_right(f: &[u8], l: Layout) -> bool
+    requires { ⌜ (l .sizes + 4 * l .count ≤ length (now f)) × (l .variances + 4 * l .count ≤ length (now f)) ⌝ }
+    ensures { λ r. ⌜ r ≡ dimensionsRight (now (f .entry)) l ⌝ }
+{
+    let n = l.count;
+    fields::each_within(f, l.sizes, n, 1, 2147483647)
+        & fields::each_within(f, l.variances, n, -1, 0)
+}
+
+// What a dimension multiplies the values of a record by.
+fn factor(f: &[u8], p: usize, q: usize) -> u64
+    requires { ⌜ (p + 4 ≤ length (now f)) × (q + 4 ≤ length (now f)) ⌝ }
+    ensures { λ r. ⌜ (r ≡ factorOf (now (f .entry)) p q) × (r < 2147483648) ⌝ }
+{
+    if fields::is(f, q, -1) {
+        fields::nat_at(f, p) as u64
+    } else {
+        1
+    }
+}
+
+// The bytes of a record, and 2,147,483,648 for every larger number.
+fn record_bytes(f: &[u8], o: usize, l: Layout) -> u64
+    requires { ⌜ (o + 128 ≤ length (now f)) × (l .sizes + 4 * l .count ≤ length (now f)) × (l .variances + 4 * l .count ≤ length (now f)) ⌝ }
+    ensures { λ r. ⌜ (r ≡ capped (recordBytes (now (f .entry)) o l)) × (r ≤ 2147483648) ⌝ }
+{
+    let mut acc = limit::cap(value_bytes(f, o));
+    let mut p = l.sizes;
+    let mut q = l.variances;
+    let mut left = l.count;
+    while 0 < left {
+        acc = limit::cap(acc * factor(f, p, q));
+        p += 4;
+        q += 4;
+        left -= 1;
+    }
+    acc
+}
+
+// A VDR that breaks a rule.
+fn faulty(v: u32) -> Variable
+    ensures { λ r. ⌜ r ≡ vdrFault v ⌝ }
+{
+    Variable {
+        fault: v,
+        dimensions: Layout {
+            count: 0,
+            sizes: 0,
+            variances: 0,
+        },
+        value: 0,
+        bytes: 0,
+    }
+}
+
+// A VDR whose fields are right, with its dimensions.
+fn dimensioned_vdr(f: &[u8], o: usize, l: Layout) -> Variable
+    requires { ⌜ (o + 128 ≤ length (now f)) × (o < 4294967296) × layoutFits l ⌝ }
+    ensures { λ r. ⌜ r ≡ dimensioned (now (f .entry)) o l ⌝ }
+{
+    let end = fields::end(f);
+    let n = l.count;
+    if !size_exact(f, o, l) {
+        return faulty(10);
+    }
+    if end < l.sizes + 4 * n {
+        return faulty(20);
+    }
+    if end < l.variances + 4 * n {
+        return faulty(20);
+    }
+    if !dimensions_right(f, l) {
+        return faulty(10);
+    }
+    let bytes = record_bytes(f, o, l);
+    if 2147483647 < bytes {
+        return faulty(10);
+    }
+    Variable {
+        fault: 0,
+        dimensions: l,
+        value: limit::cap(value_bytes(f, o)),
+        bytes,
+    }
+}
+
+// The VDR of a kind at an offset.
+pub fn variable_at(f: &[u8], kind: u32, at: u32) -> Variable
+    ensures { λ r. ⌜ r ≡ variableOf (now (f .entry)) kind at ⌝ }
+{
+    let o = at as usize;
+    let reached = rules::reach(f, at, head_of(kind));
+    if reached != 0 {
+        return faulty(reached);
+    }
+    if !vdr_fields(f, o) {
+        return faulty(10);
+    }
+    let p = count_place(f, kind, o);
+    if fields::end(f) < p + 4 {
+        return faulty(20);
+    }
+    if !count_right(f, p) {
+        return faulty(10);
+    }
+    dimensioned_vdr(f, o, dimensions_at(f, kind, o, p))
+}

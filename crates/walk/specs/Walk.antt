@@ -1,0 +1,156 @@
+-- The walk along the links, a step a link, without marks: document 01, "The check, step by step", 3. Assumes nothing.
+use Prim.Native.Nat.{ℕ, suc, _+_, _-_, _≤_, max}
+use mathlib.Core.Bool.{Bool, true, false, cond, _&&_, _||_}
+use mathlib.Core.List.{List, [], _∷_}
+use lib.ListN.{length}
+use lib.Dec.{ltb, leb, eqb}
+use lib.IntN.{ℤ, pos, negsuc}
+use Rattle.format.specs.Fields.{endOf, isAt, sameAt, atLeast, natAt, linkAt, afterAt, before}
+use Rattle.records.specs.Rules.{typedAt}
+use Rattle.records.specs.Opening.{gdrAt}
+use Rattle.records.specs.Attributes.{adrRule, aedrRule}
+use Rattle.records.specs.Index.{usedAt, vxrRule, entryOf, vvrRule}
+use Rattle.records.specs.Unused.{uirRule}
+use Rattle.records.specs.declared.index.Entry.{Entry}
+use Rattle.variables.specs.Vdr.{carriedOf, variableOf}
+use Rattle.variables.specs.declared.vdr.Variable.{Variable}
+use Rattle.walk.specs.Numbers.{first, unless}
+use Rattle.walk.specs.declared.places.Var.{Var}
+use Rattle.walk.specs.declared.places.Walk as W
+use Rattle.walk.specs.declared.places.Walk.the-variants.{Start, Vars, Chain, Entry as AtEntry, Attrs, Entries, Unused}
+use Rattle.walk.specs.declared.places.Turn as T
+use Rattle.walk.specs.declared.places.Turn.the-variants.{Over, End, Take}
+
+-- 8 for type; 20 if the file ends before it
+unfoldable pub typeNumber : List ℕ → ℕ → ℤ → ℕ
+typeNumber f o t = cond (ltb (endOf f) (o + 8)) 20 (unless 8 (typedAt f o t))
+
+-- a link to the record o that goes on at next if nothing refuses it
+abbrev pub takes : ℕ → ℕ → ℕ → ℕ → W.Walk → T.Turn
+takes early o typed late next = Take early o typed late (cond (eqb early 0 && eqb late 0) next Start)
+
+abbrev pub refusedBy : ℕ → ℕ → ℕ → T.Turn
+refusedBy o typed late = Take 0 o typed late Start
+
+-- the link that stands at p: 20 if the file ends before it; "A zero link ends a list"
+unfoldable pub followed : List ℕ → ℕ → T.Turn → (ℕ → T.Turn) → T.Turn
+followed f p zero taken = cond (ltb (endOf f) (p + 4)) (End 20) (cond (eqb (linkAt f p) 0) zero (taken (linkAt f p)))
+
+-- the GDR's fields lie in the file, and the CDR's link to it
+unfoldable pub gdrThere : List ℕ → Bool
+gdrThere f = leb 20 (endOf f) && leb (gdrAt f + 60) (endOf f)
+
+-- the bounds that this gives
+pub record Gdr (f : List ℕ) : Type 0 where
+  pub link : 20 ≤ length f
+  pub fields : gdrAt f + 60 ≤ length f
+
+-- a list of the GDR is over: "counts equal lengths .. else 11"; 20 if the GDR does not lie in the file
+abbrev pub overBy : List ℕ → ℕ → W.Walk → T.Turn
+overBy f number next = cond (gdrThere f) (Over number next) (End 20)
+
+-- ---- variables: NrVars 24, NzVars 40; "rMaxRec is the greatest MaxRec of rVariables or -1"
+unfoldable pub varsTally : List ℕ → ℕ → ℕ → ℕ → ℕ
+varsTally f k n greatest =
+    unless 11
+    (cond (eqb k 8) (isAt f (gdrAt f + 40) (pos n)) (isAt f (gdrAt f + 24) (pos n) && isAt f (gdrAt f + 32) (before greatest)))
+
+-- "the GDR's heads r, z, ADR, UIR" at 8, 12, 16, 44
+abbrev pub afterVars : List ℕ → ℕ → W.Walk
+afterVars f k = cond (eqb k 8) (Attrs (gdrAt f + 16) 0) (Vars 8 (gdrAt f + 12) 0 0)
+
+-- "14, 10, 11": compressed values; the VDR's rule; "Num is the place in its list from 0"
+unfoldable pub varNumber : List ℕ → ℕ → ℕ → ℕ → ℕ
+varNumber f k n o = first (carriedOf f o ∷ variableOf f k o .fault ∷ unless 11 (isAt f (o + 52) (pos n)) ∷ [])
+
+-- "VDR: VXRhead, next": its index chain begins at 20
+abbrev pub intoIndex : List ℕ → ℕ → ℕ → ℕ → ℕ → W.Walk
+intoIndex f k n greatest o =
+    Chain (record { kind = k; vdr = o; place = n; greatest = max (afterAt f (o + 16)) greatest }) (o + 20) 0 0 false
+
+abbrev pub varsOver : List ℕ → ℕ → ℕ → ℕ → T.Turn
+varsOver f k n greatest = overBy f (varsTally f k n greatest) (afterVars f k)
+
+abbrev pub varTaken : List ℕ → ℕ → ℕ → ℕ → ℕ → T.Turn
+varTaken f k n greatest o = takes 0 o (typeNumber f o (pos k)) (varNumber f k n o) (intoIndex f k n greatest o)
+
+-- ---- an index chain. "VXRtail is the last VXR, or 0 if there is none; else 11. Then MaxRec is -1 or lies in some used entry's range; else 12"
+unfoldable pub chainTally : List ℕ → ℕ → ℕ → Bool → ℕ
+chainTally f v last covered = first (unless 11 (isAt f (v + 24) (pos last)) ∷ unless 12 (isAt f (v + 16) (negsuc 0) || covered) ∷ [])
+
+abbrev pub chainOver : List ℕ → Var → ℕ → Bool → T.Turn
+chainOver f u last covered =
+    cond (ltb (endOf f) (u .vdr + 28)) (End 20)
+    (Over (chainTally f (u .vdr) last covered) (Vars (u .kind) (u .vdr + 8) (u .place + 1) (u .greatest)))
+
+-- "VXR: each used offset, next": entry i, or where there are no more the link to the next VXR
+abbrev pub entered : List ℕ → Var → ℕ → ℕ → ℕ → Bool → W.Walk
+entered f u x i floor covered = cond (ltb i (usedAt f x)) (AtEntry u x i floor covered) (Chain u (x + 8) x floor covered)
+
+abbrev pub vxrTaken : List ℕ → Var → ℕ → Bool → ℕ → T.Turn
+vxrTaken f u floor covered o = takes 0 o (typeNumber f o (pos 6)) (vxrRule f o) (entered f u o 0 floor covered)
+
+-- MaxRec of the VDR v lies in an entry's range
+abbrev pub covers : List ℕ → ℕ → Entry → Bool
+covers f v e = atLeast f (v + 16) (pos 0) && (leb (e .first) (natAt f (v + 16)) && leb (natAt f (v + 16)) (e .last))
+
+-- the VVR's rule, with the record bytes of the variable; 20 if the VDR no longer keeps its rule
+abbrev pub valuesNumber : List ℕ → Variable → Entry → ℕ
+valuesNumber f v e = cond (eqb (v .fault) 0) (vvrRule f (e .link) (e .last - e .first + 1) (v .bytes)) 20
+
+abbrev pub entryRefused : Entry → ℕ → ℕ → T.Turn
+entryRefused e typed late = Take (e .fault) (e .link) typed late Start
+
+abbrev pub entryTurn : List ℕ → Var → ℕ → ℕ → Bool → Entry → T.Turn
+entryTurn f u x i covered e =
+    takes (e .fault) (e .link) (typeNumber f (e .link) (pos 7)) (valuesNumber f (variableOf f (u .kind) (u .vdr)) e)
+    (entered f u x (i + 1) (e .last + 1) (covered || covers f (u .vdr) e))
+
+-- ---- attributes: NumAttr 28; an attribute's g/r entries are counted at 24, its z entries at 40, the maximum behind the count
+unfoldable pub attrNumber : List ℕ → ℕ → ℕ → ℕ
+attrNumber f n o = first (adrRule f o ∷ unless 11 (isAt f (o + 20) (pos n)) ∷ [])
+
+abbrev pub attrsOver : List ℕ → ℕ → T.Turn
+attrsOver f n = overBy f (unless 11 (isAt f (gdrAt f + 28) (pos n))) (Unused (gdrAt f + 44) 0)
+
+abbrev pub attrTaken : List ℕ → ℕ → ℕ → T.Turn
+attrTaken f n o = takes 0 o (typeNumber f o (pos 4)) (attrNumber f n o) (Entries 5 o n (o + 12) 0 0)
+
+abbrev pub tallyPlace : ℕ → ℕ
+tallyPlace k = cond (eqb k 9) 40 24
+
+unfoldable pub entriesTally : List ℕ → ℕ → ℕ → ℕ → ℕ → ℕ
+entriesTally f k a n greatest =
+    unless 11 (isAt f (a + tallyPlace k) (pos n) && isAt f (a + tallyPlace k + 4) (before greatest))
+
+-- "ADR: AgrEDR head, AzEDR head, next" at 12, 36, 8
+abbrev pub afterEntries : ℕ → ℕ → ℕ → W.Walk
+afterEntries k a n = cond (eqb k 9) (Attrs (a + 8) (n + 1)) (Entries 9 a n (a + 36) 0 0)
+
+-- the AEDR's rule; "an entry's Num is its attribute's"
+unfoldable pub entryNumber : List ℕ → ℕ → ℕ → ℕ
+entryNumber f a o = first (aedrRule f o ∷ unless 11 (sameAt f (o + 12) (a + 20)) ∷ [])
+
+abbrev pub entryTaken : List ℕ → ℕ → ℕ → ℕ → ℕ → ℕ → ℕ → T.Turn
+entryTaken f k a n e greatest o =
+    takes 0 o (typeNumber f o (pos k)) (entryNumber f a o) (Entries k a n (o + 8) (e + 1) (max (afterAt f (o + 20)) greatest))
+
+-- ---- unused records: "a UIR's previous is its predecessor, 0 for the first"
+unfoldable pub unusedNumber : List ℕ → ℕ → ℕ → ℕ
+unusedNumber f b o = first (uirRule f o ∷ unless 11 (isAt f (o + 12) (pos b)) ∷ [])
+
+abbrev pub unusedTaken : List ℕ → ℕ → ℕ → T.Turn
+unusedTaken f b o = takes 0 o (typeNumber f o (negsuc 0)) (unusedNumber f b o) (Unused (o + 8) o)
+
+-- THE WALK, a case for each kind of link
+unfoldable pub turnOf : List ℕ → W.Walk → T.Turn
+turnOf f Start =
+    cond (leb 20 (endOf f)) (takes 0 (gdrAt f) (typeNumber f (gdrAt f) (pos 2)) 0 (Vars 3 (gdrAt f + 8) 0 0)) (End 20)
+turnOf f (Vars k p n greatest) = followed f p (varsOver f k n greatest) (varTaken f k n greatest)
+turnOf f (Chain u p x floor covered) = followed f p (chainOver f u x covered) (vxrTaken f u floor covered)
+turnOf f (AtEntry u x i floor covered) = entryTurn f u x i covered (entryOf f x i floor)
+turnOf f (Attrs p n) = followed f p (attrsOver f n) (attrTaken f n)
+turnOf f (Entries k a n p e greatest) =
+    cond (ltb (endOf f) (a + 48) || ltb 2147483646 e) (End 20)
+    (followed f p (Over (entriesTally f k a e greatest) (afterEntries k a n)) (entryTaken f k a n e greatest))
+turnOf f (Unused p b) = followed f p (End 0) (unusedTaken f b)
