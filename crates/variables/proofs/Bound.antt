@@ -1,5 +1,5 @@
 -- The place of right indices lies below the number of values that the varying dimensions make. Assumes nothing.
-use mathlib.Core.Path.{_≡_, refl, sym, ap, _∙_}
+use mathlib.Core.Path.{_≡_, refl, sym}
 use mathlib.Core.Bool.{Bool, true, false, cond, _&&_, true≢false}
 use mathlib.Core.List.{List}
 use Prim.Native.Nat.{ℕ, zero, suc, _+_, _-_, _*_, _≤_, _<_}
@@ -18,11 +18,11 @@ use Rattle.variables.specs.Place.{slower, moved, placeAfter, sizeOf, var
 use Rattle.variables.proofs.Capped.{capped-small}
 use Rattle.variables.proofs.Product.{product, product-same, product-first, product-back}
 
-both-left : (a b : Bool) → (a && b) ≡ true → a ≡ true
+pub both-left : (a b : Bool) → (a && b) ≡ true → a ≡ true
 both-left true b e = refl
 both-left false b e = e
 
-both-right : (a b : Bool) → (a && b) ≡ true → b ≡ true
+pub both-right : (a b : Bool) → (a && b) ≡ true → b ≡ true
 both-right true b e = e
 both-right false b e = absurd (true≢false (sym e))
 

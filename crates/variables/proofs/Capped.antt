@@ -2,13 +2,17 @@
 use mathlib.Core.Path.{_≡_, refl, sym, ap, _∙_}
 use mathlib.Core.Bool.{Bool, true, false}
 use mathlib.Core.List.{List}
-use Prim.Native.Nat.{ℕ, zero, suc, _+_, _-_, _*_, _≤_, _<_, min}
+use Prim.Native.Nat.{ℕ, zero, suc, _+_, _-_, _*_, _≤_, _<_}
 use native.Mathlib.Nat.{mul-le-mul, mul-zero, mul-one, mul-assoc, le-refl, add-zero}
 use native.Mathlib.Omega.{arith}
 use lib.Dec.{ltb, leb}
 use borrow.Author.Tests.{leb-true, leb-false, lt-ltb, le-ltb}
 use Rattle.variables.specs.Limit.{capped}
 use Rattle.variables.specs.Vdr.{factorOf, spread}
+
+-- numbers up to the limit have a product that 64 bits hold
+pub within : (a b : ℕ) → a ≤ 2147483648 → b ≤ 2147483648 → a * b ≤ 4611686018427387904
+within a b h k = mul-le-mul {n₂ = 2147483648} {m₂ = 2147483648} h k
 
 pub capped-small : (a : ℕ) → a ≤ 2147483648 → capped a ≡ a
 unfolding capped
@@ -30,7 +34,7 @@ module _ (n r : ℕ) (e : r ≡ capped n) where
 
 -- a number that was capped counts on as the number itself
 pub capped-on : (a b c : ℕ) → capped (capped a * b + c) ≡ capped (a * b + c)
-capped-on a zero c = rw (mul-zero, mul-zero)
+capped-on a zero c = simp mul-zero
 capped-on a (suc b) c = go (leb a 2147483648) refl
   where
     large : (k : ℕ) → 2147483648 ≤ k → capped (k * suc b + c) ≡ 2147483648
@@ -45,7 +49,7 @@ capped-on a (suc b) c = go (leb a 2147483648) refl
         rw (capped-large a h) (large 2147483648 (le-refl 2147483648) ∙ sym (large a h))
 
 pub capped-times : (a b : ℕ) → capped (capped a * b) ≡ capped (a * b)
-capped-times a b = rw (add-zero, add-zero) at (capped-on a b 0)
+capped-times a b = simp add-zero at (capped-on a b 0)
 
 module _ (f : List ℕ) (n p q : ℕ) where
   -- the first dimension, and the rest

@@ -2,4 +2,5 @@ pub mod Capped
 pub mod Places
 pub mod Product
 pub mod Bound
+pub mod Right
 pub mod Known

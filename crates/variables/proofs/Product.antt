@@ -1,7 +1,7 @@
 -- Products of the first n of a row of numbers. Assumes nothing.
-use mathlib.Core.Path.{_≡_, refl, sym, ap, _∙_}
-use Prim.Native.Nat.{ℕ, zero, suc, _+_, _-_, _*_, _≤_, _<_}
-use native.Mathlib.Nat.{mul-comm, mul-assoc, mul-one, sub-self}
+use mathlib.Core.Path.{_≡_, refl, ap}
+use Prim.Native.Nat.{ℕ, zero, suc, _-_, _*_, _<_}
+use native.Mathlib.Nat.{mul-comm, mul-assoc, sub-self}
 use native.Mathlib.Omega.{arith}
 
 abbrev pub product : (ℕ → ℕ) → ℕ → ℕ

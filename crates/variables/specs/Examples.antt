@@ -3,14 +3,14 @@ use mathlib.Core.Path.{_≡_, refl}
 use mathlib.Core.Bool.{Bool, true, false, cond}
 use mathlib.Core.List.{List, [], _∷_, _++_}
 use Prim.Native.Nat.{ℕ}
-use lib.IntN.{ℤ, pos}
+use lib.IntN.{pos}
 use Rattle.format.specs.Bytes.{bigAt}
 use Rattle.format.specs.Fields.{endOf, fieldAt, isAt, natAt}
 use Rattle.variables.specs.Limit.{capped}
 use Rattle.variables.specs.Place.{placeAfter, elementPlace, indicesRight, rowFits, placed, placeOf}
 use Rattle.variables.specs.declared.vdr.Variable.{Variable}
 use Rattle.variables.specs.declared.place.Place.{Place}
-use Rattle.variables.specs.declared.place.Place.the-variants.{At, Wrong}
+use Rattle.variables.specs.declared.place.Place.the-variants.{At}
 
 -- a field of one byte's number, and a variance: "A variance is -1 or 0"
 abbrev small : ℕ → List ℕ

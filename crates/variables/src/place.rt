@@ -5,7 +5,7 @@ ghost use lib.ListN.{length};
 ghost use lib.IntN.{negsuc};
 ghost use Rattle.format.specs.Fields.{isAt, natAt, natOr};
 ghost use Rattle.variables.specs.Limit.{capped};
-ghost use Rattle.variables.specs.Place.{slower, moved, elementPlace, indexRight, indicesRight, rowFits, placed, placeOf};
+ghost use Rattle.variables.specs.Place.{slower, moved, elementPlace, indexRight, indicesRight, rowFits, placeOf};
 use crate::limit;
 use crate::vdr::Layout;
 use crate::vdr::Variable;

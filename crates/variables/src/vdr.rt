@@ -2,9 +2,8 @@
 ghost use mathlib.Core.Path.{_≡_};
 ghost use Prim.Native.Nat.{_+_, _*_, _≤_, _<_};
 ghost use lib.ListN.{length};
-ghost use Rattle.format.specs.Fields.{endOf};
 ghost use Rattle.variables.specs.Limit.{capped};
-ghost use Rattle.variables.specs.Vdr.{carriedOf, vdrFields, headOf, countPlace, countRight, layoutOf, layoutFits, valueBytes, factorOf, sizeExact, dimensionsRight, spread, recordBytes, vdrFault, dimensioned, variableOf};
+ghost use Rattle.variables.specs.Vdr.{carriedOf, vdrFields, headOf, countPlace, countRight, layoutOf, layoutFits, valueBytes, factorOf, sizeExact, dimensionsRight, recordBytes, vdrFault, dimensioned, variableOf};
 use crate::limit;
 use format::bytes;
 use format::fields;

@@ -1,9 +1,8 @@
 use Prim.Native.Nat.{_≤_}
 use mathlib.Core.Path.{sym}
-use native.Mathlib.Nat.{mul-le-mul}
 use mir.Syntax.{w64}
 use Rattle.format.proofs.SignedTests.{nat-is}
-use Rattle.variables.proofs.Capped.{capped-small}
+use Rattle.variables.proofs.Capped.{within, capped-small}
 use native.Mathlib.Omega.{arith}
 use borrow.Author.Needs.{needs}
 use Rattle.variables.proofs.place.next_place.Statement.{statement}
@@ -22,7 +21,7 @@ mul-cap : tie.Need-mul-cap
 mul-cap c =
     let a = c .before .before .before .before in
     let h : c .nat-at .result ≤ 2147483648 = omega (arith, c .nat-at .ensures .1) in
-    omega (arith, mul-le-mul {n₂ = 2147483648} {m₂ = 2147483648} (a .pre .2) h)
+    omega (arith, within (a .args .place) (c .nat-at .result) (a .pre .2) h)
 
 nat-of-requires : tie.Need-nat-of-requires
 nat-of-requires c κs = search needs
@@ -31,7 +30,7 @@ add-cap : tie.Need-add-cap
 add-cap c =
     let a = c .before .before .before .before .before in
     let h : c .before .nat-at .result ≤ 2147483648 = omega (arith, c .before .nat-at .ensures .1) in
-    omega (arith, mul-le-mul {n₂ = 2147483648} {m₂ = 2147483648} (a .pre .2) h, c .nat-of .ensures .1)
+    omega (arith, within (a .args .place) (c .before .nat-at .result) (a .pre .2) h, c .nat-of .ensures .1)
 
 cap-requires : tie.Need-cap-requires
 cap-requires c κs = search needs

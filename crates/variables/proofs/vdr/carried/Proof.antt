@@ -1,4 +1,4 @@
-use borrow.Author.Tests.{lt-ltb, le-ltb, lt-leb, le-leb}
+use borrow.Author.Tests.{lt-ltb, le-ltb, le-leb}
 use Rattle.variables.specs.Vdr.{carriedOf}
 use borrow.Author.Needs.{needs}
 use Rattle.variables.proofs.vdr.carried.Statement.{statement}
@@ -12,21 +12,21 @@ add-if1 c = search needs
 
 returns : tie.Need-returns
 unfolding carriedOf
-returns c = simp (lt-ltb _ _ (c .if1 .taken), lt-leb _ _ (c .if1 .taken), ← c .before .end .ensures .0)
+returns c = simp (lt-ltb _ _ (c .if1 .taken), ← c .before .end .ensures .0)
 
 nat-at-requires : tie.Need-nat-at-requires
 nat-at-requires c κs = search needs
 
 returns-2 : tie.Need-returns-2
 unfolding carriedOf
-returns-2 c = simp (lt-ltb _ _ (c .if2 .taken), lt-leb _ _ (c .if2 .taken), ← c .before .nat-at .ensures .0, le-ltb _ _ (c .before .before .if1 .left), le-leb _ _ (c .before .before .if1 .left), ← c .before .before .before .end .ensures .0)
+returns-2 c = simp (lt-ltb _ _ (c .if2 .taken), ← c .before .nat-at .ensures .0, le-ltb _ _ (c .before .before .if1 .left), ← c .before .before .before .end .ensures .0)
 
 add-if3 : tie.Need-add-if3
 add-if3 c = search needs
 
 returns-3 : tie.Need-returns-3
 unfolding carriedOf
-returns-3 c = simp (lt-ltb _ _ (c .if3 .taken), lt-leb _ _ (c .if3 .taken), le-ltb _ _ (c .before .if2 .left), le-leb _ _ (c .before .if2 .left), ← c .before .before .nat-at .ensures .0, le-ltb _ _ (c .before .before .before .if1 .left), le-leb _ _ (c .before .before .before .if1 .left), ← c .before .before .before .before .end .ensures .0)
+returns-3 c = simp (lt-ltb _ _ (c .if3 .taken), le-ltb _ _ (c .before .if2 .left), ← c .before .before .nat-at .ensures .0, le-ltb _ _ (c .before .before .before .if1 .left), ← c .before .before .before .before .end .ensures .0)
 
 add-bit : tie.Need-add-bit
 add-bit c = search needs
@@ -36,11 +36,11 @@ bit-requires c κs = search needs
 
 returns-4 : tie.Need-returns-4
 unfolding carriedOf
-returns-4 c = simp (c .if4 .taken, ← c .before .bit .ensures, le-ltb _ _ (c .before .before .if3 .left), le-leb _ _ (c .before .before .if3 .left), le-ltb _ _ (c .before .before .before .if2 .left), le-leb _ _ (c .before .before .before .if2 .left), ← c .before .before .before .before .nat-at .ensures .0, le-ltb _ _ (c .before .before .before .before .before .if1 .left), le-leb _ _ (c .before .before .before .before .before .if1 .left), ← c .before .before .before .before .before .before .end .ensures .0)
+returns-4 c = simp (c .if4 .taken, ← c .before .bit .ensures, le-ltb _ _ (c .before .before .if3 .left), le-ltb _ _ (c .before .before .before .if2 .left), ← c .before .before .before .before .nat-at .ensures .0, le-ltb _ _ (c .before .before .before .before .before .if1 .left), ← c .before .before .before .before .before .before .end .ensures .0)
 
 returns-5 : tie.Need-returns-5
 unfolding carriedOf
-returns-5 c = simp (c .if4 .left, ← c .before .bit .ensures, le-ltb _ _ (c .before .before .if3 .left), le-leb _ _ (c .before .before .if3 .left), le-ltb _ _ (c .before .before .before .if2 .left), le-leb _ _ (c .before .before .before .if2 .left), ← c .before .before .before .before .nat-at .ensures .0, le-ltb _ _ (c .before .before .before .before .before .if1 .left), le-leb _ _ (c .before .before .before .before .before .if1 .left), ← c .before .before .before .before .before .before .end .ensures .0)
+returns-5 c = simp (c .if4 .left, ← c .before .bit .ensures, le-ltb _ _ (c .before .before .if3 .left), le-ltb _ _ (c .before .before .before .if2 .left), ← c .before .before .before .before .nat-at .ensures .0, le-ltb _ _ (c .before .before .before .before .before .if1 .left), ← c .before .before .before .before .before .before .end .ensures .0)
 
 pub carried-spec : {M : Type 1} → statement M
 carried-spec =

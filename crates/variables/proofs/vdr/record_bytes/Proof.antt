@@ -1,7 +1,6 @@
-use native.Mathlib.Nat.{mul-le-mul}
 use mathlib.Core.Path.{_≡_, sym, _∙_}
 use Rattle.variables.specs.Vdr.{spread, recordBytes}
-use Rattle.variables.proofs.Capped.{spread-more, spread-none, capped-times}
+use Rattle.variables.proofs.Capped.{within, spread-more, spread-none, capped-times}
 use native.Mathlib.Omega.{arith}
 use Prim.Native.Nat.{_+_, _*_, _≤_}
 use lib.ListN.{length}
@@ -32,7 +31,7 @@ mul-cap : tie.Need-mul-cap Inv-loop μ-loop
 mul-cap c =
     let l = c .before .before .loop in
     let h : c .factor .result ≤ 2147483648 = omega (arith, c .factor .ensures .1) in
-    omega (arith, mul-le-mul {n₂ = 2147483648} {m₂ = 2147483648} (l .inv .2) h)
+    omega (arith, within (l .acc) (c .factor .result) (l .inv .2) h)
 
 cap-requires-2 : tie.Need-cap-requires-2 Inv-loop μ-loop
 cap-requires-2 c κs = search needs

@@ -1,0 +1,127 @@
+// Chapter 4: where each value of a record stands, as offsets from the record's start, the last index running fastest.
+use crate::store;
+use variables::limit;
+use variables::place;
+use variables::place::Place;
+use variables::vdr;
+use variables::vdr::Variable;
+
+// The fields of a zVDR at the file's start, of a size, for values of a data type in n dimensions.
+fn describe(f: &mut [u8], size: u32, data: u32, elements: u32, n: u32) {
+    store::put(f, 0, size);
+    store::put(f, 4, 8);
+    store::put(f, 12, data);
+    store::put(f, 28, 1);
+    store::put(f, 48, elements);
+    store::put(f, 128, n);
+}
+
+// A variance: -1 for true, 0 for false.
+fn variance(varies: bool) -> u32 {
+    if varies { 0xffff_ffff } else { 0 }
+}
+
+// The bytes from the record's start on.
+fn offset(place: u64, value: u64) -> u64 {
+    limit::cap(place) * limit::cap(value)
+}
+
+// The offset of the value of the given indices.
+fn shown(f: &[u8], v: Variable, row: bool, indices: &[i64]) {
+    let p = place::place_of(f, v, row, indices);
+    io::write_all(1, b" ");
+    match p {
+        Place::At(n) => {
+            io::print_decimal(1, offset(n, v.value));
+        }
+        Place::Wrong => {
+            io::write_all(1, b"refused");
+        }
+    }
+}
+
+// What a line begins with: the bytes of a record, and the majority.
+fn heading(v: Variable, row: bool) {
+    io::write_all(1, b", ");
+    io::print_decimal(1, v.bytes);
+    io::write_all(1, b" bytes, ");
+    if row {
+        io::write_all(1, b"row majority:");
+    } else {
+        io::write_all(1, b"column majority:");
+    }
+}
+
+// The k-th value of dimensions of 3 and 5, or of 2, 3 and 4.
+fn value(f: &[u8], v: Variable, row: bool, k: u64) {
+    let n = v.dimensions.count;
+    if n == 2 {
+        let plane = [(k / 5) as i64, (k % 5) as i64];
+        shown(f, v, row, &plane);
+    } else {
+        let solid = [(k / 12) as i64, (k / 4 % 3) as i64, (k % 4) as i64];
+        shown(f, v, row, &solid);
+    }
+}
+
+// Each of n values.
+fn values(f: &[u8], v: Variable, row: bool, n: u64) {
+    heading(v, row);
+    let mut k = 0;
+    while k < n {
+        value(f, v, row, k);
+        k += 1;
+    }
+}
+
+// A variance as it is written.
+fn truth(varies: bool) {
+    if varies {
+        io::write_all(1, b"TRUE");
+    } else {
+        io::write_all(1, b"FALSE");
+    }
+}
+
+fn plane_line(f: &[u8], v: Variable, first: bool, second: bool, row: bool) {
+    io::write_all(1, b"3,5 ");
+    truth(first);
+    io::write_all(1, b",");
+    truth(second);
+    values(f, v, row, 15);
+    io::write_all(1, b"\n");
+}
+
+// Single floats in dimensions of 3 and 5.
+pub fn plane(first: bool, second: bool) {
+    let mut f = [0u8; 148];
+    describe(&mut f, 148, 21, 1, 2);
+    store::put(&mut f, 132, 3);
+    store::put(&mut f, 136, 5);
+    store::put(&mut f, 140, variance(first));
+    store::put(&mut f, 144, variance(second));
+    let v = vdr::variable_at(&f, 8, 0);
+    plane_line(&f, v, first, second, true);
+    plane_line(&f, v, first, second, false);
+}
+
+fn solid_line(f: &[u8], v: Variable, row: bool) {
+    io::write_all(1, b"2,3,4 TRUE,FALSE,TRUE");
+    values(f, v, row, 24);
+    io::write_all(1, b"\n");
+}
+
+// Five characters in dimensions of 2, 3 and 4, of which the second does not vary.
+pub fn solid() {
+    let mut f = [0u8; 156];
+    describe(&mut f, 156, 51, 5, 3);
+    store::put(&mut f, 132, 2);
+    store::put(&mut f, 136, 3);
+    store::put(&mut f, 140, 4);
+    store::put(&mut f, 144, variance(true));
+    store::put(&mut f, 148, variance(false));
+    store::put(&mut f, 152, variance(true));
+    let v = vdr::variable_at(&f, 8, 0);
+    solid_line(&f, v, true);
+    solid_line(&f, v, false);
+}

@@ -1,0 +1,85 @@
+// Section 2.7: a VXR of ten entries, two of them used.
+use crate::store;
+use format::fields;
+use records::index;
+
+// Thirty fields that hold -1: no entry is used.
+fn unused(f: &mut [u8]) {
+    let mut i = 0;
+    while i < 30 {
+        store::put(f, 20 + 4 * i, 0xffff_ffff);
+        i += 1;
+    }
+}
+
+fn header(f: &mut [u8]) {
+    store::put(f, 0, 140);
+    store::put(f, 4, 6);
+    store::put(f, 12, 10);
+    store::put(f, 16, 2);
+    unused(f);
+}
+
+fn used_entries(f: &mut [u8]) {
+    store::put(f, 20, 0);
+    store::put(f, 24, 100);
+    store::put(f, 60, 99);
+    store::put(f, 64, 149);
+    store::put(f, 100, 0xa400);
+    store::put(f, 104, 0xb554);
+}
+
+// Entry i, counted from 0, whose range begins at floor or above; answers where the next may begin.
+fn entry(f: &[u8], i: u32, floor: u32) -> u32 {
+    let e = index::entry_at(f, 0, i, floor);
+    io::write_all(1, b"VXR entry ");
+    io::print_decimal(1, i as u64 + 1);
+    if e.fault != 0 {
+        io::write_all(1, b": refused\n");
+        return floor;
+    }
+    io::write_all(1, b": ");
+    io::print_decimal(1, e.first as u64);
+    io::write_all(1, b"..");
+    io::print_decimal(1, e.last as u64);
+    io::write_all(1, b" at 0x");
+    io::print_hex(1, e.link as u64, 8);
+    io::write_all(1, b"\n");
+    std::num::wrapping_add_u32(e.last, 1)
+}
+
+fn entries(f: &[u8], used: u32) {
+    let mut i = 0;
+    let mut floor = 0;
+    while i < used {
+        floor = entry(f, i, floor);
+        i += 1;
+    }
+}
+
+// The fields of a VXR at the file's start, and its entries.
+fn shown(f: &[u8]) {
+    if f.len() < 20 {
+        return;
+    }
+    if index::vxr(f, 0) != 0 {
+        io::write_all(1, b"VXR refused\n");
+        return;
+    }
+    let used = fields::nat_at(f, 16);
+    io::write_all(1, b"VXR of ");
+    io::print_decimal(1, fields::nat_at(f, 0) as u64);
+    io::write_all(1, b" bytes: ");
+    io::print_decimal(1, used as u64);
+    io::write_all(1, b" of ");
+    io::print_decimal(1, fields::nat_at(f, 12) as u64);
+    io::write_all(1, b" entries used\n");
+    entries(f, used);
+}
+
+pub fn example() {
+    let mut f = [0u8; 140];
+    header(&mut f);
+    used_entries(&mut f);
+    shown(&f);
+}
