@@ -1,7 +1,7 @@
 // A step of the walk.
 ghost use mathlib.Core.Path.{_≡_};
 ghost use Rattle.walk.specs.Walk.{turnOf};
-ghost use Rattle.walk.specs.Bounds.{Fits};
+ghost use Rattle.walk.specs.Bounds.{Within};
 use crate::attrs;
 use crate::index;
 use crate::places::Turn;
@@ -10,7 +10,7 @@ use crate::vars;
 
 // What the next link of the walk says.
 pub fn turn(f: &[u8], w: Walk) -> Turn
-    requires { ⌜ Fits w ⌝ }
+    requires { ⌜ Within w ⌝ }
     ensures { λ r. ⌜ r ≡ turnOf (now (f .entry)) w ⌝ }
 {
     match w {

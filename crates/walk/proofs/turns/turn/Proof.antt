@@ -1,3 +1,4 @@
+use native.Mathlib.Omega.{arith}
 use mathlib.Core.Path.{_∙_, ap, sym}
 use Rattle.walk.specs.Walk.{turnOf}
 use borrow.Author.Needs.{needs}
@@ -20,13 +21,13 @@ enum-known-w-2 : tie.Need-enum-known-w-2
 enum-known-w-2 c = search needs
 
 chain-turn-requires : tie.Need-chain-turn-requires
-chain-turn-requires c κs = rw (c .before .w2 .given .1) at (c .before .before .before .before .pre)
+chain-turn-requires c κs = let s = (rw (c .before .w2 .given .1) at (c .before .before .before .before .pre)) .small in omega arith
 
 enum-known-w-3 : tie.Need-enum-known-w-3
 enum-known-w-3 c = search needs
 
 entry-turn-requires : tie.Need-entry-turn-requires
-entry-turn-requires c κs = rw (c .before .w3 .given .1) at (c .before .before .before .before .pre)
+entry-turn-requires c κs = let s = (rw (c .before .w3 .given .1) at (c .before .before .before .before .pre)) .small in omega arith
 
 enum-known-w-4 : tie.Need-enum-known-w-4
 enum-known-w-4 c = search needs
@@ -38,7 +39,7 @@ enum-known-w-5 : tie.Need-enum-known-w-5
 enum-known-w-5 c = search needs
 
 entries-turn-requires : tie.Need-entries-turn-requires
-entries-turn-requires c κs = rw (c .before .w5 .given .1) at (c .before .before .before .before .pre)
+entries-turn-requires c κs = let s = (rw (c .before .w5 .given .1) at (c .before .before .before .before .pre)) .small in omega arith
 
 enum-known-w-6 : tie.Need-enum-known-w-6
 enum-known-w-6 c = search needs

@@ -1,0 +1,112 @@
+-- The saved state: twelve numbers, their ranges, load and save; docs/STATE.md gives them in words. Assumes nothing.
+use Prim.Native.Nat.{ℕ, zero, suc, _+_, _-_}
+use mathlib.Core.Bool.{Bool, true, false, cond, _&&_, _||_}
+use mathlib.Core.List.{List, [], _∷_}
+use lib.ListN.{length, getD}
+use lib.Dec.{ltb, leb, eqb}
+use Rattle.walk.specs.declared.places.Var.{Var}
+use Rattle.walk.specs.declared.places.Walk as W
+use Rattle.walk.specs.declared.places.Walk.the-variants.{Start, Vars, Chain, Entry, Attrs, Entries, Unused}
+use Rattle.checker.specs.declared.state.Stage.{Stage}
+use Rattle.checker.specs.declared.state.Stage.the-variants.{Fresh, Sweep, Walking, Done, Strange}
+use Rattle.checker.specs.declared.state.State.{State}
+use Rattle.checker.specs.Step.{done}
+
+-- how many numbers a saved state has
+abbrev pub stateLength : ℕ
+stateLength = 12
+
+abbrev pub bit : Bool → ℕ
+bit b = cond b 1 0
+
+-- verdict + 1 or 0, length, phase, kind, link, count, greatest, owner, before, entry, floor, covered
+abbrev pub saveWalk : ℕ → W.Walk → List ℕ
+saveWalk l Start = 0 ∷ l ∷ 2 ∷ 0 ∷ 0 ∷ 0 ∷ 0 ∷ 0 ∷ 0 ∷ 0 ∷ 0 ∷ 0 ∷ []
+saveWalk l (Vars k p n g) = 0 ∷ l ∷ 3 ∷ k ∷ p ∷ n ∷ g ∷ 0 ∷ 0 ∷ 0 ∷ 0 ∷ 0 ∷ []
+saveWalk l (Chain u p x floor c) = 0 ∷ l ∷ 4 ∷ u .kind ∷ p ∷ u .place ∷ u .greatest ∷ u .vdr ∷ x ∷ 0 ∷ floor ∷ bit c ∷ []
+saveWalk l (Entry u x i floor c) = 0 ∷ l ∷ 5 ∷ u .kind ∷ 0 ∷ u .place ∷ u .greatest ∷ u .vdr ∷ x ∷ i ∷ floor ∷ bit c ∷ []
+saveWalk l (Attrs p n) = 0 ∷ l ∷ 6 ∷ 0 ∷ p ∷ n ∷ 0 ∷ 0 ∷ 0 ∷ 0 ∷ 0 ∷ 0 ∷ []
+saveWalk l (Entries k a n p e g) = 0 ∷ l ∷ 7 ∷ k ∷ p ∷ n ∷ 0 ∷ a ∷ 0 ∷ e ∷ g ∷ 0 ∷ []
+saveWalk l (Unused p b) = 0 ∷ l ∷ 8 ∷ 0 ∷ p ∷ 0 ∷ 0 ∷ 0 ∷ b ∷ 0 ∷ 0 ∷ 0 ∷ []
+
+abbrev pub saveStage : ℕ → Stage → List ℕ
+saveStage l Fresh = 0 ∷ l ∷ 0 ∷ 0 ∷ 0 ∷ 0 ∷ 0 ∷ 0 ∷ 0 ∷ 0 ∷ 0 ∷ 0 ∷ []
+saveStage l (Sweep o) = 0 ∷ l ∷ 1 ∷ 0 ∷ o ∷ 0 ∷ 0 ∷ 0 ∷ 0 ∷ 0 ∷ 0 ∷ 0 ∷ []
+saveStage l (Walking w) = saveWalk l w
+saveStage l (Done v) = suc v ∷ l ∷ 0 ∷ 0 ∷ 0 ∷ 0 ∷ 0 ∷ 0 ∷ 0 ∷ 0 ∷ 0 ∷ 0 ∷ []
+saveStage l Strange = 0 ∷ l ∷ 9 ∷ 0 ∷ 0 ∷ 0 ∷ 0 ∷ 0 ∷ 0 ∷ 0 ∷ 0 ∷ 0 ∷ []
+
+unfoldable pub save : State → List ℕ
+save s = saveStage (s .length) (s .stage)
+
+-- ---- ranges
+-- a length that an opening notes; an offset; where a link stands; what is counted; a number + 1
+abbrev pub lengthRange : ℕ → Bool
+lengthRange n = leb 372 n && leb n 2147483647
+
+abbrev pub offsetRange : ℕ → Bool
+offsetRange o = leb o 2147483647
+
+abbrev pub linkRange : ℕ → Bool
+linkRange p = leb p 2147483711
+
+abbrev pub countRange : ℕ → Bool
+countRange n = leb n 1073741823
+
+abbrev pub aboveRange : ℕ → Bool
+aboveRange n = leb n 2147483648
+
+abbrev pub varRange : Var → Bool
+varRange u = (eqb (u .kind) 3 || eqb (u .kind) 8) && offsetRange (u .vdr) && countRange (u .place) && aboveRange (u .greatest)
+
+abbrev pub walkRange : W.Walk → Bool
+walkRange Start = true
+walkRange (Vars k p n g) = (eqb k 3 || eqb k 8) && linkRange p && countRange n && aboveRange g
+walkRange (Chain u p x floor c) = varRange u && linkRange p && offsetRange x && aboveRange floor
+walkRange (Entry u x i floor c) = varRange u && offsetRange x && countRange i && aboveRange floor
+walkRange (Attrs p n) = linkRange p && countRange n
+walkRange (Entries k a n p e g) = (eqb k 5 || eqb k 9) && offsetRange a && countRange n && linkRange p && countRange e && aboveRange g
+walkRange (Unused p b) = linkRange p && offsetRange b
+
+abbrev pub stageRange : ℕ → Stage → Bool
+stageRange l Fresh = eqb l 0
+stageRange l (Sweep o) = lengthRange l && leb 8 o && offsetRange o
+stageRange l (Walking w) = lengthRange l && walkRange w
+stageRange l (Done v) = false
+stageRange l Strange = false
+
+-- ---- load
+-- the stage that the numbers would be, by their phase; a number that has no place in a stage is not looked at here
+unfoldable pub stageBy : List ℕ → ℕ → Stage
+stageBy s phase =
+    let n : ℕ → ℕ = λ i. getD s i 0 in
+    let u : Var = record { kind = n 3; vdr = n 7; place = n 5; greatest = n 6 } in
+    cond (eqb phase 0) Fresh
+    (cond (eqb phase 1) (Sweep (n 4))
+    (cond (eqb phase 2) (Walking Start)
+    (cond (eqb phase 3) (Walking (Vars (n 3) (n 4) (n 5) (n 6)))
+    (cond (eqb phase 4) (Walking (Chain u (n 4) (n 8) (n 10) (eqb (n 11) 1)))
+    (cond (eqb phase 5) (Walking (Entry u (n 8) (n 9) (n 10) (eqb (n 11) 1)))
+    (cond (eqb phase 6) (Walking (Attrs (n 4) (n 5)))
+    (cond (eqb phase 7) (Walking (Entries (n 3) (n 7) (n 5) (n 4) (n 9) (n 10)))
+    (cond (eqb phase 8) (Walking (Unused (n 4) (n 8))) Strange))))))))
+
+abbrev pub sameNumbers : List ℕ → List ℕ → Bool
+sameNumbers [] [] = true
+sameNumbers [] (y ∷ ys) = false
+sameNumbers (x ∷ xs) [] = false
+sameNumbers (x ∷ xs) (y ∷ ys) = eqb x y && sameNumbers xs ys
+
+-- the numbers are those of that stage: each in its range, and those without a place in it 0
+abbrev pub checked : List ℕ → ℕ → Stage → Stage
+checked s l g = cond (stageRange l g && sameNumbers (saveStage l g) s) g Strange
+
+-- "finished": the verdict number alone says so, 0 to 14 and 20
+abbrev pub verdictRange : ℕ → Bool
+verdictRange v = leb v 14 || eqb v 20
+
+-- twelve numbers as a state
+unfoldable pub load : List ℕ → State
+load s =
+    cond (eqb (getD s 0 0) 0) (record { length = getD s 1 0; stage = checked s (getD s 1 0) (stageBy s (getD s 2 0)) })
+    (cond (verdictRange (getD s 0 0 - 1)) (done (getD s 0 0 - 1)) (record { length = getD s 1 0; stage = Strange }))

@@ -1,0 +1,2 @@
+// The check: one step, grants of steps, and the saved state.
+pub mod state;

@@ -1,0 +1,206 @@
+-- The numbers of a place of the walk stay in their ranges. Assumes nothing.
+use mathlib.Core.Path.{_≡_, refl, ap}
+use mathlib.Core.Logic.{_⊎_, inl, inr}
+use mathlib.Core.Bool.{Bool, true, false, cond, _&&_, _||_}
+use mathlib.Core.List.{List, [], _∷_}
+use Prim.Native.Nat.{ℕ, zero, suc, _+_, _-_, _^_, _≤_, _<_, max}
+use native.Mathlib.Omega.{arith}
+use lib.Dec.{ltb, leb, eqb}
+use borrow.Author.Tests.{ltb-true, ltb-false, eqb-true}
+use lib.IntN.{pos, negsuc}
+use Rattle.format.specs.Bytes.{bigAt, signedOf}
+use Rattle.format.specs.Fields.{endOf, fieldAt, isAt, atLeast, natOr, natAt, afterAt, linkAt}
+use Rattle.records.specs.Opening.{gdrAt}
+use Rattle.records.specs.Index.{usedAt, entriesAt, firstPlace, lastPlace, offsetPlace, rangeRight, entryOf}
+use Rattle.records.specs.Attributes.{adrRule}
+use Rattle.records.specs.declared.index.Entry as E
+use Rattle.variables.specs.Vdr.{carriedOf, variableOf}
+use Rattle.walk.specs.Walk.{followed, gdrThere, takes, afterVars, varNumber, intoIndex, entered, covers, attrNumber, entriesTally, afterEntries, entryTaken, turnOf}
+use Rattle.walk.specs.declared.places.Var.{Var}
+use Rattle.walk.specs.declared.places.Walk as W
+use Rattle.walk.specs.declared.places.Walk.the-variants.{Start, Vars, Chain, Entry, Attrs, Entries, Unused}
+use Rattle.walk.specs.declared.places.Turn as T
+use Rattle.walk.specs.declared.places.Turn.the-variants.{Over, End, Take}
+use Rattle.format.proofs.SignedTests.{eqZ-true}
+use Rattle.walk.specs.Numbers.{first, unless}
+use Rattle.walk.specs.Bounds.{VarKind, SmallVar, Small, Within}
+
+pub cond-keeps : {A : Type 0} (P : A → Type 0) (b : Bool) {x y : A} → P x → P y → P (cond b x y)
+cond-keeps P true p q = p
+cond-keeps P false p q = q
+
+-- what holds of a link that cannot be read, of a zero link and of any other holds of every link
+pub link-keeps : (f : List ℕ) (P : T.Turn → Type 0) (p : ℕ) {x y : T.Turn} → P (End 20) → P x → P y
+    → P (cond (ltb (endOf f) (p + 4)) (End 20) (cond (eqb (linkAt f p) 0) x y))
+link-keeps f P p a b c = cond-keeps P (ltb (endOf f) (p + 4)) a (cond-keeps P (eqb (linkAt f p) 0) b c)
+
+pub first-zero : (v : ℕ) (vs : List ℕ) → first (v ∷ vs) ≡ 0 → (v ≡ 0) × (first vs ≡ 0)
+first-zero zero vs e = (refl, e)
+first-zero (suc v) vs e = absurd (omega arith)
+
+pub unless-zero : (v : ℕ) (b : Bool) → unless (suc v) b ≡ 0 → b ≡ true
+unless-zero v true e = refl
+unless-zero v false e = absurd (omega arith)
+
+-- ---- fields
+small-nat : (k n : ℕ) → k < 2147483648 → natOr k (signedOf 31 n) < 2147483648
+small-nat k n h = go (ltb n (2 ^ 31)) refl
+  where
+    go : (b : Bool) → ltb n (2 ^ 31) ≡ b → natOr k (cond b (pos n) (negsuc (2 ^ 32 - suc n))) < 2147483648
+    go true e = ltb-true n (2 ^ 31) e
+    go false e = h
+
+module _ (f : List ℕ) where
+  pub nat-small : (p : ℕ) → natAt f p < 2147483648
+  unfolding natAt fieldAt
+  nat-small p = small-nat 0 (bigAt f p 4) (omega arith)
+
+  pub link-small : (p : ℕ) → linkAt f p < 2147483648
+  unfolding linkAt fieldAt
+  link-small p = small-nat 1 (bigAt f p 4) (omega arith)
+
+  -- a field that is n is below 2 ^ 31
+  num-small : (p n : ℕ) → isAt f p (pos n) ≡ true → n ≤ 2147483647
+  unfolding isAt natAt
+  num-small p n e =
+      let z : natAt f p ≡ n = ap (natOr 0) (eqZ-true (fieldAt f p) (pos n) e) in
+      omega (arith, nat-small p)
+
+  gdr-small : gdrAt f < 2147483648
+  unfolding gdrAt
+  gdr-small = link-small 16
+
+  after-small : (p : ℕ) → afterAt f p ≤ 2147483648
+  unfolding afterAt
+  after-small p = cond-keeps (λ (n : ℕ). n ≤ 2147483648) (atLeast f p (pos 0)) (omega (arith, nat-small p)) (omega arith)
+
+  record LastSmall (e : E.Entry) : Type 0 where
+    last-small : e .last < 2147483648
+
+  entry-small : (x i floor : ℕ) → LastSmall (entryOf f x i floor)
+  unfolding entryOf
+  entry-small x i floor =
+      cond-keeps LastSmall (ltb (endOf f) (x + 20)) (record { last-small = omega arith })
+      (cond-keeps LastSmall (ltb (endOf f) (offsetPlace x (entriesAt f x) i + 4)) (record { last-small = omega arith })
+      (cond-keeps LastSmall (rangeRight f (firstPlace x i) (lastPlace x (entriesAt f x) i) floor)
+      (record { last-small = nat-small (lastPlace x (entriesAt f x) i) }) (record { last-small = omega arith })))
+
+abbrev pub NextWithin : T.Turn → Type 0
+NextWithin (Over v w) = Within w
+NextWithin (End v) = Unit {0}
+NextWithin (Take early t typed late w) = Within w
+
+pub record TurnWithin (t : T.Turn) : Type 0 where
+  pub next-within : NextWithin t
+
+module _ (f : List ℕ) where
+  over-within : {v : ℕ} (w : W.Walk) → Within w → TurnWithin (Over v w)
+  over-within w h = record { next-within = h }
+
+  end-within : {v : ℕ} → TurnWithin (End v)
+  end-within = record { next-within = tt }
+
+  takes-within : {early o typed late : ℕ} (w : W.Walk) → (late ≡ 0 → Within w) → TurnWithin (takes early o typed late w)
+  takes-within {early} {o} {typed} {late} w h = record { next-within = go (eqb early 0) (eqb late 0) refl }
+    where
+      go : (a b : Bool) → eqb late 0 ≡ b → Within (cond (a && b) w Start)
+      go true true e = h (eqb-true late 0 e)
+      go true false e = record { kinds = tt; small = tt }
+      go false b e = record { kinds = tt; small = tt }
+
+  after-vars : (t : ℕ) → Within (afterVars f t)
+  after-vars t =
+      cond-keeps Within (eqb t 8)
+      (record { kinds = tt; small = omega (arith, gdr-small f) })
+      (record { kinds = inr refl; small = omega (arith, gdr-small f) })
+
+  entered-within : (u : Var) (x i floor : ℕ) (c : Bool)
+      → VarKind (u .kind)
+      → SmallVar u
+      → x ≤ 2147483647
+      → floor ≤ 2147483648
+      → Within (entered f u x i floor c)
+  entered-within u x i floor c t v a d = go (ltb i (usedAt f x)) refl
+    where
+      go : (b : Bool) → ltb i (usedAt f x) ≡ b → Within (cond b (Entry u x i floor c) (Chain u (x + 8) x floor c))
+      go true e = record { kinds = t; small = (v, a, omega (arith, ltb-true i (usedAt f x) e, nat-small f (x + 16)), d) }
+      go false e = record { kinds = t; small = (v, omega arith, a, d) }
+
+  after-entries : (t a n : ℕ) → a ≤ 2147483647 → n ≤ 2147483647 → Within (afterEntries t a n)
+  after-entries t a n h e =
+      cond-keeps Within (eqb t 9) (record { kinds = tt; small = omega arith }) (record { kinds = inr refl; small = omega arith })
+
+  -- "Num is the place in its list": so the place of a record that is claimed is below 2 ^ 31
+  var-place : (k n o : ℕ) → varNumber f k n o ≡ 0 → n ≤ 2147483647
+  unfolding varNumber
+  var-place k n o e =
+      let num = unless 11 (isAt f (o + 52) (pos n)) in
+      let a = first-zero (carriedOf f o) (variableOf f k o .fault ∷ num ∷ []) e in
+      let b = first-zero (variableOf f k o .fault) (num ∷ []) (a .1) in
+      num-small f (o + 52) n (unless-zero 10 (isAt f (o + 52) (pos n)) (first-zero num [] (b .1) .0))
+
+  attr-place : (n o : ℕ) → attrNumber f n o ≡ 0 → n ≤ 2147483647
+  unfolding attrNumber
+  attr-place n o e =
+      let num = unless 11 (isAt f (o + 20) (pos n)) in
+      let a = first-zero (adrRule f o) (num ∷ []) e in
+      num-small f (o + 20) n (unless-zero 10 (isAt f (o + 20) (pos n)) (first-zero num [] (a .1) .0))
+
+module _ (f : List ℕ) where
+  -- a step of the walk stays within
+  pub within-turn : (w : W.Walk) → Within w → TurnWithin (turnOf f w)
+  unfolding turnOf followed
+  within-turn Start h =
+      cond-keeps TurnWithin (leb 20 (endOf f))
+      (takes-within f (Vars 3 (gdrAt f + 8) 0 0) (λ z. record { kinds = inl refl; small = omega (arith, gdr-small f) })) (end-within f)
+  within-turn (Vars t p n greatest) h =
+      let s = h .small in
+      link-keeps f TurnWithin p (end-within f)
+      (cond-keeps TurnWithin (gdrThere f) (over-within f (afterVars f t) (after-vars f t)) (end-within f))
+      (takes-within f (intoIndex f t n greatest (linkAt f p))
+      (λ z. record { kinds = h .kinds; small = omega (arith, link-small f p, after-small f (linkAt f p + 16), var-place f t n (linkAt f p) z) }))
+  within-turn (Chain u p x floor covered) h =
+      let s = h .small in
+      link-keeps f TurnWithin p (end-within f)
+      (cond-keeps TurnWithin (ltb (endOf f) (u .vdr + 28)) (end-within f)
+      (over-within f (Vars (u .kind) (u .vdr + 8) (u .place + 1) (u .greatest)) (record { kinds = h .kinds; small = omega arith })))
+      (takes-within f (entered f u (linkAt f p) 0 floor covered)
+      (λ z. entered-within f u (linkAt f p) 0 floor covered (h .kinds) (omega arith) (omega (arith, link-small f p)) (omega arith)))
+  within-turn (Entry u x i floor covered) h =
+      let s = h .small in
+      let e = entryOf f x i floor in
+      let c = covered || covers f (u .vdr) e in
+      let l = entry-small f x i floor .last-small in
+      takes-within f (entered f u x (i + 1) (e .last + 1) c)
+      (λ z. entered-within f u x (i + 1) (e .last + 1) c (h .kinds) (omega arith) (omega arith) (omega arith))
+  within-turn (Attrs p n) h =
+      let s = h .small in
+      link-keeps f TurnWithin p (end-within f)
+      (cond-keeps TurnWithin (gdrThere f)
+      (over-within f (Unused (gdrAt f + 44) 0) (record { kinds = tt; small = omega (arith, gdr-small f) }))
+      (end-within f))
+      (takes-within f (Entries 5 (linkAt f p) n (linkAt f p + 12) 0 0)
+      (λ z. record { kinds = inl refl; small = omega (arith, link-small f p, attr-place f n (linkAt f p) z) }))
+  within-turn (Entries t a n p e greatest) h = go (ltb (endOf f) (a + 48)) (ltb 2147483646 e) refl
+    where
+      s : Small (Entries t a n p e greatest)
+      s = h .small
+
+      go : (x y : Bool)
+          → ltb 2147483646 e ≡ y
+          → TurnWithin
+          (cond (x || y) (End 20)
+          (followed f p (Over (entriesTally f t a e greatest) (afterEntries t a n)) (entryTaken f t a n e greatest)))
+      go true y c = end-within f
+      go false true c = end-within f
+      go false false c =
+          link-keeps f TurnWithin p (end-within f)
+          (over-within f (afterEntries t a n) (after-entries f t a n (s .0) (s .1)))
+          (takes-within f (Entries t a n (linkAt f p + 8) (e + 1) (max (afterAt f (linkAt f p + 20)) greatest))
+          (λ z. record {
+            kinds = h .kinds;
+            small = omega (arith, s, link-small f p, after-small f (linkAt f p + 20), ltb-false 2147483646 e c);
+          }))
+  within-turn (Unused p b) h =
+      link-keeps f TurnWithin p (end-within f) (end-within f)
+      (takes-within f (Unused (linkAt f p + 8) (linkAt f p)) (λ z. record { kinds = tt; small = omega (arith, link-small f p) }))
