@@ -6,7 +6,7 @@ use lib.ListN.{length}
 use lib.Dec.{ltb, eqb}
 use lib.IntN.{ℤ, pos, negsuc}
 use Rattle.checker.specs.declared.state.State.{State}
-use Rattle.checker.specs.Step.{Conf, conf, Run, finished, answerOf, runOf}
+use Rattle.checker.specs.Step.{Conf, conf, Run, finished, answerOf, runOf, fresh}
 use Rattle.checker.specs.Saved.{stateLength, save, load}
 
 -- what a grant gives back: its answer, the steps it reports, the state and the marks
@@ -38,3 +38,15 @@ grantBy f m l n s =
 -- A GRANT: "one of another length than docs/ gives is 20 in 0 steps, and neither it nor the marks change"
 unfoldable pub grantOf : List ℕ → List ℕ → List ℕ → ℕ → Granted
 grantOf f m l n = cond (eqb (length l) stateLength) (grantBy f m l n (load l)) (granted (pos 20) 0 l m)
+
+-- what a begin gives back: its answer and the state
+pub record Begun : Type 0 where
+  pub answer : ℤ
+  pub state : List ℕ
+
+abbrev pub begun : ℤ → List ℕ → Begun
+begun a l = record { answer = a; state = l }
+
+-- a fresh state, or 20 and nothing changed where the length is another
+unfoldable pub beginOf : List ℕ → Begun
+beginOf l = cond (eqb (length l) stateLength) (begun (pos 0) (save fresh)) (begun (pos 20) l)

@@ -40,7 +40,7 @@ unfoldable pub save : State → List ℕ
 save s = saveStage (s .length) (s .stage)
 
 -- ---- ranges
--- a length that an opening notes; an offset; where a link stands; what is counted; a number + 1
+-- a length that an opening notes; an offset, a place in a list or an entry; where a link stands; a count, or a number + 1
 abbrev pub lengthRange : ℕ → Bool
 lengthRange n = leb 372 n && leb n 2147483647
 
@@ -51,21 +51,18 @@ abbrev pub linkRange : ℕ → Bool
 linkRange p = leb p 2147483711
 
 abbrev pub countRange : ℕ → Bool
-countRange n = leb n 1073741823
-
-abbrev pub aboveRange : ℕ → Bool
-aboveRange n = leb n 2147483648
+countRange n = leb n 2147483648
 
 abbrev pub varRange : Var → Bool
-varRange u = (eqb (u .kind) 3 || eqb (u .kind) 8) && offsetRange (u .vdr) && countRange (u .place) && aboveRange (u .greatest)
+varRange u = (eqb (u .kind) 3 || eqb (u .kind) 8) && offsetRange (u .vdr) && offsetRange (u .place) && countRange (u .greatest)
 
 abbrev pub walkRange : W.Walk → Bool
 walkRange Start = true
-walkRange (Vars k p n g) = (eqb k 3 || eqb k 8) && linkRange p && countRange n && aboveRange g
-walkRange (Chain u p x floor c) = varRange u && linkRange p && offsetRange x && aboveRange floor
-walkRange (Entry u x i floor c) = varRange u && offsetRange x && countRange i && aboveRange floor
+walkRange (Vars k p n g) = (eqb k 3 || eqb k 8) && linkRange p && countRange n && countRange g
+walkRange (Chain u p x floor c) = varRange u && linkRange p && offsetRange x && countRange floor
+walkRange (Entry u x i floor c) = varRange u && offsetRange x && offsetRange i && countRange floor
 walkRange (Attrs p n) = linkRange p && countRange n
-walkRange (Entries k a n p e g) = (eqb k 5 || eqb k 9) && offsetRange a && countRange n && linkRange p && countRange e && aboveRange g
+walkRange (Entries k a n p e g) = (eqb k 5 || eqb k 9) && offsetRange a && offsetRange n && linkRange p && offsetRange e && countRange g
 walkRange (Unused p b) = linkRange p && offsetRange b
 
 abbrev pub stageRange : ℕ → Stage → Bool
@@ -76,20 +73,27 @@ stageRange l (Done v) = false
 stageRange l Strange = false
 
 -- ---- load
+-- the variable that the numbers would tell of
+abbrev pub varBy : List ℕ → Var
+varBy s = record { kind = getD s 3 0; vdr = getD s 7 0; place = getD s 5 0; greatest = getD s 6 0 }
+
+-- the place of the walk in a list, by the phase
+abbrev pub laterBy : List ℕ → ℕ → Stage
+laterBy s phase =
+    cond (eqb phase 6) (Walking (Attrs (getD s 4 0) (getD s 5 0)))
+    (cond (eqb phase 7) (Walking (Entries (getD s 3 0) (getD s 7 0) (getD s 5 0) (getD s 4 0) (getD s 9 0) (getD s 10 0)))
+    (cond (eqb phase 8) (Walking (Unused (getD s 4 0) (getD s 8 0))) Strange))
+
+abbrev pub listBy : List ℕ → ℕ → Stage
+listBy s phase =
+    cond (eqb phase 3) (Walking (Vars (getD s 3 0) (getD s 4 0) (getD s 5 0) (getD s 6 0)))
+    (cond (eqb phase 4) (Walking (Chain (varBy s) (getD s 4 0) (getD s 8 0) (getD s 10 0) (eqb (getD s 11 0) 1)))
+    (cond (eqb phase 5) (Walking (Entry (varBy s) (getD s 8 0) (getD s 9 0) (getD s 10 0) (eqb (getD s 11 0) 1)))
+    (laterBy s phase)))
+
 -- the stage that the numbers would be, by their phase; a number that has no place in a stage is not looked at here
 unfoldable pub stageBy : List ℕ → ℕ → Stage
-stageBy s phase =
-    let n : ℕ → ℕ = λ i. getD s i 0 in
-    let u : Var = record { kind = n 3; vdr = n 7; place = n 5; greatest = n 6 } in
-    cond (eqb phase 0) Fresh
-    (cond (eqb phase 1) (Sweep (n 4))
-    (cond (eqb phase 2) (Walking Start)
-    (cond (eqb phase 3) (Walking (Vars (n 3) (n 4) (n 5) (n 6)))
-    (cond (eqb phase 4) (Walking (Chain u (n 4) (n 8) (n 10) (eqb (n 11) 1)))
-    (cond (eqb phase 5) (Walking (Entry u (n 8) (n 9) (n 10) (eqb (n 11) 1)))
-    (cond (eqb phase 6) (Walking (Attrs (n 4) (n 5)))
-    (cond (eqb phase 7) (Walking (Entries (n 3) (n 7) (n 5) (n 4) (n 9) (n 10)))
-    (cond (eqb phase 8) (Walking (Unused (n 4) (n 8))) Strange))))))))
+stageBy s phase = cond (eqb phase 0) Fresh (cond (eqb phase 1) (Sweep (getD s 4 0)) (cond (eqb phase 2) (Walking Start) (listBy s phase)))
 
 abbrev pub sameNumbers : List ℕ → List ℕ → Bool
 sameNumbers [] [] = true

@@ -1,0 +1,51 @@
+-- What a grant comes to, from what its code finds. Assumes nothing.
+use mathlib.Core.Path.{_≡_, refl, sym, ap, _∙_}
+use mathlib.Core.Logic.{inl, inr}
+use mathlib.Core.Bool.{Bool, true, false, cond, _||_}
+use mathlib.Core.List.{List}
+use Prim.Native.Nat.{ℕ}
+use lib.ListN.{length}
+use lib.IntN.{ℤ, pos}
+use borrow.Author.Tests.{ne-eqb}
+use Rattle.checker.specs.declared.state.State.{State}
+use Rattle.checker.specs.Step.{conf, Run, finished, answerOf, runOf}
+use Rattle.checker.specs.Saved.{save, load}
+use Rattle.checker.specs.Grant.{Granted, granted, otherFile, worked, grantBy, grantOf}
+use Rattle.checker.proofs.Cases.{right-length, idle}
+
+module _ (f m l : List ℕ) (n : ℕ) (twelve : length l ≡ 12) (s : State) (is : s ≡ load l) where
+  by-state : grantBy f m l n s ≡ grantOf f m l n
+  by-state = ap (λ (t : State). grantBy f m l n t) is ∙ sym (right-length f m l n twelve)
+
+  pub of-finished : finished (s .stage) ≡ true → (a : ℤ) → a ≡ answerOf (s .stage) → granted a 0 l m ≡ grantOf f m l n
+  of-finished e a h = ap (λ (z : ℤ). granted z 0 l m) h ∙ sym (idle f m l n s (inl e)) ∙ by-state
+
+  pub of-none : n ≡ 0 → (a : ℤ) → a ≡ answerOf (s .stage) → granted a 0 l m ≡ grantOf f m l n
+  of-none e a h = ap (λ (z : ℤ). granted z 0 l m) h ∙ sym (idle f m l n s (inr e)) ∙ by-state
+
+  module _ (running : finished (s .stage) ≡ false) (some : n ≡ 0 → ⊥) where
+    other : otherFile f m (s .length) ≡ true → grantBy f m l n s ≡ granted (pos 21) 0 l m
+    unfolding grantBy
+    other e = rw (running, ne-eqb n 0 some, e)
+
+    works : otherFile f m (s .length) ≡ false → grantBy f m l n s ≡ worked (runOf f (conf s m) n)
+    unfolding grantBy
+    works e = rw (running, ne-eqb n 0 some, e)
+
+    pub of-other : otherFile f m (s .length) ≡ true → granted (pos 21) 0 l m ≡ grantOf f m l n
+    of-other e = sym (other e) ∙ by-state
+
+    pub of-run : otherFile f m (s .length) ≡ false
+        → (r : Run)
+        → r ≡ runOf f (conf s m) n
+        → (a : ℤ)
+        → a ≡ answerOf (r .at .state .stage)
+        → (l′ : List ℕ)
+        → l′ ≡ save (r .at .state)
+        → granted a (r .made) l′ (r .at .marks) ≡ grantOf f m l n
+    of-run e r k a h l′ g =
+        ap (λ (z : ℤ). granted z (r .made) l′ (r .at .marks)) h
+        ∙ ap (λ (x : List ℕ). granted (answerOf (r .at .state .stage)) (r .made) x (r .at .marks)) g
+        ∙ ap worked k
+        ∙ sym (works e)
+        ∙ by-state

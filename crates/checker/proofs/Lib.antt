@@ -1,0 +1,12 @@
+pub mod Told
+pub mod Outcomes
+pub mod Passed
+pub mod Overs
+pub mod Same
+pub mod Runs
+pub mod Cases
+pub mod Loads
+pub mod Sound
+pub mod Fits
+pub mod Loop
+pub mod Granting

@@ -1,0 +1,131 @@
+-- What a load makes of numbers, and of those of a save. Assumes nothing.
+use mathlib.Core.Path.{_≡_, refl, sym, ap, _∙_}
+use mathlib.Core.Bool.{Bool, true, false, cond, true≢false, _&&_}
+use mathlib.Core.List.{List, [], _∷_}
+use Prim.Native.Nat.{ℕ, suc, _-_}
+use native.Mathlib.Omega.{arith}
+use lib.ListN.{length, getD}
+use lib.Dec.{eqb, eqb·suc-zero}
+use borrow.Author.Tests.{eq-eqb, ne-eqb}
+use lib.IntN.{pos}
+use Rattle.walk.specs.declared.places.Walk as W
+use Rattle.walk.specs.declared.places.Walk.the-variants.{Start, Vars, Chain, Entry, Attrs, Entries, Unused}
+use Rattle.checker.specs.declared.state.Stage.{Stage}
+use Rattle.checker.specs.declared.state.Stage.the-variants.{Fresh, Sweep, Walking, Done, Strange}
+use Rattle.checker.specs.declared.state.State.{State}
+use Rattle.checker.specs.Step.{done, answerOf}
+use Rattle.checker.specs.Saved.{stateLength, saveStage, save, stageRange, stageBy, sameNumbers, checked, verdictRange, load}
+use Rattle.checker.proofs.Outcomes.{at}
+use Rattle.checker.proofs.Passed.{both}
+use Rattle.checker.specs.Ready.{Told, Loaded}
+
+-- ---- what a load makes of any numbers
+loaded-range : (n : ℕ) (g : Stage) → stageRange n g ≡ true → Loaded n g
+loaded-range n Fresh e = e
+loaded-range n (Sweep o) e = e
+loaded-range n (Walking w) e = e
+loaded-range n (Done v) e = absurd (true≢false (sym e))
+loaded-range n Strange e = tt
+
+checked-loaded : (s : List ℕ) (n : ℕ) (g : Stage) → Loaded n (checked s n g)
+checked-loaded s n g = go (stageRange n g && sameNumbers (saveStage n g) s) refl
+  where
+    go : (b : Bool) → (stageRange n g && sameNumbers (saveStage n g) s) ≡ b → Loaded n (cond b g Strange)
+    go true e = loaded-range n g (both (stageRange n g) (sameNumbers (saveStage n g) s) e .0)
+    go false e = tt
+
+record IsLoaded (s : State) : Type 0 where
+  loaded : Loaded (s .length) (s .stage)
+
+pub load-is : (l : List ℕ) → Loaded (load l .length) (load l .stage)
+unfolding load
+load-is l = go (eqb (getD l 0 0) 0) (verdictRange (getD l 0 0 - 1)) refl .loaded
+  where
+    go : (a b : Bool)
+        → verdictRange (getD l 0 0 - 1) ≡ b
+        → IsLoaded
+        (cond a (at (getD l 1 0) (checked l (getD l 1 0) (stageBy l (getD l 2 0))))
+        (cond b (done (getD l 0 0 - 1)) (at (getD l 1 0) Strange)))
+    go true b e = record { loaded = checked-loaded l (getD l 1 0) (stageBy l (getD l 2 0)) }
+    go false true e = record { loaded = (refl, record { in-range = e }) }
+    go false false e = record { loaded = tt }
+
+-- ---- of the numbers of a save it makes the state again
+same-refl : (l : List ℕ) → sameNumbers l l ≡ true
+same-refl [] = refl
+same-refl (x ∷ xs) = rw (eq-eqb x x refl, same-refl xs)
+
+checked-self : (s : List ℕ) (n : ℕ) (g : Stage) → stageRange n g ≡ true → saveStage n g ≡ s → checked s n g ≡ g
+checked-self s n g h e = rw (h, e, same-refl s)
+
+module _ (n : ℕ) where
+  abbrev self : (g : Stage) → stageRange n g ≡ true → _≡_ {A = State} (at n (checked (saveStage n g) n g)) (at n g)
+  self g h = ap (λ (x : Stage). at n x) (checked-self (saveStage n g) n g h refl)
+
+  load-walk : (w : W.Walk) → stageRange n (Walking w) ≡ true → load (saveStage n (Walking w)) ≡ at n (Walking w)
+  unfolding load stageBy
+  load-walk Start h = self (Walking Start) h
+  load-walk (Vars k p i g) h = self (Walking (Vars k p i g)) h
+  load-walk (Chain u p x floor true) h = self (Walking (Chain u p x floor true)) h
+  load-walk (Chain u p x floor false) h = self (Walking (Chain u p x floor false)) h
+  load-walk (Entry u x i floor true) h = self (Walking (Entry u x i floor true)) h
+  load-walk (Entry u x i floor false) h = self (Walking (Entry u x i floor false)) h
+  load-walk (Attrs p i) h = self (Walking (Attrs p i)) h
+  load-walk (Entries k a i p e g) h = self (Walking (Entries k a i p e g)) h
+  load-walk (Unused p b) h = self (Walking (Unused p b)) h
+
+  load-done : (v : ℕ) → Told v → load (saveStage n (Done v)) ≡ done v
+  unfolding load
+  load-done v t =
+      let less : suc v - 1 ≡ v = omega arith in
+      rw (eqb·suc-zero v, less, t .in-range)
+
+  load-stage : (g : Stage) → Loaded n g → load (saveStage n g) ≡ at n g
+  unfolding load stageBy
+  load-stage Fresh h = self Fresh h
+  load-stage (Sweep o) h = self (Sweep o) h
+  load-stage (Walking w) h = load-walk w h
+  load-stage (Done v) h = load-done v (h .1) ∙ ap (λ (k : ℕ). at k (Done v)) (sym (h .0))
+  load-stage Strange h = refl
+
+  length-stage : (g : Stage) → length (saveStage n g) ≡ stateLength
+  length-stage Fresh = refl
+  length-stage (Sweep o) = refl
+  length-stage (Walking Start) = refl
+  length-stage (Walking (Vars k p i g)) = refl
+  length-stage (Walking (Chain u p x floor c)) = refl
+  length-stage (Walking (Entry u x i floor c)) = refl
+  length-stage (Walking (Attrs p i)) = refl
+  length-stage (Walking (Entries k a i p e g)) = refl
+  length-stage (Walking (Unused p b)) = refl
+  length-stage (Done v) = refl
+  length-stage Strange = refl
+
+pub load-save : (s : State) → Loaded (s .length) (s .stage) → load (save s) ≡ s
+unfolding save
+load-save s h = load-stage (s .length) (s .stage) h
+
+pub length-save : (s : State) → length (save s) ≡ stateLength
+unfolding save
+length-save s = length-stage (s .length) (s .stage)
+
+-- ---- a finished check has a verdict that is never 21, and notes no length
+pub not-21 : (n : ℕ) (g : Stage) → Loaded n g → answerOf g ≡ pos 21 → ⊥
+not-21 n Fresh h e = let z : _≡_ {A = ℕ} 0 1 = cc in omega arith
+not-21 n (Sweep o) h e = let z : _≡_ {A = ℕ} 0 1 = cc in omega arith
+not-21 n (Walking w) h e = let z : _≡_ {A = ℕ} 0 1 = cc in omega arith
+not-21 n (Done v) h e = let z : v ≡ 21 = cc in true≢false (sym (rw z at (h .1 .in-range)))
+not-21 n Strange h e = let z : _≡_ {A = ℕ} 0 1 = cc in omega arith
+
+pub done-0 : (g : Stage) → answerOf g ≡ pos 0 → g ≡ Done 0
+done-0 Fresh e = cc
+done-0 (Sweep o) e = cc
+done-0 (Walking w) e = cc
+done-0 (Done v) e = let z : v ≡ 0 = cc in rw z
+done-0 Strange e = cc
+
+pub accepted-is : (s : State) → Loaded (s .length) (s .stage) → answerOf (s .stage) ≡ pos 0 → s ≡ done 0
+accepted-is s h e =
+    let d = done-0 (s .stage) e in
+    let z : Loaded (s .length) (Done 0) = rw d at h in
+    ap (λ (k : ℕ). at k (s .stage)) (z .0) ∙ ap (λ (g : Stage). at 0 g) d

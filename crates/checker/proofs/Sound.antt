@@ -1,0 +1,315 @@
+-- The states that a grant works on: what every step keeps of them, and that each is loaded as it was saved. Assumes nothing.
+use mathlib.Core.Path.{_≡_, refl, sym, ap, _∙_}
+use mathlib.Core.Logic.{inl, inr, _≢_}
+use mathlib.Core.Bool.{Bool, true, false, cond, not, true≢false, and-false, _&&_, _||_}
+use mathlib.Core.List.{List}
+use Prim.Native.Nat.{ℕ, _+_, _≤_}
+use native.Mathlib.Omega.{arith}
+use lib.ListN.{length, length-set}
+use lib.Dec.{ltb, leb, eqb}
+use borrow.Author.Tests.{leb-true, ltb-false, eqb-true, le-leb, le-ltb, eq-eqb, ne-eqb}
+use Rattle.format.specs.Fields.{endOf}
+use Rattle.records.specs.Rules.{sizeAt}
+use Rattle.records.specs.Opening.{tooLong, magicsRight, whollyCompressed, cdrRight, singleFile, gdrAt, gdrRight, opening}
+use Rattle.marks.specs.Marks.{marked}
+use Rattle.walk.specs.Bounds.{VarKind, EntryKind, SmallVar, Within}
+use Rattle.walk.specs.Walk.{turnOf}
+use Rattle.walk.specs.declared.places.Var.{Var}
+use Rattle.walk.specs.declared.places.Walk as W
+use Rattle.walk.specs.declared.places.Walk.the-variants.{Start, Vars, Chain, Entry, Attrs, Entries, Unused}
+use Rattle.walk.specs.declared.places.Turn as T
+use Rattle.walk.specs.declared.places.Turn.the-variants.{Over, End, Take}
+use Rattle.walk.proofs.Closed.{NextWithin, within-turn}
+use Rattle.checker.specs.declared.state.Stage.{Stage}
+use Rattle.checker.specs.declared.state.Stage.the-variants.{Fresh, Sweep, Walking, Done, Strange}
+use Rattle.checker.specs.declared.state.State.{State}
+use Rattle.checker.specs.Step.{Conf, conf, Run, fresh, finished, stepOf, runOf, plainRun}
+use Rattle.checker.specs.Saved.{save, lengthRange, offsetRange, linkRange, countRange, varRange, walkRange}
+use Rattle.checker.specs.Grant.{otherFile, worked, grantBy, grantOf}
+use Rattle.checker.proofs.Outcomes.{TurnGoes, Goes, step-by}
+use Rattle.checker.proofs.Passed.{both, opened, tiled, marked-length}
+use Rattle.checker.proofs.Runs.{run-none, run-over, run-keeps}
+use Rattle.checker.proofs.Loads.{load-save, length-save}
+use Rattle.checker.proofs.Cases.{Case, idles, refuses, works, case-of, right-length}
+use Rattle.checker.specs.Ready.{Told, Loaded}
+
+-- ---- ranges
+var-range : (k : ℕ) → VarKind k → (eqb k 3 || eqb k 8) ≡ true
+var-range k (inl e) = rw e
+var-range k (inr e) = rw e
+
+entry-range : (k : ℕ) → EntryKind k → (eqb k 5 || eqb k 9) ≡ true
+entry-range k (inl e) = rw e
+entry-range k (inr e) = rw e
+
+var-kind : (k : ℕ) → (eqb k 3 || eqb k 8) ≡ true → VarKind k
+var-kind k e = go (eqb k 3) refl e
+  where
+    go : (b : Bool) → eqb k 3 ≡ b → (b || eqb k 8) ≡ true → VarKind k
+    go true h e = inl (eqb-true k 3 h)
+    go false h e = inr (eqb-true k 8 e)
+
+entry-kind : (k : ℕ) → (eqb k 5 || eqb k 9) ≡ true → EntryKind k
+entry-kind k e = go (eqb k 5) refl e
+  where
+    go : (b : Bool) → eqb k 5 ≡ b → (b || eqb k 9) ≡ true → EntryKind k
+    go true h e = inl (eqb-true k 5 h)
+    go false h e = inr (eqb-true k 9 e)
+
+-- a place of the walk whose numbers are in their ranges is in range
+in-range : (w : W.Walk) → Within w → walkRange w ≡ true
+in-range Start h = refl
+in-range (Vars k p n g) h =
+    let s = h .small in
+    rw (var-range k (h .kinds), le-leb p 2147483711 (s .0), le-leb n 2147483648 (s .1), le-leb g 2147483648 (s .2))
+in-range (Chain u p x floor c) h =
+    let s = h .small in
+    rw (
+      var-range (u .kind) (h .kinds),
+      le-leb (u .vdr) 2147483647 (s .0 .0),
+      le-leb (u .place) 2147483647 (s .0 .1),
+      le-leb (u .greatest) 2147483648 (s .0 .2),
+      le-leb p 2147483711 (s .1),
+      le-leb x 2147483647 (s .2),
+      le-leb floor 2147483648 (s .3),
+    )
+in-range (Entry u x i floor c) h =
+    let s = h .small in
+    rw (
+      var-range (u .kind) (h .kinds),
+      le-leb (u .vdr) 2147483647 (s .0 .0),
+      le-leb (u .place) 2147483647 (s .0 .1),
+      le-leb (u .greatest) 2147483648 (s .0 .2),
+      le-leb x 2147483647 (s .1),
+      le-leb i 2147483647 (s .2),
+      le-leb floor 2147483648 (s .3),
+    )
+in-range (Attrs p n) h = let s = h .small in rw (le-leb p 2147483711 (s .0), le-leb n 2147483648 (s .1))
+in-range (Entries k a n p e g) h =
+    let s = h .small in
+    rw (
+      entry-range k (h .kinds),
+      le-leb a 2147483647 (s .0),
+      le-leb n 2147483647 (s .1),
+      le-leb p 2147483711 (s .2),
+      le-leb e 2147483647 (s .3),
+      le-leb g 2147483648 (s .4),
+    )
+in-range (Unused p b) h = let s = h .small in rw (le-leb p 2147483711 (s .0), le-leb b 2147483647 (s .1))
+
+four : (a b c d : Bool) → (a && b && c && d) ≡ true → (a ≡ true) × (b ≡ true) × (c ≡ true) × (d ≡ true)
+four a b c d e =
+    let p = both (a && b && c) d e in
+    let q = both (a && b) c (p .0) in
+    let r = both a b (q .0) in
+    (r .0, r .1, q .1, p .1)
+
+var-within : (u : Var) → varRange u ≡ true → VarKind (u .kind) × SmallVar u
+var-within u e =
+    let r = four (eqb (u .kind) 3 || eqb (u .kind) 8) (offsetRange (u .vdr)) (offsetRange (u .place)) (countRange (u .greatest)) e in (
+      var-kind (u .kind) (r .0),
+      (leb-true (u .vdr) 2147483647 (r .1), leb-true (u .place) 2147483647 (r .2), leb-true (u .greatest) 2147483648 (r .3)),
+    )
+
+-- and the other way round
+range-within : (w : W.Walk) → walkRange w ≡ true → Within w
+range-within Start e = record { kinds = tt; small = tt }
+range-within (Vars k p n g) e =
+    let r = four (eqb k 3 || eqb k 8) (linkRange p) (countRange n) (countRange g) e in
+    record {
+      kinds = var-kind k (r .0);
+      small = (leb-true p 2147483711 (r .1), leb-true n 2147483648 (r .2), leb-true g 2147483648 (r .3));
+    }
+range-within (Chain u p x floor c) e =
+    let r = four (varRange u) (linkRange p) (offsetRange x) (countRange floor) e in
+    let v = var-within u (r .0) in
+    record {
+      kinds = v .0;
+      small = (v .1, leb-true p 2147483711 (r .1), leb-true x 2147483647 (r .2), leb-true floor 2147483648 (r .3));
+    }
+range-within (Entry u x i floor c) e =
+    let r = four (varRange u) (offsetRange x) (offsetRange i) (countRange floor) e in
+    let v = var-within u (r .0) in
+    record {
+      kinds = v .0;
+      small = (v .1, leb-true x 2147483647 (r .1), leb-true i 2147483647 (r .2), leb-true floor 2147483648 (r .3));
+    }
+range-within (Attrs p n) e =
+    let r = both (linkRange p) (countRange n) e in
+    record { kinds = tt; small = (leb-true p 2147483711 (r .0), leb-true n 2147483648 (r .1)) }
+range-within (Entries k a n p e g) h =
+    let kind = eqb k 5 || eqb k 9 in
+    let q = both (kind && offsetRange a && offsetRange n && linkRange p && offsetRange e) (countRange g) h in
+    let r = both (kind && offsetRange a && offsetRange n && linkRange p) (offsetRange e) (q .0) in
+    let t = four kind (offsetRange a) (offsetRange n) (linkRange p) (r .0) in
+    record {
+      kinds = entry-kind k (t .0);
+      small = (
+        leb-true a 2147483647 (t .1),
+        leb-true n 2147483647 (t .2),
+        leb-true p 2147483711 (t .3),
+        leb-true e 2147483647 (r .1),
+        leb-true g 2147483648 (q .1),
+      );
+    }
+range-within (Unused p b) e =
+    let r = both (linkRange p) (offsetRange b) e in
+    record { kinds = tt; small = (leb-true p 2147483711 (r .0), leb-true b 2147483647 (r .1)) }
+
+-- ---- a check that goes on
+-- the opening has noted the file's length, and the marks are long enough
+abbrev pub Noted : List ℕ → ℕ → List ℕ → Type 0
+Noted f n m = (n ≡ length f) × (372 ≤ length f) × (length f ≤ 2147483647) × (length f ≤ length m)
+
+-- before the opening and after the end no length is noted; Odd is said of a strange state, which no step leads to
+abbrev pub SoundBy : (ℕ → List ℕ → Type 0) → List ℕ → ℕ → List ℕ → Stage → Type 0
+SoundBy Odd f n m Fresh = n ≡ 0
+SoundBy Odd f n m (Sweep o) = Noted f n m × (8 ≤ o) × (o ≤ 2147483647)
+SoundBy Odd f n m (Walking w) = Noted f n m × Within w
+SoundBy Odd f n m (Done v) = (n ≡ 0) × Told v
+SoundBy Odd f n m Strange = Odd n m
+
+pub record Sound (Odd : ℕ → List ℕ → Type 0) (f : List ℕ) (c : Conf) : Type 0 where
+  pub sound : SoundBy Odd f (c .state .length) (c .marks) (c .state .stage)
+
+-- no other file and marks are lent
+abbrev pub Own : List ℕ → ℕ → List ℕ → Type 0
+Own f n m = otherFile f m n ≡ false
+
+long-enough : (f : List ℕ) → opening f ≡ 0 → 372 ≤ length f
+unfolding opening
+long-enough f e = go (leb 372 (length f)) refl e
+  where
+    rest : ℕ
+    rest = cond (whollyCompressed f) 4 (cond (cdrRight f) (cond (singleFile f) (cond (gdrRight f (gdrAt f)) 0 6) 14) 5)
+
+    go : (b : Bool) → leb 372 (length f) ≡ b → cond (b && magicsRight f) rest 3 ≡ 0 → 372 ≤ length f
+    go true h e = leb-true 372 (length f) h
+    go false h e = absurd (omega arith)
+
+not-long : (f : List ℕ) → tooLong f ≡ false → length f ≤ 2147483647
+unfolding tooLong
+not-long f e = ltb-false 2147483647 (length f) e
+
+module _ (Odd : ℕ → List ℕ → Type 0) (f : List ℕ) where
+  pub sound-step : (c : Conf) → finished (c .state .stage) ≡ false → Sound Odd f c → Sound Odd f (stepOf f c)
+  sound-step c o h =
+      step-by (Sound Odd f) f m n (λ v t. record { sound = (refl, t) }) (c .state .stage) o (goes (c .state .stage) (h .sound))
+    where
+      m : List ℕ
+      m = c .marks
+
+      n : ℕ
+      n = c .state .length
+
+      turn : (t : T.Turn) → Noted f n m → NextWithin t → TurnGoes (Sound Odd f) f m n t
+      turn (Over v w) a b = record { sound = (a, b) }
+      turn (End v) a b = tt
+      turn (Take early t typed late w) a b = λ e. record { sound = ((a .0, a .1, a .2, rw (length-set m t 2) (a .3)), b) }
+
+      swept : (m : List ℕ) (o : ℕ) → Noted f n m → 8 ≤ o → o ≤ 2147483647 → (b : Bool) → SoundBy Odd f n m (cond b (Walking Start) (Sweep o))
+      swept m o a b d true = (a, record { kinds = tt; small = tt })
+      swept m o a b d false = (a, b, d)
+
+      goes : (s : Stage) → SoundBy Odd f n m s → Goes (Sound Odd f) f m n s
+      goes Fresh g = λ e.
+          let p = opened f m e in
+          record { sound = ((refl, long-enough f (p .2), not-long f (p .0), p .1), omega arith, omega arith) }
+      goes (Sweep o) g = λ e.
+          let t = tiled f o e in
+          let a = g .0 in
+          let fits : o + sizeAt f o ≤ length m = omega arith in
+          let l : length (marked m o (sizeAt f o)) ≡ length m = marked-length m o (sizeAt f o) fits in
+          let next = o + sizeAt f o in
+          let noted : Noted f n (marked m o (sizeAt f o)) = (a .0, a .1, a .2, rw l (a .3)) in
+          record { sound = swept (marked m o (sizeAt f o)) next noted (omega arith) (omega arith) (eqb next (endOf f)) }
+      goes (Walking w) g = turn (turnOf f w) (g .0) (within-turn f w (g .1) .next-within)
+      goes (Done v) g = tt
+      goes Strange g = tt
+
+  pub sound-run : (c : Conf) → Sound Odd f c → (k : ℕ) → Sound Odd f (runOf f c k .at)
+  sound-run c h k = run-keeps f (Sound Odd f) sound-step c h k
+
+  in-length : (n : ℕ) (m : List ℕ) → Noted f n m → lengthRange n ≡ true
+  in-length n m h = rw (le-leb 372 n (omega arith), le-leb n 2147483647 (omega arith))
+
+  -- its numbers are those that a load gives
+  sound-stage : (n : ℕ) (m : List ℕ) (s : Stage) → SoundBy Odd f n m s → Loaded n s
+  sound-stage n m Fresh h = rw h
+  sound-stage n m (Sweep o) h = rw (in-length n m (h .0), le-leb 8 o (h .1), le-leb o 2147483647 (h .2))
+  sound-stage n m (Walking w) h = rw (in-length n m (h .0)) (in-range w (h .1))
+  sound-stage n m (Done v) h = h
+  sound-stage n m Strange h = tt
+
+  pub sound-loaded : (c : Conf) → Sound Odd f c → Loaded (c .state .length) (c .state .stage)
+  sound-loaded c h = sound-stage (c .state .length) (c .marks) (c .state .stage) (h .sound)
+
+pub sound-fresh : (Odd : ℕ → List ℕ → Type 0) (f m : List ℕ) → Sound Odd f (conf fresh m)
+sound-fresh Odd f m = record { sound = refl }
+
+module _ (f : List ℕ) where
+  -- a file and marks that are not others, of a check that has noted a length
+  own-lent : (m : List ℕ) (n : ℕ) → n ≢ 0 → Own f n m → (n ≡ length f) × (n ≤ length m)
+  unfolding otherFile
+  own-lent m n z e = go (eqb n (length f)) refl (ltb (length m) n) refl (rw (ne-eqb n 0 z) at e)
+    where
+      go : (a : Bool) → eqb n (length f) ≡ a → (b : Bool) → ltb (length m) n ≡ b → (not a || b) ≡ false → (n ≡ length f) × (n ≤ length m)
+      go true h false l e = (eqb-true n (length f) h, ltb-false (length m) n l)
+      go true h true l e = absurd (true≢false e)
+      go false h b l e = absurd (true≢false e)
+
+  noted-lent : (n : ℕ) (m : List ℕ) → lengthRange n ≡ true → Own f n m → Noted f n m
+  noted-lent n m h e =
+      let r = both (leb 372 n) (leb n 2147483647) h in
+      let low : 372 ≤ n = leb-true 372 n (r .0) in
+      let high : n ≤ 2147483647 = leb-true n 2147483647 (r .1) in
+      let own = own-lent m n (omega arith) e in
+      (own .0, omega arith, omega arith, omega arith)
+
+  loaded-by : (n : ℕ) (m : List ℕ) (s : Stage) → Loaded n s → Own f n m → SoundBy (Own f) f n m s
+  loaded-by n m Fresh h e = eqb-true n 0 h
+  loaded-by n m (Sweep o) h e =
+      let p = both (lengthRange n && leb 8 o) (offsetRange o) h in
+      let q = both (lengthRange n) (leb 8 o) (p .0) in
+      (noted-lent n m (q .0) e, leb-true 8 o (q .1), leb-true o 2147483647 (p .1))
+  loaded-by n m (Walking w) h e = let p = both (lengthRange n) (walkRange w) h in (noted-lent n m (p .0) e, range-within w (p .1))
+  loaded-by n m (Done v) h e = h
+  loaded-by n m Strange h e = e
+
+  -- whatever numbers were loaded, made up or not, the check goes on with its own file and marks
+  pub loaded-sound : (s : State) (m : List ℕ) → Loaded (s .length) (s .stage) → Own f (s .length) m → Sound (Own f) f (conf s m)
+  loaded-sound s m h e = record { sound = loaded-by (s .length) m (s .stage) h e }
+
+  noted-own : (n : ℕ) (m : List ℕ) → Noted f n m → Own f n m
+  unfolding otherFile
+  noted-own n m h = rw (eq-eqb n (length f) (h .0), le-ltb (length m) n (omega arith)) (and-false (not (eqb n 0)))
+
+  sound-own : (n : ℕ) (m : List ℕ) (s : Stage) → SoundBy (Own f) f n m s → Own f n m
+  unfolding otherFile
+  sound-own n m Fresh h = rw h
+  sound-own n m (Sweep o) h = noted-own n m (h .0)
+  sound-own n m (Walking w) h = noted-own n m (h .0)
+  sound-own n m (Done v) h = rw (h .0)
+  sound-own n m Strange h = h
+
+  -- a grant on its numbers works, be it of 0 or after the end
+  pub sound-works : (c : Conf) → Sound (Own f) f c → (n : ℕ) → grantOf f (c .marks) (save (c .state)) n ≡ worked (runOf f c n)
+  sound-works c h n =
+      right-length f m l n (length-save s)
+      ∙ ap (λ (s : State). grantBy f m l n s) (load-save s (sound-loaded (Own f) f c h))
+      ∙ go (case-of f m l n s)
+    where
+      m : List ℕ
+      m = c .marks
+
+      s : State
+      s = c .state
+
+      l : List ℕ
+      l = save s
+
+      go : Case f m l n s → grantBy f m l n s ≡ worked (runOf f c n)
+      go (idles g (inl e)) = g ∙ sym (ap (λ (r : Run). worked r) (run-over f c n e))
+      go (idles g (inr e)) = g ∙ sym (ap (λ (r : Run). worked r) (run-none f c n e))
+      go (refuses g o w) = absurd (true≢false (sym w ∙ sound-own (s .length) m (s .stage) (h .sound)))
+      go (works g o z w) = g

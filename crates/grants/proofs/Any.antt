@@ -1,0 +1,143 @@
+-- A grant on any state. Assumes nothing.
+use mathlib.Core.Path.{_≡_, refl, ap, _∙_}
+use mathlib.Core.Logic.{_⊎_, inl, inr}
+use mathlib.Core.Bool.{Bool, true, false}
+use mathlib.Core.List.{List}
+use Prim.Native.Nat.{ℕ, _+_, _≤_, _<_}
+use native.Mathlib.Omega.{arith}
+use lib.ListN.{length, getD, length-set}
+use lib.Seq.{getD-set-other}
+use lib.Dec.{eqb}
+use borrow.Author.Tests.{eqb-true, eqb-false}
+use lib.IntN.{ℤ, pos}
+use Rattle.records.specs.Rules.{sizeAt}
+use Rattle.walk.specs.Walk.{turnOf}
+use Rattle.walk.specs.declared.places.Turn as T
+use Rattle.walk.specs.declared.places.Turn.the-variants.{Over, End, Take}
+use Rattle.checker.specs.declared.state.Stage.{Stage}
+use Rattle.checker.specs.declared.state.Stage.the-variants.{Fresh, Sweep, Walking, Done, Strange}
+use Rattle.checker.specs.declared.state.State.{State}
+use Rattle.checker.specs.Step.{Conf, conf, done, finished, answerOf, stepOf, runOf}
+use Rattle.checker.specs.Saved.{stateLength, save, load}
+use Rattle.checker.specs.Grant.{Granted, granted, grantBy, grantOf}
+use Rattle.checker.proofs.Told.{told-0}
+use Rattle.checker.proofs.Outcomes.{TurnGoes, Goes, step-by}
+use Rattle.checker.proofs.Passed.{tiled, started, marked-length, marked-other}
+use Rattle.checker.proofs.Runs.{run-keeps, made-le}
+use Rattle.checker.proofs.Loads.{load-is, load-save, length-save, not-21, accepted-is}
+use Rattle.checker.proofs.Sound.{SoundBy, Sound, Own, sound-step, sound-run, sound-loaded, loaded-sound}
+use Rattle.checker.proofs.Cases.{Case, idles, refuses, works, case-of, right-length, wrong-length, idle}
+use Rattle.grants.specs.Promises.{EveryGrant}
+
+-- ---- marks outside the records of the file are kept
+module _ (f m : List ℕ) (i : ℕ) (out : (i < 8) ⊎ (length f ≤ i)) where
+  record Same (c : Conf) : Type 0 where
+    count : length (c .marks) ≡ length m
+    mark : getD (c .marks) i 0 ≡ getD m i 0
+
+  abbrev Kept : Conf → Type 0
+  Kept c = Sound (Own f) f c × Same c
+
+  same-step : (c : Conf) → finished (c .state .stage) ≡ false → Kept c → Kept (stepOf f c)
+  same-step c o k = (
+    sound-step (Own f) f c o (k .0),
+    step-by Same f m′ n (λ v t. record { count = h .count; mark = h .mark }) (c .state .stage) o (goes (c .state .stage) (k .0 .sound)),
+  )
+    where
+      h : Same c
+      h = k .1
+
+      m′ : List ℕ
+      m′ = c .marks
+
+      n : ℕ
+      n = c .state .length
+
+      turn : (t : T.Turn) → TurnGoes Same f m′ n t
+      turn (Over v w) = record { count = h .count; mark = h .mark }
+      turn (End v) = tt
+      turn (Take early t typed late w) = λ e.
+          let s = started f m′ t e in
+          record { count = length-set m′ t 2 ∙ h .count; mark = getD-set-other m′ t i 2 0 (λ e. apart out (s .0) (s .1) e) ∙ h .mark }
+        where
+          apart : (i < 8) ⊎ (length f ≤ i) → 8 ≤ t → t < length f → i ≡ t → ⊥
+          apart (inl a) b c e = omega arith
+          apart (inr a) b c e = omega arith
+
+      aside : (o s : ℕ) → 8 ≤ o → o + s ≤ length f → (i < 8) ⊎ (length f ≤ i) → (i < o) ⊎ (o + s ≤ i)
+      aside o s a b (inl h) = inl (omega arith)
+      aside o s a b (inr h) = inr (omega arith)
+
+      goes : (s : Stage) → SoundBy (Own f) f n m′ s → Goes Same f m′ n s
+      goes Fresh g = λ e. record { count = h .count; mark = h .mark }
+      goes (Sweep o) g = λ e.
+          let t = tiled f o e in
+          let a = g .0 in
+          let fits : o + sizeAt f o ≤ length m′ = omega arith in
+          record {
+            count = marked-length m′ o (sizeAt f o) fits ∙ h .count;
+            mark = marked-other m′ o (sizeAt f o) fits (omega arith) i (aside o (sizeAt f o) (g .1) (t .1) out) ∙ h .mark;
+          }
+      goes (Walking w) g = turn (turnOf f w)
+      goes (Done v) g = tt
+      goes Strange g = tt
+
+  same-run : (s : State) → Sound (Own f) f (conf s m) → (k : ℕ) → Same (runOf f (conf s m) k .at)
+  same-run s h k = run-keeps f Kept same-step (conf s m) (h, record { count = refl; mark = refl }) k .1
+
+-- ---- all of it
+module _ (f m l : List ℕ) (n : ℕ) where
+  record Fine (r : Granted) : Type 0 where
+    few : r .steps ≤ n
+    accepted : r .answer ≡ pos 0 → (length (r .state) ≡ stateLength) × (load (r .state) ≡ done 0)
+    away : r .answer ≡ pos 21 → r ≡ granted (pos 21) 0 l m
+    count : length (r .marks) ≡ length m
+    mark : (i : ℕ) → (i < 8) ⊎ (length f ≤ i) → getD (r .marks) i 0 ≡ getD m i 0
+
+  -- a grant that changes nothing
+  fine-still : (a : ℤ) → (a ≡ pos 0 → (length l ≡ stateLength) × (load l ≡ done 0)) → Fine (granted a 0 l m)
+  fine-still a h = record { few = omega arith; accepted = h; away = λ e. ap (λ (a : ℤ). granted a 0 l m) e; count = refl; mark = λ i o. refl }
+
+  fine-case : length l ≡ stateLength → Case f m l n (load l) → Fine (grantBy f m l n (load l))
+  fine-case e (idles g w) =
+      rw g (fine-still (answerOf (load l .stage)) (λ a. (e, accepted-is (load l) (load-is l) a)))
+  fine-case e (refuses g o w) = rw g (fine-still (pos 21) (λ a. let z : _≡_ {A = ℕ} 21 0 = cc in absurd (omega arith)))
+  fine-case e (works g o z w) =
+      let s = load l in
+      let r = runOf f (conf s m) n in
+      let h = loaded-sound f s m (load-is l) w in
+      let d = sound-loaded (Own f) f (r .at) (sound-run (Own f) f (conf s m) h n) in
+      rw g (record {
+        few = made-le f (conf s m) n;
+        accepted = λ a. (
+          length-save (r .at .state),
+          ap (λ (s : State). load (save s)) (accepted-is (r .at .state) d a) ∙ load-save (done 0) (refl, told-0),
+        );
+        away = λ a. absurd (not-21 (r .at .state .length) (r .at .state .stage) d a);
+        count = same-run f m 0 (inl (omega arith)) s h n .count;
+        mark = λ i out. same-run f m i out s h n .mark;
+      })
+
+  fine-grant : Fine (grantOf f m l n)
+  fine-grant = go (eqb (length l) stateLength) refl
+    where
+      go : (b : Bool) → eqb (length l) stateLength ≡ b → Fine (grantOf f m l n)
+      go true h = let e = eqb-true (length l) stateLength h in rw (right-length f m l n e) (fine-case e (case-of f m l n (load l)))
+      go false h =
+          rw (wrong-length f m l n (eqb-false (length l) stateLength h))
+          (fine-still (pos 20) (λ a. let z : _≡_ {A = ℕ} 20 0 = cc in absurd (omega arith)))
+
+pub every-grant : EveryGrant
+every-grant f m l n =
+    let g = fine-grant f m l n in
+    record {
+      at-most = g .few;
+      accepted = g .accepted;
+      other-length = wrong-length f m l n;
+      of-none = λ e z. right-length f m l n e ∙ idle f m l n (load l) (inr z);
+      repeats = λ e o. right-length f m l n e ∙ idle f m l n (load l) (inl o);
+      turned-away = g .away;
+      marks-count = g .count;
+      marks-low = λ i h. g .mark i (inl h);
+      marks-beyond = λ i h. g .mark i (inr h);
+    }

@@ -1,0 +1,6 @@
+pub mod Answers
+pub mod Refusals
+pub mod Range
+pub mod Any
+pub mod Splits
+pub mod Promised

@@ -1,0 +1,106 @@
+-- What grants promise: a list of them from fresh, and each by itself on any state. Assumes nothing.
+use mathlib.Core.Path.{_≡_}
+use mathlib.Core.Logic.{_↔_, _≢_}
+use mathlib.Core.Bool.{true}
+use mathlib.Core.Option.{some}
+use mathlib.Core.List.{List, _∷_, _++_}
+use Prim.Native.Nat.{ℕ, _+_, _/_, _≤_, _<_, min}
+use lib.ListN.{length, getD}
+use lib.IntN.{pos}
+use Rattle.checker.specs.declared.state.Stage.{Stage}
+use Rattle.checker.specs.declared.state.Stage.the-variants.{Done, Strange}
+use Rattle.checker.specs.Step.{done, fresh, finished, answerOf, stepBy, plainRun}
+use Rattle.checker.specs.Saved.{stateLength, save, load}
+use Rattle.checker.specs.Grant.{Granted, granted, grantOf}
+use Rattle.grants.specs.Lists.{Grant, nextOf, play, Fair}
+
+-- the steps within which the plain run over a file is finished, whatever the file and the first marks say
+abbrev pub stepLimit : List ℕ → ℕ
+stepLimit f = length f / 4 + 1
+
+abbrev pub InTime : List ℕ → List ℕ → Type 0
+InTime f m = finished (plainRun f m (stepLimit f) .at .state .stage) ≡ true
+
+-- the plain run's length: the steps that it makes until it is finished
+abbrev pub runLength : List ℕ → List ℕ → ℕ
+runLength f m = plainRun f m (stepLimit f) .made
+
+-- DEMAND 3, of a list of grants from fresh over the list's file f and marks m
+pub record Promise (f m : List ℕ) (gs : List Grant) : Type 0 where
+  -- "A grant makes as many steps as it has or as remain, and reports that number": the reported steps add up to the smaller of what
+  -- the grants not refused with 21 hold and the plain run's length
+  pub steps-add : play f m gs .steps ≡ min (play f m gs .held) (runLength f m)
+  -- "A list's verdict is what its last grant not refused with 21 answers, or -1 if there is none; the plain run's is its finishing
+  -- step's number, and -1 before that step": the two are one after that many steps
+  pub verdict-is : play f m gs .answer ≡ answerOf (plainRun f m (play f m gs .steps) .at .state .stage)
+  -- "the state and marks after each step being the step rules'": so are the list's
+  pub marks-are : play f m gs .marks ≡ plainRun f m (play f m gs .steps) .at .marks
+  pub state-is : play f m gs .state ≡ save (plainRun f m (play f m gs .steps) .at .state)
+  -- "one claim about the list, not one for each grant": a single grant of that many steps from fresh gives this verdict, as many
+  -- steps, this state and these marks
+  pub single : grantOf f m (save fresh) (play f m gs .steps)
+      ≡ granted (play f m gs .answer) (play f m gs .steps) (play f m gs .state) (play f m gs .marks)
+  -- "until one refuses or accepts": the plain run is finished within length/4 + 1 steps
+  pub ends : InTime f m
+  pub short : runLength f m ≤ stepLimit f
+  -- "accepted", 0: a grant of the list answers it exactly if the plain run accepts within the steps made by then
+  pub accepts : (before : List Grant) (g : Grant) (after : List Grant)
+      → gs ≡ before ++ (g ∷ after)
+      → (nextOf f (play f m before) g .answer ≡ pos 0)
+      ↔ (answerOf (plainRun f m (play f m before .steps + nextOf f (play f m before) g .steps) .at .state .stage) ≡ pos 0)
+  -- "may be lent others, which stay unchanged": no grant writes to a file, and marks that are not the list's come back as lent
+  pub others : (before : List Grant) (g : Grant) (after : List Grant) (lent : List ℕ × List ℕ)
+      → gs ≡ before ++ (g ∷ after)
+      → g .other ≡ some lent
+      → nextOf f (play f m before) g .marks ≡ lent .1
+
+abbrev pub Demand3 : Type 0
+Demand3 = (f m : List ℕ) (gs : List Grant) → Fair f m gs → Promise f m gs
+
+-- "a saved number outside the range docs/ gives it (no fresh check leaves one)": the saved numbers of every state that a fresh check
+-- comes to are read again as that state
+abbrev pub FreshInRange : Type 0
+FreshInRange =
+    (f m : List ℕ) (k : ℕ)
+    → (load (save (plainRun f m k .at .state)) ≡ plainRun f m k .at .state) × (plainRun f m k .at .state .stage ≢ Strange)
+
+-- A GRANT on any state whatever, made up or not
+pub record AnyState (f m l : List ℕ) (n : ℕ) : Type 0 where
+  -- "A grant makes as many steps as it has or as remain"
+  pub at-most : grantOf f m l n .steps ≤ n
+  -- "accepted", 0: the state that is left is finished as accepted
+  pub accepted : grantOf f m l n .answer ≡ pos 0
+      → (length (grantOf f m l n .state) ≡ stateLength) × (load (grantOf f m l n .state) ≡ done 0)
+  -- "one of another length than docs/ gives is 20 in 0 steps, and neither it nor the marks change"
+  pub other-length : length l ≢ stateLength → grantOf f m l n ≡ granted (pos 20) 0 l m
+  -- "a grant of 0 does nothing, and 21 is not looked for"
+  pub of-none : length l ≡ stateLength → n ≡ 0 → grantOf f m l n ≡ granted (answerOf (load l .stage)) 0 l m
+  -- "A finished state repeats its verdict in 0 steps, whatever is lent"
+  pub repeats : length l ≡ stateLength
+      → finished (load l .stage) ≡ true
+      → grantOf f m l n ≡ granted (answerOf (load l .stage)) 0 l m
+  -- "21 changes neither state nor marks, makes 0 steps and doesn't finish the check"
+  pub turned-away : grantOf f m l n .answer ≡ pos 21 → grantOf f m l n ≡ granted (pos 21) 0 l m
+  -- "Marks 0 to 7 and beyond the file are never written", and none is added or lost
+  pub marks-count : length (grantOf f m l n .marks) ≡ length m
+  pub marks-low : (i : ℕ) → i < 8 → getD (grantOf f m l n .marks) i 0 ≡ getD m i 0
+  pub marks-beyond : (i : ℕ) → length f ≤ i → getD (grantOf f m l n .marks) i 0 ≡ getD m i 0
+
+abbrev pub EveryGrant : Type 0
+EveryGrant = (f m l : List ℕ) (n : ℕ) → AnyState f m l n
+
+-- what a grant of n gives after another has given r, the same file lent, with the steps of both
+abbrev pub andThen : List ℕ → Granted → ℕ → Granted
+andThen f r n =
+    let t = grantOf f (r .marks) (r .state) n in
+    granted (t .answer) (r .steps + t .steps) (t .state) (t .marks)
+
+-- A GRANT in two parts is the grant, on any state whatever, made up or not: the same answer, state and marks, and the steps add up.
+-- A first part refused with 21 is set aside, since a second of 0 then answers -1: "21 is not looked for"
+abbrev pub SplitsAlike : Type 0
+SplitsAlike = (f m l : List ℕ) (a b : ℕ) → grantOf f m l a .answer ≢ pos 21 → grantOf f m l (a + b) ≡ andThen f (grantOf f m l a) b
+
+-- "A refusing step .. finishes the check and changes no mark"
+abbrev pub RefusalKeepsMarks : Type 0
+RefusalKeepsMarks =
+    (f m : List ℕ) (n : ℕ) (s : Stage) (v : ℕ) → stepBy f m n s .state .stage ≡ Done v → v ≢ 0 → stepBy f m n s .marks ≡ m

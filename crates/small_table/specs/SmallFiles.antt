@@ -1,0 +1,123 @@
+-- The small files of document 01 and their plain runs, in one table. Assumes nothing.
+use mathlib.Core.Path.{_≡_, refl}
+use mathlib.Core.Bool.{Bool, true, _&&_}
+use mathlib.Core.List.{List, [], _∷_, _++_}
+use Prim.Native.Nat.{ℕ, _+_, _/_, _%_}
+use lib.ListN.{length, getD, take, replicate}
+use lib.Dec.{eqb}
+use lib.IntN.{ℤ, pos}
+use Rattle.format.specs.Bytes.{bigAt}
+use Rattle.format.specs.Fields.{endOf, fieldAt, eqZ, isAt, atLeast, atMost, inOrder, sameAt, eachWithin, natAt, afterAt, linkAt, bitAt}
+use Rattle.format.specs.Types.{typeOf}
+use Rattle.format.specs.Encodings.{encodingOf}
+use Rattle.records.specs.Rules.{reachOf, judged}
+use Rattle.records.specs.Opening.{tooLong, magicsRight, whollyCompressed, cdrRight, singleFile, gdrAt, gdrFields, gdrRight, opening}
+use Rattle.records.specs.Tiles.{typeKnown, tileFields, tileRight, typeUncarried, tile}
+use Rattle.records.specs.Attributes.{adrRight, adrRule, elementSize, aedrRight, aedrRule}
+use Rattle.records.specs.Index.{vxrRight, vxrRule, rangeRight, entryOf, vvrRule}
+use Rattle.records.specs.Unused.{uirRule}
+use Rattle.variables.specs.Limit.{capped}
+use Rattle.variables.specs.Vdr.{carriedOf, vdrFields, countPlace, countRight, layoutAt, layoutOf, valueBytes, padBytes, sizeExact, dimensionsRight, factorOf, spread, recordBytes, dimensioned, variableOf}
+use Rattle.walk.specs.Walk.{typeNumber, followed, gdrThere, varsTally, varNumber, chainTally, attrNumber, entriesTally, entryNumber, unusedNumber, turnOf}
+use Rattle.marks.specs.Marks.{cleared, marked, startAt, unclaimedAt, followedAt, leftFrom, leftOf}
+use Rattle.checker.specs.Step.{Run, answerOf, openNumber, linkNumber, turned, stepBy, runOf, plainRun}
+
+-- ---- files
+-- numbers as control fields, one after the other
+unfoldable pub wordsOf : List ℕ → List ℕ
+wordsOf [] = []
+wordsOf (x ∷ xs) = x / 16777216 ∷ x / 65536 % 256 ∷ x / 256 % 256 ∷ x % 256 ∷ wordsOf xs
+
+-- -1 as a control field
+abbrev pub minusOne : ℕ
+minusOne = 4294967295
+
+-- "Base file: magics, CDR at 8 (encoding 6, flags 3, GDR at 312), GDR at 312, no lists, rMaxRec -1", and what follows: a length, the
+-- head and count of its zVariables, the head of its unused records, and the records after the GDR. "In every file here eof is the length"
+unfoldable pub fileOf : ℕ → ℕ → ℕ → ℕ → List ℕ → List ℕ
+fileOf len zHead zVars uHead rest =
+    wordsOf (0xCDF26002 ∷ 0x0000FFFF ∷ 304 ∷ 1 ∷ 312 ∷ 2 ∷ 0 ∷ 6 ∷ 3 ∷ [])
+    ++ (replicate 276 0
+    ++ (wordsOf (60 ∷ 2 ∷ 0 ∷ zHead ∷ 0 ∷ len ∷ 0 ∷ 0 ∷ minusOne ∷ 0 ∷ zVars ∷ uHead ∷ 0 ∷ 0 ∷ 0 ∷ []) ++ rest))
+
+-- "one zVariable, type 2, one element, no dimensions, no pad, record variance set, MaxRec 2, VDR at 372, VXR of one used entry 0..2
+-- at 504, VVR .. at 536", of a size, its values n bytes 0
+unfoldable pub variable : ℕ → ℕ → List ℕ
+variable size n =
+    wordsOf (132 ∷ 8 ∷ 0 ∷ 2 ∷ 2 ∷ 504 ∷ 504 ∷ 1 ∷ 0 ∷ 0 ∷ 0 ∷ 0 ∷ 1 ∷ 0 ∷ 0 ∷ 0 ∷ [])
+    ++ (replicate 64 0 ++ (wordsOf (0 ∷ 32 ∷ 6 ∷ 0 ∷ 1 ∷ 1 ∷ 0 ∷ 2 ∷ 536 ∷ size ∷ 7 ∷ []) ++ replicate n 0))
+
+unfoldable pub fileA : List ℕ
+fileA = fileOf 372 0 0 0 []
+
+unfoldable pub fileB : List ℕ
+fileB = []
+
+unfoldable pub fileC : List ℕ
+fileC = take 371 fileA
+
+-- "an unlisted 8-byte unused record"
+unfoldable pub fileD : List ℕ
+fileD = fileOf 380 0 0 0 (wordsOf (8 ∷ minusOne ∷ []))
+
+-- "the same with type 7"
+unfoldable pub fileE : List ℕ
+fileE = fileOf 380 0 0 0 (wordsOf (8 ∷ 7 ∷ []))
+
+-- "a listed 16-byte UIR"
+unfoldable pub fileF : List ℕ
+fileF = fileOf 388 0 0 372 (wordsOf (16 ∷ minusOne ∷ 0 ∷ 0 ∷ []))
+
+-- "F with the UIR naming itself as next"
+unfoldable pub fileG : List ℕ
+fileG = fileOf 388 0 0 372 (wordsOf (16 ∷ minusOne ∷ 372 ∷ 0 ∷ []))
+
+unfoldable pub fileH : List ℕ
+fileH = fileOf 550 372 1 0 (variable 14 6)
+
+-- "H with a VVR of 15 bytes"
+unfoldable pub fileI : List ℕ
+fileI = fileOf 551 372 1 0 (variable 15 7)
+
+-- ---- rows
+-- the marks at some places
+unfoldable pub marksAre : List ℕ → List (ℕ × ℕ) → Bool
+marksAre m [] = true
+marksAre m (p ∷ ps) = eqb (getD m (p .0) 0) (p .1) && marksAre m ps
+
+-- the plain run over a file, with marks that are all 7 to begin with, gives this verdict in this many steps and leaves these marks
+unfoldable pub ends : ℤ → ℕ → List (ℕ × ℕ) → Run → Bool
+ends v n ps r = eqZ (answerOf (r .at .state .stage)) v && eqb (r .made) n && marksAre (r .at .marks) ps
+
+unfoldable pub checks : List ℕ → ℤ → ℕ → List (ℕ × ℕ) → Bool
+checks f v n ps = ends v n ps (plainRun f (replicate (length f) 7) (length f / 4 + 1))
+
+unfoldable pub allOf : List Bool → Bool
+allOf [] = true
+allOf (b ∷ bs) = b && allOf bs
+
+-- a row for each file, with the marks at its record starts
+unfoldable pub rows : List Bool
+rows =
+    checks fileA (pos 0) 8 ((0, 7) ∷ (8, 1) ∷ (312, 2) ∷ [])
+    ∷ checks fileB (pos 3) 1 []
+    ∷ checks fileC (pos 3) 1 ((8, 7) ∷ (312, 7) ∷ [])
+    ∷ checks fileD (pos 0) 9 ((8, 1) ∷ (312, 2) ∷ (372, 1) ∷ [])
+    ∷ checks fileE (pos 13) 9 ((8, 1) ∷ (312, 2) ∷ (372, 1) ∷ [])
+    ∷ checks fileF (pos 0) 10 ((8, 1) ∷ (312, 2) ∷ (372, 2) ∷ [])
+    ∷ checks fileG (pos 9) 10 ((8, 1) ∷ (312, 2) ∷ (372, 2) ∷ [])
+    ∷ checks fileH (pos 0) 15 ((8, 1) ∷ (312, 2) ∷ (372, 2) ∷ (504, 2) ∷ (536, 2) ∷ [])
+    ∷ checks fileI (pos 10) 11 ((8, 1) ∷ (312, 2) ∷ (372, 2) ∷ (504, 2) ∷ (536, 1) ∷ [])
+    ∷ []
+
+-- THE TABLE
+pub small-files : allOf rows ≡ true
+unfolding bigAt endOf fieldAt isAt atLeast atMost inOrder sameAt eachWithin natAt afterAt linkAt bitAt typeOf encodingOf
+    reachOf judged tooLong magicsRight whollyCompressed cdrRight singleFile gdrAt gdrFields gdrRight opening typeKnown
+    tileFields tileRight typeUncarried tile adrRight adrRule elementSize aedrRight aedrRule vxrRight vxrRule rangeRight
+    entryOf vvrRule uirRule capped carriedOf vdrFields countPlace countRight layoutAt layoutOf valueBytes padBytes
+    sizeExact dimensionsRight factorOf spread recordBytes dimensioned variableOf typeNumber followed gdrThere varsTally
+    varNumber chainTally attrNumber entriesTally entryNumber unusedNumber turnOf cleared marked startAt unclaimedAt
+    followedAt leftFrom leftOf openNumber linkNumber turned stepBy runOf wordsOf fileOf variable fileA fileB fileC
+    fileD fileE fileF fileG fileH fileI marksAre ends checks allOf rows
+small-files = refl

@@ -1,0 +1,1 @@
+// The small files of document 01, run by computation.
