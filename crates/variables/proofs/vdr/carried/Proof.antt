@@ -1,4 +1,4 @@
-use borrow.Author.Tests.{lt-ltb, le-ltb, le-leb}
+use borrow.Author.Tests.{lt-ltb, le-ltb}
 use Rattle.variables.specs.Vdr.{carriedOf}
 use borrow.Author.Needs.{needs}
 use Rattle.variables.proofs.vdr.carried.Statement.{statement}

@@ -1,5 +1,5 @@
 use Rattle.variables.proofs.Capped.{capped-over, capped-under}
-use borrow.Author.Tests.{lt-ltb, le-ltb, le-leb, not-true, not-false}
+use borrow.Author.Tests.{lt-ltb, le-ltb, not-true, not-false}
 use Rattle.variables.specs.Vdr.{dimensioned}
 use borrow.Author.Needs.{needs}
 use Rattle.variables.proofs.vdr.dimensioned_vdr.Statement.{statement}
