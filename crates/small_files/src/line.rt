@@ -1,0 +1,97 @@
+// One line for each file.
+use crate::runs;
+use crate::runs::Run;
+
+fn verdict(v: i32) {
+    if v < 0 {
+        io::write_all(1, b"none");
+    } else {
+        io::print_decimal(1, v as u64);
+    }
+}
+
+fn ending(r: Run) {
+    io::write_all(1, b": verdict ");
+    verdict(r.verdict);
+    io::write_all(1, b" in ");
+    io::print_decimal(1, r.steps);
+    if r.steps == 1 {
+        io::write_all(1, b" step");
+    } else {
+        io::write_all(1, b" steps");
+    }
+}
+
+fn wide(x: u8) -> u64 {
+    x as u64
+}
+
+// The mark of the record that starts at a place.
+fn mark(m: &[u8], at: usize) {
+    if at < m.len() {
+        io::write_all(1, b" ");
+        io::print_decimal(1, at as u64);
+        io::write_all(1, b":");
+        io::print_decimal(1, wide(m[at]));
+    }
+}
+
+// The marks of a file's first records.
+fn marks(m: &[u8], records: usize) {
+    let starts = [8, 312, 372, 504, 536];
+    io::write_all(1, b", marks");
+    if records == 0 {
+        io::write_all(1, b" none");
+    }
+    let mut i = 0;
+    while i < records {
+        if i < 5 {
+            mark(m, starts[i]);
+        }
+        i += 1;
+    }
+}
+
+fn same_marks(a: &[u8], b: &[u8]) -> bool {
+    if a.len() != b.len() {
+        return false;
+    }
+    let mut i = 0;
+    while i < a.len() {
+        if a[i] != b[i] {
+            return false;
+        }
+        i += 1;
+    }
+    true
+}
+
+fn same_run(a: Run, b: Run) -> bool {
+    (a.verdict == b.verdict) & (a.steps == b.steps)
+}
+
+// A file checked both ways, each with marks that are first all 7.
+fn checked(file: &[u8], records: usize) {
+    let mut m = [7u8; 560];
+    let one = runs::in_one(file, &mut m);
+    ending(one);
+    marks(&m, records);
+    let mut n = [7u8; 560];
+    let many = runs::in_many(file, &mut n);
+    if same_run(one, many) & same_marks(&m, &n) {
+        io::write_all(1, b", same in grants of 1\n");
+    } else {
+        io::write_all(1, b", other in grants of 1\n");
+    }
+}
+
+// The line of the file that is the first bytes of f.
+pub fn shown(name: &[u8], f: &[u8], length: u32, records: usize) {
+    let n = length as usize;
+    io::write_all(1, name);
+    if f.len() < n {
+        io::write_all(1, b": too long\n");
+        return;
+    }
+    checked(&f[..n], records);
+}
