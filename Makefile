@@ -14,8 +14,12 @@ test:
 lib:
 	rt staticlib checker
 
-$(LIBRARY):
+$(LIBRARY): $(wildcard crates/*/src/*.rt)
 	rt staticlib checker
+
+build/check: tools/check.c include/tlepozaluh.h $(LIBRARY)
+	mkdir -p build
+	$(CC) $(CFLAGS) -Iinclude -o $@ tools/check.c $(LIBRARY)
 
 build/bench: bench/bench.c bench/check.c bench/check.h include/tlepozaluh.h $(LIBRARY)
 	mkdir -p build
