@@ -4,7 +4,8 @@ use tlepozaluh_host::bindings::{self, check_grant, fresh, from_bytes, to_bytes, 
 use tlepozaluh_host::build;
 use tlepozaluh_host::build::model::File;
 use tlepozaluh_host::build::random::Random;
-use tlepozaluh_host::damage::{self, Damage};
+use tlepozaluh_host::build::records::put;
+use tlepozaluh_host::damage::{self, Damage, Found};
 use tlepozaluh_host::second::check::{self, Check, RUNNING};
 use tlepozaluh_host::second::tables::encoding;
 
@@ -104,6 +105,57 @@ fn several_damages() {
             agreed(&damaged, &|| format!("seed {seed}: {damages:?}"));
         }
     }
+}
+
+/// A record cut in two that tile: the second part is an unused record. A VDR's Flags may get bit 2.
+fn cut_in_two(file: &[u8], record: &Found, size: usize, compressed: bool) -> Vec<u8> {
+    let mut cut = file.to_vec();
+    if compressed {
+        put(&mut cut, record.offset + 28, 4);
+    }
+    put(&mut cut, record.offset, size as i64);
+    put(&mut cut, record.offset + size, (record.size - size) as i64);
+    put(&mut cut, record.offset + size + 4, -1);
+    cut
+}
+
+/// Records whose own size ends before a field they are judged by, in files that are still tiled.
+#[test]
+fn records_cut_in_two() {
+    let mut verdicts = [0; 15];
+    for seed in 0..30 {
+        let (_, file) = build::any(seed);
+        for record in damage::records(&file).iter().filter(|record| record.size >= 16) {
+            for size in 8..=(record.size - 8).min(200) {
+                for compressed in [false, true] {
+                    if compressed && !matches!(record.record_type, 3 | 8) {
+                        continue;
+                    }
+                    let what = || format!("seed {seed}: {record:?} cut at {size}, {compressed}");
+                    let verdict = agreed(&cut_in_two(&file, record, size, compressed), &what);
+                    verdicts[verdict as usize] += 1;
+                }
+            }
+        }
+    }
+    assert!([0, 5, 6, 10, 14].iter().all(|verdict| verdicts[*verdict] > 0), "{verdicts:?}");
+}
+
+/// A record made longer by the one that follows it.
+#[test]
+fn records_joined() {
+    let mut verdicts = [0; 15];
+    for seed in 0..300 {
+        let (_, file) = build::any(seed);
+        for pair in damage::records(&file).windows(2) {
+            let size = pair[0].size + pair[1].size;
+            let damage = Damage::Field { offset: pair[0].offset, value: size as i64 };
+            let joined = damage::damaged(&file, &damage);
+            let verdict = agreed(&joined, &|| format!("seed {seed}: {damage:?}"));
+            verdicts[verdict as usize] += 1;
+        }
+    }
+    assert!([0, 5, 6, 8, 10].iter().all(|verdict| verdicts[*verdict] > 0), "{verdicts:?}");
 }
 
 /// Bytes at random, in a file whose opening is left whole.
