@@ -1,5 +1,6 @@
 //! The project's sample files and the lines that say what is expected of them.
 
+use std::collections::HashMap;
 use std::path::PathBuf;
 
 /// The directory of the samples, beside this package.
@@ -80,6 +81,21 @@ pub fn check_line(line: &str) -> Option<CheckLine> {
         steps: words.next()?.parse().ok()?,
         marks: u64::from_str_radix(words.next()?, 16).ok()?,
     })
+}
+
+/// The lines of `checks.txt`, each with its file out of `checks.tar`; nothing if one of them is missing.
+pub fn checked_files() -> Option<Vec<(CheckLine, Vec<u8>)>> {
+    let archive = std::fs::read(directory().join("checks.tar")).ok()?;
+    let text = std::fs::read_to_string(directory().join("checks.txt")).ok()?;
+    let found = members(&archive)?.into_iter();
+    let mut files: HashMap<String, Vec<u8>> =
+        found.map(|member| (member.name, member.bytes)).collect();
+    let lines = text.lines().map(|line| {
+        let line = check_line(line)?;
+        let file = files.remove(&line.name)?;
+        Some((line, file))
+    });
+    lines.collect()
 }
 
 /// A line of `reads.txt`.

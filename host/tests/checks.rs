@@ -1,7 +1,5 @@
 //! Every line of samples/checks.txt: verdict, steps and marks, in one run and in grants.
 
-use std::collections::HashMap;
-
 use tlepozaluh_host::build::random::Random;
 use tlepozaluh_host::samples::{self, CheckLine};
 use tlepozaluh_host::second::check::{run, Check, Granted, RUNNING};
@@ -9,27 +7,14 @@ use tlepozaluh_host::second::check::{run, Check, Granted, RUNNING};
 const LINES: usize = 830;
 
 fn lines_and_files() -> Vec<(CheckLine, Vec<u8>)> {
-    let directory = samples::directory();
-    let archive = std::fs::read(directory.join("checks.tar")).expect("samples/checks.tar");
-    let text = std::fs::read_to_string(directory.join("checks.txt")).expect("samples/checks.txt");
-    let members = samples::members(&archive).expect("a plain ustar archive");
-    assert_eq!(members.len(), LINES);
-    let mut files: HashMap<String, Vec<u8>> =
-        members.into_iter().map(|member| (member.name, member.bytes)).collect();
-    text.lines()
-        .map(|line| {
-            let line = samples::check_line(line).expect(line);
-            let file = files.remove(&line.name).expect(&line.name);
-            (line, file)
-        })
-        .collect()
+    let all = samples::checked_files().expect("samples/checks.txt and samples/checks.tar");
+    assert_eq!(all.len(), LINES);
+    all
 }
 
 #[test]
 fn every_line_in_one_run() {
-    let all = lines_and_files();
-    assert_eq!(all.len(), LINES);
-    for (line, file) in all {
+    for (line, file) in lines_and_files() {
         let mut marks = vec![0xAA; file.len()];
         let answer = run(&file, &mut marks);
         let expected = Granted { verdict: line.verdict, steps: line.steps };

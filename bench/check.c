@@ -1,0 +1,352 @@
+/*
+ * The whole check in plain C: opening, sweep, walk, with the numbers and steps of the rules. It takes no grants and keeps
+ * no state; where it stands is kept in locals.
+ */
+#include "check.h"
+
+#include <string.h>
+
+enum { CDR = 1, GDR, RVDR, ADR, GR_AEDR, VXR, VVR, ZVDR, Z_AEDR, UIR = -1 };
+
+static const int64_t GREATEST = 2147483647;
+
+/* A swept file: its bytes, its marks and its length. */
+struct swept {
+    const uint8_t *f;
+    uint8_t *m;
+    int64_t length;
+    uint64_t steps;
+};
+
+static int32_t field(const uint8_t *f, int64_t o)
+{
+    uint32_t n = (uint32_t)f[o] << 24 | (uint32_t)f[o + 1] << 16 | (uint32_t)f[o + 2] << 8 | f[o + 3];
+    return (int32_t)n;
+}
+
+/* Bytes of an element of a data type, 0 if there is no such type. */
+static int64_t element_size(int32_t type)
+{
+    switch (type) {
+    case 1: case 11: case 41: case 51: case 52: return 1;
+    case 2: case 12: return 2;
+    case 4: case 14: case 21: case 44: return 4;
+    case 22: case 31: case 45: return 8;
+    default: return 0;
+    }
+}
+
+/* n fields from o on are in a range. */
+static int within(const uint8_t *f, int64_t o, int32_t n, int32_t least, int32_t most)
+{
+    for (int32_t i = 0; i < n; i++) {
+        int32_t value = field(f, o + 4 * (int64_t)i);
+        if (value < least || value > most)
+            return 0;
+    }
+    return 1;
+}
+
+static int cdr_right(const uint8_t *f)
+{
+    int32_t encoding = field(f, 28);
+    int known = encoding >= 1 && encoding <= 16 && encoding != 8 && encoding != 10;
+    return field(f, 12) == CDR && field(f, 8) == 304 && field(f, 20) == 2 && known && (uint32_t)field(f, 32) < 4;
+}
+
+static int gdr_right(const uint8_t *f, int64_t length)
+{
+    int64_t g = field(f, 16);
+    if (g < 312 || g + 60 > length || field(f, g + 4) != GDR)
+        return 0;
+    int32_t dimensions = field(f, g + 36);
+    if (dimensions < 0 || dimensions > 10 || field(f, g) != 60 + 4 * dimensions || g + 60 + 4 * dimensions > length)
+        return 0;
+    int counts = field(f, g + 24) >= 0 && field(f, g + 28) >= 0 && field(f, g + 40) >= 0;
+    return counts && field(f, g + 32) >= -1 && field(f, g + 20) == length && within(f, g + 60, dimensions, 1, INT32_MAX);
+}
+
+/* 1, 2, 3, 4, 5, 14, 6 in this order, or 0. */
+static int32_t opening(const uint8_t *f, size_t length, size_t marks_len)
+{
+    if (length > (size_t)GREATEST)
+        return 1;
+    if (marks_len < length)
+        return 2;
+    if (length < 372)
+        return 3;
+    uint32_t second = (uint32_t)field(f, 4);
+    if ((uint32_t)field(f, 0) != 0xCDF26002u || (second != 0x0000FFFFu && second != 0xCCCC0001u))
+        return 3;
+    if (second == 0xCCCC0001u)
+        return 4;
+    if (!cdr_right(f))
+        return 5;
+    if (!(field(f, 32) & 2))
+        return 14;
+    return gdr_right(f, (int64_t)length) ? 0 : 6;
+}
+
+/* A step a record: 7, 14, or 0 when the file's end is met. */
+static int32_t sweep(struct swept *s)
+{
+    int64_t o = 8;
+    while (o != s->length) {
+        s->steps++;
+        if (s->length - o < 8)
+            return 7;
+        int64_t size = field(s->f, o);
+        int32_t type = field(s->f, o + 4);
+        if (size < 8 || size > s->length - o || type < -1 || type == 0 || type > 13)
+            return 7;
+        if (type >= 10)
+            return 14;
+        memset(s->m + o, 0, (size_t)size);
+        s->m[o] = 1;
+        o += size;
+    }
+    return 0;
+}
+
+/* A link to a record of a type: 8, 9, or 0. */
+static int32_t leads(const struct swept *s, int64_t o, int32_t type)
+{
+    if (o < 8 || o >= s->length || (s->m[o] != 1 && s->m[o] != 2) || field(s->f, o + 4) != type)
+        return 8;
+    return s->m[o] == 1 ? 0 : 9;
+}
+
+/* Bytes of a record of a variable whose dimensions keep their rule, or -1. */
+static int64_t dimension_bytes(const uint8_t *f, int64_t sizes, int64_t variances, int32_t count, int64_t value)
+{
+    if (!within(f, sizes, count, 1, INT32_MAX) || !within(f, variances, count, -1, 0))
+        return -1;
+    for (int32_t i = 0; i < count && value <= GREATEST; i++)
+        if (field(f, variances + 4 * (int64_t)i) == -1)
+            value *= field(f, sizes + 4 * (int64_t)i);
+    return value <= GREATEST ? value : -1;
+}
+
+/* Bytes of a record of a variable whose VDR keeps its rule, or -1. */
+static int64_t variable_bytes(const struct swept *s, int64_t o, int32_t kind)
+{
+    const uint8_t *f = s->f;
+    int64_t fixed = kind == ZVDR ? 132 : 128, size = field(f, o), gdr = field(f, 16);
+    if (size < fixed)
+        return -1;
+    int32_t type = field(f, o + 12), flags = field(f, o + 28), elements = field(f, o + 48);
+    int64_t value = elements * element_size(type);
+    int characters = type == 51 || type == 52;
+    if (value < 1 || (elements != 1 && !characters) || (uint32_t)flags > 7 || field(f, o + 16) < -1)
+        return -1;
+    if (field(f, o + 32) < 0 || field(f, o + 32) > 2)
+        return -1;
+    int32_t count = kind == ZVDR ? field(f, o + 128) : field(f, gdr + 36);
+    if (count < 0 || count > 10)
+        return -1;
+    int64_t own = kind == ZVDR ? 4 * (int64_t)count : 0;
+    if (size != fixed + own + 4 * (int64_t)count + (flags & 2 ? value : 0))
+        return -1;
+    return dimension_bytes(f, kind == ZVDR ? o + 132 : gdr + 60, o + fixed + own, count, value);
+}
+
+/* The used entries of the VXR x; *floor is the last Last + 1, *covered whether MaxRec is met. */
+static int32_t walk_entries(struct swept *s, int64_t x, int64_t bytes, int32_t most, int64_t *floor, int *covered)
+{
+    const uint8_t *f = s->f;
+    int64_t entries = field(f, x + 12), used = field(f, x + 16), from = *floor;
+    int met = *covered;
+    for (int64_t i = 0; i < used; i++) {
+        s->steps++;
+        int64_t at = x + 20 + 4 * i;
+        int64_t first = field(f, at), last = field(f, at + 4 * entries), o = field(f, at + 8 * entries);
+        if (first < from || last < first)
+            return 12;
+        int32_t number = leads(s, o, VVR);
+        if (number != 0)
+            return number;
+        if (field(f, o) != 8 + (last - first + 1) * bytes)
+            return 10;
+        s->m[o] = 2;
+        from = last + 1;
+        met |= first <= most && most <= last;
+    }
+    *floor = from;
+    *covered = met;
+    return 0;
+}
+
+/* The index chain of the variable v. */
+static int32_t walk_index(struct swept *s, int64_t v, int64_t bytes)
+{
+    const uint8_t *f = s->f;
+    int64_t floor = 0, tail = 0;
+    int32_t most = field(f, v + 16);
+    int covered = most == -1;
+    for (int64_t x = field(f, v + 20);; x = field(f, x + 8)) {
+        s->steps++;
+        if (x == 0)
+            break;
+        int32_t number = leads(s, x, VXR);
+        if (number != 0)
+            return number;
+        int64_t size = field(f, x);
+        if (size < 20 || field(f, x + 16) < 0 || field(f, x + 16) > field(f, x + 12))
+            return 10;
+        if (size != 20 + 12 * (int64_t)field(f, x + 12))
+            return 10;
+        s->m[x] = 2;
+        number = walk_entries(s, x, bytes, most, &floor, &covered);
+        if (number != 0)
+            return number;
+        tail = x;
+    }
+    if (field(f, v + 24) != tail)
+        return 11;
+    return covered ? 0 : 12;
+}
+
+/* The list of variables of a kind, from a head. */
+static int32_t walk_variables(struct swept *s, int32_t kind, int64_t v)
+{
+    const uint8_t *f = s->f;
+    int64_t g = field(f, 16);
+    int32_t count = 0, greatest = -1;
+    for (;; v = field(f, v + 8), count++) {
+        s->steps++;
+        if (v == 0)
+            break;
+        int32_t number = leads(s, v, kind);
+        if (number != 0)
+            return number;
+        if (field(f, v) >= 32 && (field(f, v + 28) & 4))
+            return 14;
+        int64_t bytes = variable_bytes(s, v, kind);
+        if (bytes < 0)
+            return 10;
+        if (field(f, v + 52) != count)
+            return 11;
+        s->m[v] = 2;
+        if (field(f, v + 16) > greatest)
+            greatest = field(f, v + 16);
+        number = walk_index(s, v, bytes);
+        if (number != 0)
+            return number;
+    }
+    if (field(f, g + (kind == ZVDR ? 40 : 24)) != count)
+        return 11;
+    return kind == ZVDR || field(f, g + 32) == greatest ? 0 : 11;
+}
+
+/* The entries of a kind of the attribute a, from a head; its count and maximum stand at tally. */
+static int32_t walk_attribute_entries(struct swept *s, int64_t a, int32_t kind, int64_t e, int64_t tally)
+{
+    const uint8_t *f = s->f;
+    int32_t count = 0, greatest = -1;
+    for (;; e = field(f, e + 8), count++) {
+        s->steps++;
+        if (e == 0)
+            break;
+        int32_t number = leads(s, e, kind);
+        if (number != 0)
+            return number;
+        if (field(f, e) < 48)
+            return 10;
+        int64_t element = element_size(field(f, e + 16)), elements = field(f, e + 24);
+        if (element == 0 || field(f, e + 20) < 0 || elements < 1 || field(f, e) != 48 + elements * element)
+            return 10;
+        if (field(f, e + 12) != field(f, a + 20))
+            return 11;
+        s->m[e] = 2;
+        if (field(f, e + 20) > greatest)
+            greatest = field(f, e + 20);
+    }
+    return field(f, tally) == count && field(f, tally + 4) == greatest ? 0 : 11;
+}
+
+/* The list of attributes. */
+static int32_t walk_attributes(struct swept *s, int64_t a)
+{
+    const uint8_t *f = s->f;
+    int64_t g = field(f, 16);
+    int32_t count = 0;
+    for (;; a = field(f, a + 8), count++) {
+        s->steps++;
+        if (a == 0)
+            break;
+        int32_t number = leads(s, a, ADR);
+        if (number != 0)
+            return number;
+        if (field(f, a) != 116 || field(f, a + 16) < 1 || field(f, a + 16) > 2)
+            return 10;
+        if (field(f, a + 20) != count)
+            return 11;
+        s->m[a] = 2;
+        number = walk_attribute_entries(s, a, GR_AEDR, field(f, a + 12), a + 24);
+        if (number == 0)
+            number = walk_attribute_entries(s, a, Z_AEDR, field(f, a + 36), a + 40);
+        if (number != 0)
+            return number;
+    }
+    return field(f, g + 28) == count ? 0 : 11;
+}
+
+/* The list of unused records. */
+static int32_t walk_unused(struct swept *s, int64_t u)
+{
+    const uint8_t *f = s->f;
+    int64_t before = 0;
+    for (;; before = u, u = field(f, u + 8)) {
+        s->steps++;
+        if (u == 0)
+            return 0;
+        int32_t number = leads(s, u, UIR);
+        if (number != 0)
+            return number;
+        if (field(f, u) < 16)
+            return 10;
+        if (field(f, u + 12) != before)
+            return 11;
+        s->m[u] = 2;
+    }
+}
+
+/* 13 if a record in use was not claimed, else 0. */
+static int32_t unclaimed(const struct swept *s)
+{
+    for (int64_t o = 8; o != s->length; o += field(s->f, o))
+        if (o != 8 && s->m[o] != 2 && field(s->f, o + 4) != UIR)
+            return 13;
+    return 0;
+}
+
+static int32_t walk(struct swept *s)
+{
+    const uint8_t *f = s->f;
+    int64_t g = field(f, 16);
+    s->steps++;
+    int32_t number = leads(s, g, GDR);
+    if (number != 0)
+        return number;
+    s->m[g] = 2;
+    number = walk_variables(s, RVDR, field(f, g + 8));
+    if (number == 0)
+        number = walk_variables(s, ZVDR, field(f, g + 12));
+    if (number == 0)
+        number = walk_attributes(s, field(f, g + 16));
+    if (number == 0)
+        number = walk_unused(s, field(f, g + 44));
+    return number != 0 ? number : unclaimed(s);
+}
+
+int32_t plain_check(const uint8_t *file, size_t file_len, uint8_t *marks, size_t marks_len, uint64_t *steps)
+{
+    struct swept s = { file, marks, (int64_t)file_len, 1 };
+    int32_t number = opening(file, file_len, marks_len);
+    if (number == 0)
+        number = sweep(&s);
+    if (number == 0)
+        number = walk(&s);
+    *steps = s.steps;
+    return number;
+}

@@ -1,0 +1,72 @@
+//! The proved checker on the sample files: every line of samples/checks.txt and every ring.
+
+use tlepozaluh_host::bindings::{check_grant, fresh, from_bytes, run, to_bytes};
+use tlepozaluh_host::build::random::Random;
+use tlepozaluh_host::samples::{self, CheckLine};
+use tlepozaluh_host::second::check;
+
+const LINES: usize = 830;
+const RUNNING: i32 = -1;
+
+fn lines_and_files() -> Vec<(CheckLine, Vec<u8>)> {
+    let all = samples::checked_files().expect("samples/checks.txt and samples/checks.tar");
+    assert_eq!(all.len(), LINES);
+    all
+}
+
+#[test]
+fn every_line_in_one_run() {
+    for (line, file) in lines_and_files() {
+        let mut marks = vec![0xAA; file.len()];
+        assert_eq!(run(&file, &mut marks), (line.verdict, line.steps), "{}", line.name);
+        assert_eq!(samples::fnv1a(&marks), line.marks, "marks of {}", line.name);
+    }
+}
+
+/// Grants from 0 to `greatest` steps, the state kept as bytes between them; verdict and steps.
+fn in_grants(file: &[u8], marks: &mut [u8], random: &mut Random, greatest: i64) -> (i32, u64) {
+    let mut kept = to_bytes(&fresh());
+    let mut made = 0;
+    loop {
+        let mut state = from_bytes(&kept).expect("48 bytes");
+        let grant = random.between(0, greatest) as u64;
+        let (answer, steps) = check_grant(file, marks, &mut state, grant);
+        assert!(steps == grant || steps < grant && answer != RUNNING);
+        kept = to_bytes(&state);
+        made += steps;
+        if answer != RUNNING {
+            return (answer, made);
+        }
+    }
+}
+
+#[test]
+fn every_line_in_random_grants() {
+    let mut random = Random::seeded(831);
+    for (line, file) in lines_and_files() {
+        for greatest in [1, 2, 5, 40] {
+            let mut marks = vec![0xAA; file.len()];
+            let answer = in_grants(&file, &mut marks, &mut random, greatest);
+            assert_eq!(answer, (line.verdict, line.steps), "{}", line.name);
+            assert_eq!(samples::fnv1a(&marks), line.marks, "marks of {}", line.name);
+        }
+    }
+}
+
+/// A ring is refused at the step that meets its record again, and not after the count its list claims.
+#[test]
+fn every_ring_is_refused_in_a_few_steps() {
+    let mut refused = 0;
+    for found in std::fs::read_dir(samples::directory().join("rings")).expect("samples/rings") {
+        let path = found.expect("a file").path();
+        let file = std::fs::read(&path).expect("its bytes");
+        let mut marks = vec![0x77; file.len()];
+        let (verdict, steps) = run(&file, &mut marks);
+        assert!((7..=9).contains(&verdict) && steps <= 30, "{path:?}: {verdict} at {steps}");
+        let mut other_marks = vec![0x77; file.len()];
+        let other = check::run(&file, &mut other_marks);
+        assert_eq!((verdict, steps, marks), (other.verdict, other.steps, other_marks), "{path:?}");
+        refused += 1;
+    }
+    assert_eq!(refused, 11);
+}
