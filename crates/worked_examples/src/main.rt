@@ -1,5 +1,4 @@
 // The worked examples of the format description, run: the VXR of section 2.7 and the tables of chapter 4.
-mod store;
 mod tables;
 mod vxr;
 

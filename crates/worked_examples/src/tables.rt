@@ -1,5 +1,4 @@
 // Chapter 4: where each value of a record stands, as offsets from the record's start, the last index running fastest.
-use crate::store;
 use variables::limit;
 use variables::place;
 use variables::place::Place;
@@ -8,12 +7,12 @@ use variables::vdr::Variable;
 
 // The fields of a zVDR at the file's start, of a size, for values of a data type in n dimensions.
 fn describe(f: &mut [u8], size: u32, data: u32, elements: u32, n: u32) {
-    store::put(f, 0, size);
-    store::put(f, 4, 8);
-    store::put(f, 12, data);
-    store::put(f, 28, 1);
-    store::put(f, 48, elements);
-    store::put(f, 128, n);
+    making::put(f, 0, size);
+    making::put(f, 4, 8);
+    making::put(f, 12, data);
+    making::put(f, 28, 1);
+    making::put(f, 48, elements);
+    making::put(f, 128, n);
 }
 
 // A variance: -1 for true, 0 for false.
@@ -96,10 +95,10 @@ fn plane_line(f: &[u8], v: Variable, first: bool, second: bool, row: bool) {
 pub fn plane(first: bool, second: bool) {
     let mut f = [0u8; 148];
     describe(&mut f, 148, 21, 1, 2);
-    store::put(&mut f, 132, 3);
-    store::put(&mut f, 136, 5);
-    store::put(&mut f, 140, variance(first));
-    store::put(&mut f, 144, variance(second));
+    making::put(&mut f, 132, 3);
+    making::put(&mut f, 136, 5);
+    making::put(&mut f, 140, variance(first));
+    making::put(&mut f, 144, variance(second));
     let v = vdr::variable_at(&f, 8, 0);
     plane_line(&f, v, first, second, true);
     plane_line(&f, v, first, second, false);
@@ -115,12 +114,12 @@ fn solid_line(f: &[u8], v: Variable, row: bool) {
 pub fn solid() {
     let mut f = [0u8; 156];
     describe(&mut f, 156, 51, 5, 3);
-    store::put(&mut f, 132, 2);
-    store::put(&mut f, 136, 3);
-    store::put(&mut f, 140, 4);
-    store::put(&mut f, 144, variance(true));
-    store::put(&mut f, 148, variance(false));
-    store::put(&mut f, 152, variance(true));
+    making::put(&mut f, 132, 2);
+    making::put(&mut f, 136, 3);
+    making::put(&mut f, 140, 4);
+    making::put(&mut f, 144, variance(true));
+    making::put(&mut f, 148, variance(false));
+    making::put(&mut f, 152, variance(true));
     let v = vdr::variable_at(&f, 8, 0);
     solid_line(&f, v, true);
     solid_line(&f, v, false);

@@ -1,5 +1,4 @@
 // Section 2.7: a VXR of ten entries, two of them used.
-use crate::store;
 use format::fields;
 use records::index;
 
@@ -7,26 +6,26 @@ use records::index;
 fn unused(f: &mut [u8]) {
     let mut i = 0;
     while i < 30 {
-        store::put(f, 20 + 4 * i, 0xffff_ffff);
+        making::put(f, 20 + 4 * i, 0xffff_ffff);
         i += 1;
     }
 }
 
 fn header(f: &mut [u8]) {
-    store::put(f, 0, 140);
-    store::put(f, 4, 6);
-    store::put(f, 12, 10);
-    store::put(f, 16, 2);
+    making::put(f, 0, 140);
+    making::put(f, 4, 6);
+    making::put(f, 12, 10);
+    making::put(f, 16, 2);
     unused(f);
 }
 
 fn used_entries(f: &mut [u8]) {
-    store::put(f, 20, 0);
-    store::put(f, 24, 100);
-    store::put(f, 60, 99);
-    store::put(f, 64, 149);
-    store::put(f, 100, 0xa400);
-    store::put(f, 104, 0xb554);
+    making::put(f, 20, 0);
+    making::put(f, 24, 100);
+    making::put(f, 60, 99);
+    making::put(f, 64, 149);
+    making::put(f, 100, 0xa400);
+    making::put(f, 104, 0xb554);
 }
 
 // Entry i, counted from 0, whose range begins at floor or above; answers where the next may begin.

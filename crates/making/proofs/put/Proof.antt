@@ -1,17 +1,31 @@
-use lib.ListN.{length-set}
+use Prim.Native.Nat.{ℕ, _+_, _≤_, _<_}
+use mathlib.Core.List.{List}
+use mathlib.Core.Path.{_≡_, sym}
+use lib.ListN.{length, length-set}
 use native.Mathlib.Omega.{arith}
 use borrow.Author.Needs.{needs}
-use Rattle.worked_examples.proofs.store.put.Statement.{statement}
-use Rattle.worked_examples.proofs.store.put.Tie as tie
+use borrow.Author.Tests.{lt-leb, le-leb}
+use Rattle.making.specs.Stored.{written, stored}
+use Rattle.making.proofs.put.Statement.{statement}
+use Rattle.making.proofs.put.Tie as tie
+
+-- a field that ends past the file's end, and one that does not
+stored-past : (f : List ℕ) (at n : ℕ) → length f < at + 4 → stored f at n ≡ f
+unfolding stored
+stored-past f at n h = simp (lt-leb _ _ h)
+
+stored-in : (f : List ℕ) (at n : ℕ) → at + 4 ≤ length f → stored f at n ≡ written f at n
+unfolding stored
+stored-in f at n h = simp (le-leb _ _ h)
 
 returns : tie.Need-returns
-returns c = search needs
+returns c = sym (stored-past _ _ _ (omega arith))
 
 sub-if2 : tie.Need-sub-if2
 sub-if2 c = search needs
 
 returns-2 : tie.Need-returns-2
-returns-2 c = search needs
+returns-2 c = sym (stored-past _ _ _ (omega arith))
 
 cast-f : tie.Need-cast-f
 cast-f c = search needs
@@ -50,7 +64,7 @@ same-length : tie.Need-same-length
 same-length c = search needs
 
 returns-3 : tie.Need-returns-3
-returns-3 c = search needs
+returns-3 c = sym (stored-in _ _ _ (omega arith))
 
 pub put-spec : {M : Type 1} → statement M
 put-spec =
