@@ -1,25 +1,51 @@
-# Tlepozaluh. `make run`: the worked examples of the format description. `make test`: the gate. `make lib`: the static library
-# for C. `make bench`: its speed against the same check in plain C.
-.PHONY: run test lib bench clean
+# Tlepozaluh. `make run`: the tools on a good file and on rings, then the worked examples. `make test`: the gate.
+# `make lib`: the static libraries for C. `make tools`: the programs. `make bench`: the check's speed against the same check in
+# plain C. `make install`: header, libraries, programs and manual pages below PREFIX, with DESTDIR before it.
+.PHONY: run examples test lib tools bench install clean build/tlepozaluh.pc
 
-LIBRARY = target/staticlib/libchecker.a
+VERSION = 0.1.0
+PREFIX = /usr/local
+DESTDIR =
 CFLAGS = -std=c11 -O2 -Wall -Wextra -Wpedantic
 
-run:
+# The archives that rt makes, one a crate with calls for C. libtlepozaluh.a has all of them.
+LIBRARY = target/staticlib/libchecker.a
+ARCHIVES = $(LIBRARY)
+LIBRARIES = build/libtlepozaluh.a
+
+# The programs, each tools/NAME.c, with what they share and their own parts; each has a manual page man/NAME.1.
+PROGRAMS = cdfcheck cdfnight
+SHARED = $(addprefix tools/,console.c input.c job.c options.c print.c saved.c text.c window.c words.c)
+HEADERS = include/tlepozaluh.h $(wildcard tools/*.h)
+
+run: tools
+	build/cdfcheck samples/01_base_A.cdf samples/02_h_le.cdf
+	! build/cdfcheck samples/rings/ring_vdr_self.cdf samples/rings/ring_uir.cdf
+	$(MAKE) examples
+
+examples:
 	rt check worked_examples
 
 test:
 	.ci/run
 
-lib:
-	rt staticlib checker
+lib: $(LIBRARIES)
 
-$(LIBRARY): $(wildcard crates/*/src/*.rt)
-	rt staticlib checker
+target/staticlib/lib%.a: $(wildcard crates/*/src/*.rt)
+	rt staticlib $*
 
-build/check: tools/check.c include/tlepozaluh.h $(LIBRARY)
+build/libtlepozaluh.a: $(ARCHIVES)
 	mkdir -p build
-	$(CC) $(CFLAGS) -Iinclude -o $@ tools/check.c $(LIBRARY)
+	rm -f $@
+	printf 'create $@\n$(foreach archive,$(ARCHIVES),addlib $(archive)\n)save\nend\n' | ar -M
+
+tools: $(addprefix build/,$(PROGRAMS))
+
+build/cdfnight: OWN = tools/listing.c
+build/cdfnight: tools/listing.c
+
+build/cdf%: tools/cdf%.c $(SHARED) $(HEADERS) build/libtlepozaluh.a
+	$(CC) $(CFLAGS) -DVERSION='"$(VERSION)"' -Iinclude -Itools -o $@ $< $(OWN) $(SHARED) build/libtlepozaluh.a
 
 build/bench: bench/bench.c bench/check.c bench/check.h include/tlepozaluh.h $(LIBRARY)
 	mkdir -p build
@@ -27,6 +53,18 @@ build/bench: bench/bench.c bench/check.c bench/check.h include/tlepozaluh.h $(LI
 
 bench: build/bench
 	build/bench
+
+build/tlepozaluh.pc: tlepozaluh.pc.in
+	mkdir -p build
+	sed 's|@PREFIX@|$(PREFIX)|; s|@VERSION@|$(VERSION)|' tlepozaluh.pc.in >$@
+
+install: lib tools build/tlepozaluh.pc
+	install -d $(addprefix '$(DESTDIR)$(PREFIX)'/,include lib/pkgconfig bin share/man/man1)
+	install -m 644 include/tlepozaluh.h '$(DESTDIR)$(PREFIX)'/include
+	install -m 644 $(LIBRARIES) '$(DESTDIR)$(PREFIX)'/lib
+	install -m 644 build/tlepozaluh.pc '$(DESTDIR)$(PREFIX)'/lib/pkgconfig
+	install -m 755 $(addprefix build/,$(PROGRAMS)) '$(DESTDIR)$(PREFIX)'/bin
+	install -m 644 $(PROGRAMS:%=man/%.1) '$(DESTDIR)$(PREFIX)'/share/man/man1
 
 clean:
 	rm -rf target build host/target

@@ -1,0 +1,27 @@
+/* A file's bytes. */
+#ifndef TOOLS_INPUT_H
+#define TOOLS_INPUT_H
+
+#include <stddef.h>
+#include <stdint.h>
+
+/* A file as it was when it was read. */
+struct input {
+    uint8_t *bytes;
+    size_t length;
+    int64_t changed;    /* when it was last changed: seconds .. */
+    int64_t changed_ns; /* .. and nanoseconds */
+};
+
+/*
+ * Reads a whole file into memory. NULL, or in words why it cannot be read; then nothing is held.
+ *
+ * It is read and not mapped. A mapped file that becomes shorter ends the program at the next look at it, and one that is
+ * written to would change under the check; what is read once stays as it is, and the verdict is about those bytes.
+ */
+const char *input_read(const char *path, struct input *input);
+
+/* Gives the memory back. */
+void input_free(struct input *input);
+
+#endif

@@ -1,0 +1,161 @@
+#define _POSIX_C_SOURCE 200809L
+
+#include "job.h"
+
+#include "console.h"
+#include "saved.h"
+#include "sum.h"
+#include "window.h"
+#include "words.h"
+
+#include <inttypes.h>
+#include <stdio.h>
+#include <stdlib.h>
+#include <string.h>
+
+/* Long work is work of half a second. */
+static const double progress_after = 0.5, progress_every = 0.2;
+
+static void set(struct job *job, enum outcome outcome, int32_t number, const char *why)
+{
+    job->outcome = outcome;
+    job->number = number;
+    snprintf(job->why, sizeof job->why, "%s", why);
+}
+
+void job_wait(struct job *job, const char *path)
+{
+    memset(job, 0, sizeof *job);
+    job->path = path;
+    set(job, UNFINISHED, TLZ_RUNNING, "not begun");
+}
+
+void job_unfit(struct job *job, const char *why)
+{
+    set(job, UNCHECKED, NO_NUMBER, why);
+}
+
+/* Gives the buffers back. */
+static void drop(struct job *job)
+{
+    input_free(&job->input);
+    free(job->marks);
+    job->marks = NULL;
+    job->open = false;
+}
+
+/* Marks and state, fresh or kept; NULL, or why not. */
+static const char *prepare(struct job *job, const struct manner *manner)
+{
+    size_t length = job->input.length;
+
+    job->marks = calloc(length > 0 ? length : 1, 1);
+    if (job->marks == NULL)
+        return "out of memory";
+    if (manner->marks)
+        memset(job->marks, 0xaa, length);
+    if (tlz_check_begin(job->state, TLZ_STATE_LEN) != 0)
+        return words_of_number(TLZ_BAD_STATE);
+    return manner->resume != NULL ? saved_read(manner->resume, job) : NULL;
+}
+
+void job_open(struct job *job, const struct manner *manner)
+{
+    double start = window_clock();
+    const char *why = input_read(job->path, &job->input);
+    bool too_long = why == words_of_number(TLZ_TOO_LONG);
+
+    if (why == NULL)
+        why = prepare(job, manner);
+    job->seconds += window_clock() - start;
+    if (why == NULL) {
+        job->open = true;
+        words_of_state(job->state, job->why, sizeof job->why);
+        return;
+    }
+    job->steps = job->before = 0;
+    set(job, UNCHECKED, too_long ? TLZ_TOO_LONG : NO_NUMBER, why);
+    drop(job);
+}
+
+/* Takes what a grant answered. 20 and 21 speak of the state and not of the file, so it was not checked. */
+static void take(struct job *job, int32_t answer)
+{
+    if (answer == TLZ_RUNNING)
+        words_of_state(job->state, job->why, sizeof job->why);
+    else if (answer == TLZ_ACCEPTED)
+        set(job, ACCEPTED, answer, "");
+    else if (answer > TLZ_ACCEPTED && answer <= TLZ_NOT_CARRIED)
+        set(job, REFUSED, answer, words_of_number(answer));
+    else
+        set(job, UNCHECKED, answer, words_of_number(answer));
+}
+
+/* Shows where a long check stands. */
+static void show(const struct job *job, const struct manner *manner)
+{
+    static double shown = 0;
+    double now = window_clock();
+    bool due = manner->terminal && job->seconds >= progress_after && now - shown >= progress_every;
+
+    if (job->outcome != UNFINISHED || !(due || manner->progress))
+        return;
+    shown = now;
+    console_progress(job->path, job->why, job->steps);
+}
+
+void job_grant(struct job *job, const struct manner *manner)
+{
+    double start = window_clock();
+    uint64_t left = manner->limit - (job->steps - job->before);
+    uint64_t grant = left < manner->grant ? left : manner->grant;
+    uint64_t steps = 0;
+    size_t length = job->input.length;
+
+    take(job, tlz_check_grant(job->input.bytes, length, job->marks, length, job->state, TLZ_STATE_LEN, grant, &steps));
+    job->steps += steps;
+    job->seconds += window_clock() - start;
+    show(job, manner);
+    if (job->outcome != UNFINISHED || job->steps - job->before >= manner->limit)
+        job_close(job, manner);
+}
+
+/* Keeps an unfinished check that has begun; removes what is kept of a finished one. */
+static void keep(struct job *job, const struct manner *manner)
+{
+    const char *why = NULL;
+
+    if (job->outcome == UNFINISHED && job->steps > 0)
+        why = saved_write(manner->save, job);
+    else if (job->outcome == ACCEPTED || job->outcome == REFUSED)
+        why = saved_remove(manner->save, job->path);
+    if (why != NULL)
+        console_complain(job->path, "the check could not be saved", why);
+}
+
+void job_close(struct job *job, const struct manner *manner)
+{
+    if (!job->open)
+        return;
+    if (manner->marks)
+        job->marks_sum = sum_with(SUM_OF_NOTHING, job->marks, job->input.length);
+    if (manner->save != NULL)
+        keep(job, manner);
+    drop(job);
+}
+
+const char *job_word(enum outcome outcome)
+{
+    static const char *const words[OUTCOMES] = { "accepted", "refused", "unfinished", "unchecked" };
+
+    return words[outcome];
+}
+
+int job_status(const uint64_t counts[OUTCOMES])
+{
+    if (counts[UNCHECKED] > 0)
+        return 2;
+    if (counts[REFUSED] > 0)
+        return 1;
+    return counts[UNFINISHED] > 0 ? 3 : 0;
+}

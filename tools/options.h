@@ -1,0 +1,33 @@
+/* The command line. */
+#ifndef TOOLS_OPTIONS_H
+#define TOOLS_OPTIONS_H
+
+#include "job.h"
+
+struct options {
+    struct manner manner;
+    double seconds; /* of the window, below 0 if it has no end */
+    int hour;       /* when the window ends, below 0 if no time of day is given .. */
+    int minute;     /* .. and the minute */
+    uint64_t memory; /* bytes of files and marks that are held at a time */
+    bool json;
+    bool quiet;
+};
+
+/* A program: its name, its help, and whether it has the options of a night. */
+struct program {
+    const char *name;
+    const char *help;
+    bool night;
+};
+
+/*
+ * Reads the options and begins the window. Gives the place of the first word that is none. Help and version are printed
+ * and end the program with 0; a word that cannot be read ends it with 2.
+ */
+int options_read(int count, char **words, const struct program *program, struct options *options);
+
+/* Ends the program with 2 and says what is wrong with its command line. */
+_Noreturn void options_fail(const struct program *program, const char *what, const char *word);
+
+#endif

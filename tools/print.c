@@ -1,0 +1,41 @@
+#include "print.h"
+
+#include "text.h"
+
+#include <inttypes.h>
+#include <stdio.h>
+
+void print_line(const struct job *job, bool marks)
+{
+    char number[16] = "-";
+
+    if (job->number != NO_NUMBER)
+        snprintf(number, sizeof number, "%" PRId32, job->number);
+    printf("%-10s %2s %9" PRIu64 " steps %8.3f s  ", job_word(job->outcome), number, job->steps, job->seconds);
+    if (marks)
+        printf("marks %016" PRIx64 "  ", job->marks_sum);
+    text_name(stdout, job->path);
+    printf(job->why[0] == '\0' ? "\n" : ": %s\n", job->why);
+}
+
+void print_json(const struct job *job, bool marks)
+{
+    printf("{\"file\": ");
+    if (!text_json(stdout, job->path)) {
+        printf(", \"file_hex\": \"");
+        text_hex(stdout, job->path);
+        printf("\"");
+    }
+    printf(", \"result\": \"%s\"", job_word(job->outcome));
+    if (job->number == NO_NUMBER)
+        printf(", \"number\": null");
+    else
+        printf(", \"number\": %" PRId32, job->number);
+    printf(", \"words\": ");
+    text_json(stdout, job->why);
+    printf(", \"steps\": %" PRIu64 ", \"steps_before\": %" PRIu64, job->steps, job->before);
+    printf(", \"seconds\": %.6f", job->seconds);
+    if (marks)
+        printf(", \"marks\": \"%016" PRIx64 "\"", job->marks_sum);
+    printf("}\n");
+}

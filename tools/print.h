@@ -1,0 +1,13 @@
+/* What came out of a check, on standard output. */
+#ifndef TOOLS_PRINT_H
+#define TOOLS_PRINT_H
+
+#include "job.h"
+
+/* One line: outcome, number, steps, seconds, name, and in words why it is not accepted. */
+void print_line(const struct job *job, bool marks);
+
+/* The same as a JSON object on one line. */
+void print_json(const struct job *job, bool marks);
+
+#endif

@@ -1,0 +1,86 @@
+#include "words.h"
+
+#include "tlepozaluh.h"
+
+#include <inttypes.h>
+#include <stdio.h>
+
+/* A number of the table and what it means. */
+struct meaning {
+    int32_t number;
+    const char *words;
+};
+
+static const struct meaning meanings[] = {
+    { TLZ_RUNNING, "no verdict yet" },
+    { TLZ_ACCEPTED, "the file keeps every rule" },
+    { TLZ_TOO_LONG, "the file is longer than 2,147,483,647 bytes" },
+    { TLZ_MARKS_TOO_SHORT, "the marks are shorter than the file" },
+    { TLZ_NOT_CDF, "no CDF file of version 2.6 or 2.7" },
+    { TLZ_COMPRESSED_FILE, "the whole file is compressed" },
+    { TLZ_BAD_CDR, "the CDF descriptor record breaks its rule" },
+    { TLZ_BAD_GDR, "the global descriptor record breaks its rule" },
+    { TLZ_NOT_TILED, "the records do not follow one another to the end of the file" },
+    { TLZ_BAD_LINK, "a link leads to no record, or to one of the wrong type" },
+    { TLZ_CLAIMED_TWICE, "two links lead to one record" },
+    { TLZ_BAD_RECORD, "a record's fields or size break its rule" },
+    { TLZ_BAD_LIST, "a list's count, numbering, maximum, tail or back link disagrees" },
+    { TLZ_BAD_INDEX, "an index's ranges of record numbers disagree" },
+    { TLZ_UNCLAIMED, "a record in use is on no list" },
+    { TLZ_NOT_CARRIED, "not carried: several files, a record of type 10 to 13, or compressed values" },
+    { TLZ_NO_SUCH_OBJECT, "no such variable or attribute" },
+    { TLZ_NO_SUCH_RECORD, "no such record or entry number" },
+    { TLZ_RECORD_IN_GAP, "the record number lies in a gap of the index" },
+    { TLZ_OUT_OF_RANGE, "an index or element is out of range" },
+    { TLZ_FLOAT_NOT_CARRIED, "a floating-point value in encoding 3, 14 or 15" },
+    { TLZ_BAD_STATE, "the saved state is not one that a check of this file leaves" },
+    { TLZ_OTHER_FILE, "the file's length is not the one noted at opening" },
+};
+
+const char *words_of_number(int32_t number)
+{
+    for (size_t i = 0; i < sizeof meanings / sizeof *meanings; i++)
+        if (meanings[i].number == number)
+            return meanings[i].words;
+    return "a number that the table does not have";
+}
+
+/* Places of a state. */
+enum { LENGTH = 1, PHASE = 2, KIND = 3, LINK = 4, COUNT = 5, ENTRY = 9 };
+
+/* Phases of a check. */
+enum { FRESH, SWEEP, START, VARIABLES, CHAIN, INDEX_ENTRY, ATTRIBUTES, ENTRIES, UNUSED };
+
+void words_of_state(const uint32_t *state, char *words, size_t room)
+{
+    const char *variable = state[KIND] == 3 ? "rVariable" : "zVariable";
+    const char *entry = state[KIND] == 5 ? "g/rEntries" : "zEntries";
+
+    switch (state[PHASE]) {
+    case FRESH:
+        snprintf(words, room, "not opened");
+        break;
+    case SWEEP:
+        snprintf(words, room, "%" PRIu32 " of %" PRIu32 " bytes swept", state[LINK], state[LENGTH]);
+        break;
+    case VARIABLES:
+        snprintf(words, room, "all bytes swept, %" PRIu32 " %ss claimed", state[COUNT], variable);
+        break;
+    case CHAIN:
+    case INDEX_ENTRY:
+        snprintf(words, room, "all bytes swept, in the index of %s %" PRIu32, variable, state[COUNT]);
+        break;
+    case ATTRIBUTES:
+        snprintf(words, room, "all bytes swept, %" PRIu32 " attributes claimed", state[COUNT]);
+        break;
+    case ENTRIES:
+        snprintf(words, room, "all bytes swept, attribute %" PRIu32 ", %" PRIu32 " %s claimed", state[COUNT], state[ENTRY],
+                 entry);
+        break;
+    case UNUSED:
+        snprintf(words, room, "all bytes swept, in the list of unused records");
+        break;
+    default:
+        snprintf(words, room, "all bytes swept");
+    }
+}
