@@ -7,7 +7,6 @@
 
 #include <errno.h>
 #include <fcntl.h>
-#include <stdbool.h>
 #include <stdlib.h>
 #include <string.h>
 #include <sys/stat.h>
@@ -39,10 +38,11 @@ static const char *unfit(const struct stat *found)
     return found->st_size > TLZ_LONGEST_FILE ? words_of_number(TLZ_TOO_LONG) : NULL;
 }
 
-/* Two looks at a file show the same length and time of change. */
-static bool same(const struct stat *a, const struct stat *b)
+/* A look at a file shows the length and time of change that are noted. */
+static bool as_noted(const struct stat *found, const struct input *input)
 {
-    return a->st_size == b->st_size && a->st_mtim.tv_sec == b->st_mtim.tv_sec && a->st_mtim.tv_nsec == b->st_mtim.tv_nsec;
+    return (uint64_t)found->st_size == input->length && found->st_mtim.tv_sec == input->changed &&
+           found->st_mtim.tv_nsec == input->changed_ns;
 }
 
 /* Reads an open file. */
@@ -63,7 +63,7 @@ static const char *read_open(int fd, struct input *input)
     if (input->bytes == NULL)
         return "out of memory";
     why = read_all(fd, input->bytes, input->length);
-    if (why == NULL && (fstat(fd, &after) != 0 || !same(&before, &after)))
+    if (why == NULL && (fstat(fd, &after) != 0 || !as_noted(&after, input)))
         why = "the file was changed while it was read";
     return why;
 }
@@ -81,6 +81,13 @@ const char *input_read(const char *path, struct input *input)
     if (why != NULL)
         input_free(input);
     return why;
+}
+
+bool input_unchanged(const char *path, const struct input *input)
+{
+    struct stat found;
+
+    return stat(path, &found) == 0 && as_noted(&found, input);
 }
 
 void input_free(struct input *input)

@@ -2,6 +2,7 @@
 #ifndef TOOLS_INPUT_H
 #define TOOLS_INPUT_H
 
+#include <stdbool.h>
 #include <stddef.h>
 #include <stdint.h>
 
@@ -20,6 +21,9 @@ struct input {
  * written to would change under the check; what is read once stays as it is, and the verdict is about those bytes.
  */
 const char *input_read(const char *path, struct input *input);
+
+/* The file of this name still has the length and time of change that it had when it was read. */
+bool input_unchanged(const char *path, const struct input *input);
 
 /* Gives the memory back. */
 void input_free(struct input *input);

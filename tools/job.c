@@ -13,8 +13,8 @@
 #include <stdlib.h>
 #include <string.h>
 
-/* Long work is work of half a second. */
-static const double progress_after = 0.5, progress_every = 0.2;
+/* Long work is work of a quarter of a second. */
+static const double progress_after = 0.25, progress_every = 0.2;
 
 static void set(struct job *job, enum outcome outcome, int32_t number, const char *why)
 {
@@ -137,6 +137,8 @@ void job_close(struct job *job, const struct manner *manner)
 {
     if (!job->open)
         return;
+    if (job->outcome != UNFINISHED && !input_unchanged(job->path, &job->input))
+        job_unfit(job, "the file changed while it was checked");
     if (manner->marks)
         job->marks_sum = sum_with(SUM_OF_NOTHING, job->marks, job->input.length);
     if (manner->save != NULL)

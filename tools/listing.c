@@ -126,26 +126,30 @@ static bool is_folder(const char *folder)
 }
 
 /* Lists what is below a folder; 0, or the error's number. */
-static int walk(char *start)
+static int walk(const char *start)
 {
     int failed = 0;
 
     base = strlen(start);
-    while (base > 1 && start[base - 1] == '/')
-        start[--base] = '\0';
     if (!grow())
         return ENOMEM;
     failed = nftw(start, note, FOLDERS_OPEN, FTW_PHYS);
     return failed < 0 ? errno : failed;
 }
 
-/* The folder's own name is followed if it is a symbolic link. */
+/* Where to start: the folder's name without slashes at its end, or where it leads if it is a symbolic link. */
 static char *start_of(const char *folder)
 {
+    char *start = strdup(folder), *real = NULL;
     struct stat found;
-    bool is_link = lstat(folder, &found) == 0 && S_ISLNK(found.st_mode);
 
-    return is_link ? realpath(folder, NULL) : strdup(folder);
+    for (size_t end = start == NULL ? 0 : strlen(start); end > 1 && start[end - 1] == '/'; end--)
+        start[end - 1] = '\0';
+    if (start == NULL || lstat(start, &found) != 0 || !S_ISLNK(found.st_mode))
+        return start;
+    real = realpath(start, NULL);
+    free(start);
+    return real;
 }
 
 struct found *listing_of(const char *folder, size_t *count)

@@ -1,0 +1,25 @@
+"""Changes a saved check (tools/saved.h) and makes its last sum right again: patch.py FILE OFFSET HEX.. [cut N]
+
+Each OFFSET HEX pair writes bytes. With `cut N` the last N bytes before the sum are dropped.
+"""
+import sys
+
+
+def fnv1a(data):
+    total = 0xCBF29CE484222325
+    for byte in data:
+        total = (total ^ byte) * 0x100000001B3 % 2**64
+    return total
+
+
+name, words = sys.argv[1], sys.argv[2:]
+with open(name, "rb") as saved:
+    body = bytearray(saved.read()[:-8])
+for place, value in zip(words[::2], words[1::2]):
+    if place == "cut":
+        del body[len(body) - int(value):]
+    else:
+        new = bytes.fromhex(value)
+        body[int(place):int(place) + len(new)] = new
+with open(name, "wb") as saved:
+    saved.write(body + fnv1a(body).to_bytes(8, "little"))
