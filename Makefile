@@ -33,6 +33,7 @@ lib: $(LIBRARIES)
 
 target/staticlib/lib%.a: $(wildcard crates/*/src/*.rt)
 	rt staticlib $*
+	touch $@
 
 build/libtlepozaluh.a: $(ARCHIVES)
 	mkdir -p build

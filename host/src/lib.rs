@@ -9,6 +9,7 @@
 
 pub mod bindings;
 pub mod build;
+pub mod calls;
 pub mod damage;
 pub mod samples;
 pub mod second;

@@ -1,0 +1,186 @@
+//! Header, Rattle sources, bindings and documents declare the same calls and numbers; and the comparison
+//! would find it if they did not.
+
+use std::fs::{read_dir, read_to_string};
+use std::path::{Path, PathBuf};
+use tlepozaluh_host::bindings::{check_begin, STATE_LENGTH};
+use tlepozaluh_host::calls::{self, Call};
+
+/// Constants of the header that are no numbers that come back.
+const OTHERS: [&str; 2] = ["TLZ_STATE_LEN", "TLZ_LONGEST_FILE"];
+
+fn project() -> PathBuf {
+    Path::new(env!("CARGO_MANIFEST_DIR")).join("..")
+}
+
+fn text(name: &str) -> String {
+    read_to_string(project().join(name)).expect(name)
+}
+
+/// The `.rt` files below a folder.
+fn rattle_files(folder: &Path) -> Vec<PathBuf> {
+    let mut found = Vec::new();
+    for entry in read_dir(folder).expect("a folder of sources") {
+        let path = entry.expect("an entry").path();
+        if path.is_dir() {
+            found.extend(rattle_files(&path));
+        } else if path.extension().is_some_and(|extension| extension == "rt") {
+            found.push(path);
+        }
+    }
+    found.sort();
+    found
+}
+
+/// All sources of crates/*/src in one text.
+fn sources() -> String {
+    let crates = read_dir(project().join("crates")).expect("crates");
+    let folders = crates.map(|entry| entry.expect("a crate").path().join("src"));
+    let folders = folders.filter(|folder| folder.is_dir());
+    let files = folders.flat_map(|folder| rattle_files(&folder));
+    files.map(|file| read_to_string(file).expect("a source") + "\n").collect()
+}
+
+fn header() -> String {
+    text("include/tlepozaluh.h")
+}
+
+/// In what header and sources differ; an unreadable one differs too.
+fn drift(header: &str, sources: &str) -> Vec<String> {
+    match (calls::of_header(header), calls::of_rattle_source(sources)) {
+        (Ok(declared), Ok(exported)) => calls::differences(&declared, &exported),
+        (Err(wrong), _) | (_, Err(wrong)) => vec![wrong],
+    }
+}
+
+#[test]
+fn the_header_declares_the_exports() {
+    let exported = calls::of_rattle_source(&sources()).expect("the exports");
+    assert!(exported.len() >= 2, "{exported:?}");
+    assert_eq!(drift(&header(), &sources()), Vec::<String>::new());
+}
+
+#[test]
+fn the_bindings_declare_what_the_header_does() {
+    let declared = calls::of_header(&header()).expect("the header");
+    let bound = calls::of_bindings(&text("host/src/bindings.rs")).expect("the bindings");
+    assert!(!bound.is_empty());
+    assert_eq!(calls::missing(&bound, &declared), Vec::<String>::new());
+    let of_bound = |call: &&Call| bound.iter().any(|other| other.name == call.name);
+    let declared: Vec<Call> = declared.iter().filter(of_bound).cloned().collect();
+    assert_eq!(calls::differences(&bound, &declared), Vec::<String>::new());
+}
+
+/// Each edit of the header or of the sources is found.
+#[test]
+fn drift_is_found() {
+    let (header, sources) = (header(), sources());
+    let of_header = [
+        ("int32_t tlz_check_begin(uint32_t *state, size_t state_len);", ""),
+        ("int32_t tlz_check_begin", "int64_t tlz_check_begin"),
+        ("tlz_check_begin(uint32_t *state", "tlz_check_begin(uint64_t *state"),
+        ("tlz_check_begin(uint32_t *state", "tlz_check_begin(const uint32_t *state"),
+        ("tlz_check_begin(uint32_t *state, size_t state_len)", "tlz_check_begin(uint32_t *state)"),
+        ("tlz_check_grant(const uint8_t *file", "tlz_check_grant(uint8_t *file"),
+        ("uint64_t grant, uint64_t *steps", "uint64_t *steps, uint64_t grant"),
+        ("uint64_t grant, uint64_t *steps", "uint32_t grant, uint64_t *steps"),
+        ("uint64_t grant, uint64_t *steps", "uint64_t grant, uint64_t *steps, int32_t more"),
+        (
+            "uint64_t grant, uint64_t *steps",
+            "uint64_t grant, uint64_t *steps);\nvoid tlz_more(void",
+        ),
+        ("int32_t tlz_check_begin(uint32_t", "int32_t (*tlz_check_begin)(uint32_t"),
+    ];
+    for (from, to) in of_header {
+        assert!(header.contains(from), "{from}");
+        assert!(!drift(&header.replacen(from, to, 1), &sources).is_empty(), "{from} -> {to}");
+    }
+    let of_sources = [
+        ("#[no_mangle]\npub extern \"C\" fn tlz_check_begin", "pub fn tlz_check_begin"),
+        ("fn tlz_check_begin(state: &mut [u32]) -> i32", "fn tlz_check_begin(state: &mut [u32])"),
+        ("fn tlz_check_begin(state: &mut [u32])", "fn tlz_check_begin(state: &mut [u64])"),
+        ("fn tlz_check_begin(state: &mut [u32])", "fn tlz_check_begin(state: &[u32])"),
+        ("fn tlz_check_begin(state: &mut [u32])", "fn tlz_check_begin(state: &mut u32)"),
+        ("    grant: u64,\n    steps: &mut u64,\n", "    steps: &mut u64,\n    grant: u64,\n"),
+        ("    grant: u64,\n    steps: &mut u64,\n", "    grant: u64,\n    steps: u64,\n"),
+        ("    file: &[u8],\n    marks: &mut [u8],\n", "    marks: &mut [u8],\n    file: &[u8],\n"),
+        ("fn tlz_check_begin(", "fn tlz_check_start("),
+    ];
+    for (from, to) in of_sources {
+        assert!(sources.contains(from), "{from}");
+        assert!(!drift(&header, &sources.replacen(from, to, 1)).is_empty(), "{from} -> {to}");
+    }
+}
+
+/// Parameters of one type in another order are found by their names.
+#[test]
+fn swapped_names_are_found() {
+    let source = "#[no_mangle]\npub extern \"C\" fn tlz_x(kind: &mut u64, bits: &mut u64) -> i32 {";
+    assert!(drift("int32_t tlz_x(uint64_t *kind, uint64_t *bits);", source).is_empty());
+    assert!(drift("int32_t tlz_x(uint64_t *value_kind, uint64_t *bits);", source).is_empty());
+    assert!(!drift("int32_t tlz_x(uint64_t *bits, uint64_t *kind);", source).is_empty());
+}
+
+/// Every form of parameter that a call can have.
+#[test]
+fn forms_of_parameters() {
+    let source = "// a comment, #[no mangle]\n#[no_mangle]\npub extern \"C\" fn tlz_read(\n    file: &[u8],\n    \
+        number: i64, // which\n    indices: &[i64],\n    low: u32,\n    out: &mut [i16],\n    bits: &mut u64,\n    one: &u8,\n) -> u32\n    \
+        requires { x } ensures { y }\n{ 0 }\n#[no_mangle]\npub extern \"C\" fn tlz_none() { }\n";
+    let header = "#define X(a) \\\n    f(a);\n/* int32_t no(void); */\nextern \"C\" {\nuint32_t tlz_read(const uint8_t *file, \
+        size_t n,\n int64_t number, const int64_t *indices, size_t index_count, uint32_t low, int16_t *out,\n size_t m, \
+        uint64_t* bits, const uint8_t * one);\nvoid tlz_none(void);\n}\n";
+    assert_eq!(drift(header, source), Vec::<String>::new());
+    assert!(
+        !drift(&header.replace("const int64_t *indices", "int64_t *indices"), source).is_empty()
+    );
+    assert!(!drift(&header.replace("void tlz_none(void)", "void tlz_none(size_t a)"), source)
+        .is_empty());
+    assert!(calls::of_rattle_source(&source.replace("u32,", "Strange,")).is_err());
+}
+
+/// The table of docs/INTERFACE.md, the header and the tools' words have the same numbers, -1 to 21 without a gap.
+#[test]
+fn every_number_of_the_table() {
+    let table = calls::table_numbers(&text("docs/INTERFACE.md"));
+    let defined = calls::defined_numbers(&header());
+    let numbers: Vec<(String, i64)> =
+        defined.into_iter().filter(|(name, _)| !OTHERS.contains(&name.as_str())).collect();
+    assert_eq!(numbers, table);
+    assert!(table.iter().map(|(_, number)| *number).eq(-1..=21), "{table:?}");
+    let words = text("tools/words.c");
+    for (name, _) in &table {
+        assert_eq!(words.matches(&format!("{{ {name}, \"")).count(), 1, "{name} in tools/words.c");
+    }
+    let drifted = header().replace("#define TLZ_BAD_LINK 8", "#define TLZ_BAD_LINK 9");
+    assert_ne!(calls::defined_numbers(&drifted), calls::defined_numbers(&header()));
+}
+
+/// Numbers that stand behind a text, everywhere in another one.
+fn numbers_behind(sources: &str, before: &str) -> Vec<usize> {
+    let digits = |rest: &str| rest.split(|c: char| !c.is_ascii_digit()).next()?.parse().ok();
+    sources.split(before).skip(1).filter_map(digits).collect()
+}
+
+/// TLZ_STATE_LEN is the length that the code, the library, the bindings and the documents have.
+#[test]
+fn the_length_of_a_state() {
+    let defined = calls::defined_numbers(&header());
+    let defined =
+        defined.iter().find(|(name, _)| name == "TLZ_STATE_LEN").map(|(_, n)| *n as usize);
+    let length = defined.expect("TLZ_STATE_LEN");
+    assert_eq!(length, STATE_LENGTH);
+    for other in 0..3 * length {
+        let answer = check_begin(&mut vec![1; other]);
+        assert_eq!(answer, if other == length { 0 } else { 20 }, "{other}");
+    }
+    let in_code = numbers_behind(&sources(), "if state.len() != ");
+    assert!(in_code.len() >= 2 && in_code.iter().all(|number| *number == length), "{in_code:?}");
+    for document in ["docs/STATE.md", "docs/INTERFACE.md"] {
+        let said = numbers_behind(&text(document), "`TLZ_STATE_LEN` is ");
+        assert!(
+            !said.is_empty() && said.iter().all(|number| *number == length),
+            "{document}: {said:?}"
+        );
+    }
+}
