@@ -127,8 +127,11 @@ pub fn of_header(text: &str) -> Result<Vec<Call>, String> {
     code.split(';').filter_map(prototype).collect()
 }
 
+/// A parameter's name and its type as they are written.
+type Taken<'a> = (&'a str, &'a str);
+
 /// `NAME(PARAMETERS) -> ANSWER` and what follows, cut in its three parts.
-fn signature(text: &str) -> Option<(&str, Vec<(&str, &str)>, &str)> {
+fn signature(text: &str) -> Option<(&str, Vec<Taken<'_>>, &str)> {
     let (name, rest) = text.split_once('(')?;
     let (inside, after) = rest.split_once(')')?;
     let parts = inside.split(',').map(str::trim).filter(|part| !part.is_empty());

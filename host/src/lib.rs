@@ -11,5 +11,6 @@ pub mod bindings;
 pub mod build;
 pub mod calls;
 pub mod damage;
+pub mod fuzz;
 pub mod samples;
 pub mod second;
