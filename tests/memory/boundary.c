@@ -1,0 +1,240 @@
+/*
+ * boundary ROUNDS FILE..: calls the library with heap buffers of exactly the lengths that it is told, to be run under a memory
+ * checker. Fresh checks get marks that were never written; made-up states get made-up marks. Files are also damaged. Prints how
+ * many grants were made; exits with 1 if an answer, the steps or a byte that must not change is wrong.
+ */
+#include "tlepozaluh.h"
+
+#include <inttypes.h>
+#include <stdio.h>
+#include <stdlib.h>
+#include <string.h>
+
+/* How many bytes of marks are missing: 0, or 1 to see that the memory checker finds that. */
+#ifndef MISSING
+#define MISSING 0
+#endif
+
+/* Buffers of one check, each an allocation of its own. */
+struct lent {
+    uint8_t *file, *marks;
+    uint32_t *state;
+    uint64_t *steps;
+    size_t length, marks_len, state_len;
+};
+
+static uint64_t grants = 0, wrong = 0, seed = 88172645463325252;
+
+static uint64_t any(uint64_t below)
+{
+    seed ^= seed << 13;
+    seed ^= seed >> 7;
+    seed ^= seed << 17;
+    return (seed >> 11) % below;
+}
+
+static void *exactly(size_t length)
+{
+    void *bytes = malloc(length);
+
+    if (bytes == NULL) {
+        fprintf(stderr, "no memory\n");
+        exit(2);
+    }
+    return bytes;
+}
+
+static struct lent lend(const uint8_t *file, size_t length, size_t marks_len, size_t state_len)
+{
+    size_t missing = marks_len > 0 ? MISSING : 0;
+    struct lent lent = { .length = length, .marks_len = marks_len, .state_len = state_len };
+
+    lent.file = exactly(length);
+    lent.marks = exactly(marks_len - missing);
+    lent.state = exactly(state_len * sizeof *lent.state);
+    lent.steps = exactly(sizeof *lent.steps);
+    memcpy(lent.file, file, length);
+    return lent;
+}
+
+static void give_back(struct lent *lent)
+{
+    free(lent->file);
+    free(lent->marks);
+    free(lent->state);
+    free(lent->steps);
+}
+
+static void expect(int right, const char *what)
+{
+    if (right)
+        return;
+    wrong++;
+    fprintf(stderr, "wrong: %s\n", what);
+}
+
+/* A grant whose answer and steps are what they can be. */
+static int32_t grant(struct lent *lent, uint64_t steps)
+{
+    int32_t answer = tlz_check_grant(lent->file, lent->length, lent->marks, lent->marks_len, lent->state, lent->state_len, steps,
+                                     lent->steps);
+
+    grants++;
+    expect((answer >= TLZ_RUNNING && answer <= TLZ_NOT_CARRIED) || answer == TLZ_BAD_STATE || answer == TLZ_OTHER_FILE, "answer");
+    expect(*lent->steps <= steps, "steps");
+    expect(answer != TLZ_RUNNING || *lent->steps == steps, "fewer steps and not finished");
+    return answer;
+}
+
+/* A fresh check in grants of up to `most` steps, on marks that were never written. */
+static void fresh_check(const uint8_t *file, size_t length, uint64_t most)
+{
+    struct lent lent = lend(file, length, length, TLZ_STATE_LEN);
+    int32_t answer = TLZ_RUNNING;
+
+    expect(tlz_check_begin(lent.state, TLZ_STATE_LEN) == 0, "begin");
+    while (answer == TLZ_RUNNING)
+        answer = grant(&lent, 1 + any(most));
+    expect(answer != TLZ_OTHER_FILE && answer != TLZ_BAD_STATE, "a fresh check's verdict");
+    expect(memcmp(lent.file, file, length) == 0, "the file was written");
+    give_back(&lent);
+}
+
+/* Marks that are too short, at opening and later. */
+static void short_marks(const uint8_t *file, size_t length)
+{
+    struct lent lent = lend(file, length, length / 2, TLZ_STATE_LEN);
+
+    tlz_check_begin(lent.state, TLZ_STATE_LEN);
+    if (length / 2 < length)
+        expect(grant(&lent, 9) == TLZ_MARKS_TOO_SHORT, "short marks");
+    memset(lent.state, 0, TLZ_STATE_LEN * sizeof *lent.state);
+    lent.state[1] = (uint32_t)length;
+    lent.state[2] = 8;
+    if (length / 2 < length)
+        expect(grant(&lent, 9) == TLZ_OTHER_FILE, "short marks later");
+    give_back(&lent);
+}
+
+/* States of every length but the right one. */
+static void other_lengths(const uint8_t *file, size_t length)
+{
+    for (size_t n = 0; n < 2 * TLZ_STATE_LEN; n++) {
+        struct lent lent = lend(file, length, length, n);
+        memset(lent.state, 1, n * sizeof *lent.state);
+        if (n != TLZ_STATE_LEN) {
+            expect(tlz_check_begin(lent.state, n) == TLZ_BAD_STATE, "begin with another length");
+            expect(grant(&lent, any(3)) == TLZ_BAD_STATE && *lent.steps == 0, "another length");
+        }
+        give_back(&lent);
+    }
+}
+
+/* A number near the file's places, at an edge, or any. */
+static uint32_t made_up_number(size_t length)
+{
+    static const uint32_t edges[] = { 0, 1, 3, 5, 8, 9, 312, 372, 2147483647, 2147483648, 2147483711, UINT32_MAX };
+
+    switch (any(4)) {
+    case 0:
+        return edges[any(sizeof edges / sizeof *edges)];
+    case 1:
+        return (uint32_t)(length + any(80) - 40);
+    case 2:
+        return (uint32_t)any(4);
+    default:
+        return (uint32_t)any(length + 1);
+    }
+}
+
+/* A state of a phase with the numbers that have no meaning there left 0, most of the time. */
+static void make_up(uint32_t *state, size_t length)
+{
+    static const uint16_t meant[] = { 0, 0x010, 0, 0x070, 0xdf0, 0xfe0, 0x030, 0x6b0, 0x110 };
+    uint32_t phase = (uint32_t)any(9);
+
+    for (int i = 0; i < TLZ_STATE_LEN; i++)
+        state[i] = (meant[phase] >> i & 1) != 0 || any(100) == 0 ? made_up_number(length) : 0;
+    state[1] = phase == 0 ? 0 : (uint32_t)length;
+    state[2] = phase;
+    state[11] &= 1;
+    if (phase >= 3 && phase <= 5)
+        state[3] = any(2) ? 3 : 8;
+    if (phase == 7)
+        state[3] = any(2) ? 5 : 9;
+}
+
+/* A made-up state on made-up marks; marks 0 to 7 and those behind the file stay. */
+static void made_up(const uint8_t *file, size_t length)
+{
+    struct lent lent = lend(file, length, length + 2, TLZ_STATE_LEN);
+    int all_starts = any(2) == 0;
+    int32_t answer = TLZ_RUNNING;
+
+    for (size_t i = 0; i < length + 2; i++)
+        lent.marks[i] = i < 8 || i >= length ? 0x55 : all_starts ? 1 : (uint8_t)any(4);
+    make_up(lent.state, length);
+    for (size_t most = 2 * length + 100; answer == TLZ_RUNNING && most > 0; most--)
+        answer = grant(&lent, 1 + any(9));
+    expect(answer != TLZ_RUNNING, "a made-up state goes on for ever");
+    for (size_t i = 0; i < 8 && i < length; i++)
+        expect(lent.marks[i] == 0x55, "marks 0 to 7");
+    expect(lent.marks[length] == 0x55 && lent.marks[length + 1] == 0x55, "marks behind the file");
+    give_back(&lent);
+}
+
+/* One to four fields get other values. */
+static void damage(uint8_t *file, size_t length)
+{
+    for (uint64_t i = any(4); i < 4 && length >= 4; i++) {
+        size_t at = any(4) == 0 ? any(length - 3) : any((length - 3) / 4 + 1) * 4;
+        uint32_t value = any(3) == 0 ? made_up_number(length) : (uint32_t)any(length);
+        for (int k = 0; k < 4 && at + (size_t)k < length; k++)
+            file[at + (size_t)k] = (uint8_t)(value >> (24 - 8 * k));
+    }
+}
+
+static void try_file(const uint8_t *bytes, size_t length, uint64_t rounds)
+{
+    uint8_t *copy = exactly(length);
+
+    fresh_check(bytes, length, 1);
+    fresh_check(bytes, length, 1000000);
+    short_marks(bytes, length);
+    other_lengths(bytes, length);
+    for (uint64_t i = 0; i < rounds; i++) {
+        memcpy(copy, bytes, length);
+        damage(copy, length);
+        fresh_check(copy, length, 20);
+        made_up(any(2) ? bytes : copy, length);
+        fresh_check(bytes, any(length + 1), 20);
+    }
+    free(copy);
+}
+
+/* Reads a file and tries it; 0 if it could be read. */
+static int read_and_try(const char *name, uint64_t rounds)
+{
+    FILE *in = fopen(name, "rb");
+    static uint8_t bytes[65536];
+    size_t length = in == NULL ? 0 : fread(bytes, 1, sizeof bytes, in);
+
+    if (in == NULL || length == sizeof bytes) {
+        fprintf(stderr, "%s: cannot be read, or is too long\n", name);
+        return 1;
+    }
+    fclose(in);
+    try_file(bytes, length, rounds);
+    return 0;
+}
+
+int main(int count, char **words)
+{
+    uint64_t rounds = count > 1 ? strtoull(words[1], NULL, 10) : 0;
+
+    for (int i = 2; i < count; i++)
+        if (read_and_try(words[i], rounds) != 0)
+            return 2;
+    printf("%d files, %" PRIu64 " grants, %" PRIu64 " wrong\n", count - 2, grants, wrong);
+    return wrong != 0;
+}
