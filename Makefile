@@ -8,7 +8,8 @@ PREFIX = /usr/local
 DESTDIR =
 CFLAGS = -std=c11 -O2 -Wall -Wextra -Wpedantic
 
-# The archives that rt makes, one a crate with calls for C. libtlepozaluh.a has all of them.
+# The archives that rt makes, one a crate with calls for C. libtlepozaluh.a has all of them; a library of one of them alone is a
+# further name in LIBRARIES, with a rule that copies its archive.
 LIBRARY = target/staticlib/libchecker.a
 ARCHIVES = $(LIBRARY)
 LIBRARIES = build/libtlepozaluh.a

@@ -5,7 +5,7 @@
  * steps as it likes; the check can be stopped after any grant and taken up again later. The library allocates nothing,
  * keeps nothing between calls and opens no file. Calls on different buffers may run at the same time.
  *
- * Link with libchecker.a. The saved state is described in docs/STATE.md.
+ * Link with libtlepozaluh.a. docs/INTERFACE.md has a worked program, docs/STATE.md describes the saved state.
  */
 #ifndef TLEPOZALUH_H
 #define TLEPOZALUH_H

@@ -12,7 +12,7 @@
 #include <sys/stat.h>
 #include <unistd.h>
 
-/* Reads exactly so many bytes; NULL, or why not. */
+/* Reads a file of so many bytes; NULL, or why not. */
 static const char *read_all(int fd, uint8_t *bytes, size_t length)
 {
     size_t done = 0;
@@ -25,7 +25,7 @@ static const char *read_all(int fd, uint8_t *bytes, size_t length)
             return strerror(errno);
         done += got > 0 ? (size_t)got : 0;
     }
-    return NULL;
+    return read(fd, &(uint8_t){ 0 }, 1) == 0 ? NULL : "the file has more bytes than its length says";
 }
 
 /* What kind of file it is and how long; NULL if it can be checked. */
@@ -54,6 +54,7 @@ static const char *read_open(int fd, struct input *input)
     if (fstat(fd, &before) != 0)
         return strerror(errno);
     why = unfit(&before);
+    input->too_long = S_ISREG(before.st_mode) && before.st_size > TLZ_LONGEST_FILE;
     if (why != NULL)
         return why;
     input->length = (size_t)before.st_size;

@@ -12,6 +12,7 @@ struct input {
     size_t length;
     int64_t changed;    /* when it was last changed: seconds .. */
     int64_t changed_ns; /* .. and nanoseconds */
+    bool too_long;      /* it was not read, because it is longer than the library takes */
 };
 
 /*

@@ -63,7 +63,6 @@ void job_open(struct job *job, const struct manner *manner)
 {
     double start = window_clock();
     const char *why = input_read(job->path, &job->input);
-    bool too_long = why == words_of_number(TLZ_TOO_LONG);
 
     if (why == NULL)
         why = prepare(job, manner);
@@ -74,7 +73,7 @@ void job_open(struct job *job, const struct manner *manner)
         return;
     }
     job->steps = job->before = 0;
-    set(job, UNCHECKED, too_long ? TLZ_TOO_LONG : NO_NUMBER, why);
+    set(job, UNCHECKED, job->input.too_long ? TLZ_TOO_LONG : NO_NUMBER, why);
     drop(job);
 }
 

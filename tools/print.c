@@ -15,7 +15,7 @@ void print_line(const struct job *job, bool marks)
     if (marks)
         printf("marks %016" PRIx64 "  ", job->marks_sum);
     text_name(stdout, job->path);
-    printf(job->why[0] == '\0' ? "\n" : ": %s\n", job->why);
+    printf("%s%s\n", job->why[0] == '\0' ? "" : ": ", job->why);
 }
 
 void print_json(const struct job *job, bool marks)

@@ -21,6 +21,20 @@ pub struct Parameter {
     pub c_type: String,
 }
 
+impl Call {
+    /// The call as a prototype on one line.
+    pub fn prototype(&self) -> String {
+        let spaced =
+            |c_type: &str| format!("{c_type}{}", if c_type.ends_with('*') { "" } else { " " });
+        let one = |parameter: &Parameter| {
+            spaced(&parameter.c_type) + parameter.name.as_deref().unwrap_or("")
+        };
+        let parameters: Vec<String> = self.parameters.iter().map(one).collect();
+        let inside = if parameters.is_empty() { "void".to_string() } else { parameters.join(", ") };
+        format!("{}{}({inside});", spaced(&self.answer), self.name)
+    }
+}
+
 /// A type of numbers in C, by its name in Rattle and Rust.
 fn number_type(name: &str) -> Option<&'static str> {
     let known = [

@@ -71,6 +71,21 @@ fn the_bindings_declare_what_the_header_does() {
     assert_eq!(calls::differences(&bound, &declared), Vec::<String>::new());
 }
 
+/// docs/INTERFACE.md has a heading and the prototype of every call, and of no other.
+#[test]
+fn every_call_is_described() {
+    let described = text("docs/INTERFACE.md");
+    let flat = described.split_whitespace().collect::<Vec<&str>>().join(" ");
+    let declared = calls::of_header(&header()).expect("the header");
+    for call in &declared {
+        let heading = format!("### {}", call.name);
+        assert!(described.lines().any(|line| line == heading), "{heading}");
+        assert!(flat.contains(&call.prototype()), "{}", call.prototype());
+    }
+    let headings = described.lines().filter(|line| line.starts_with("### tlz_")).count();
+    assert_eq!(headings, declared.len());
+}
+
 /// Each edit of the header or of the sources is found.
 #[test]
 fn drift_is_found() {
