@@ -154,7 +154,7 @@ fn forms_of_parameters() {
     assert!(calls::of_rattle_source(&source.replace("u32,", "Strange,")).is_err());
 }
 
-/// The table of docs/INTERFACE.md, the header and the tools' words have the same numbers, -1 to 21 without a gap.
+/// The table of docs/INTERFACE.md, the header and the tools' words have the same numbers, from -1 on without a gap.
 #[test]
 fn every_number_of_the_table() {
     let table = calls::table_numbers(&text("docs/INTERFACE.md"));
@@ -162,7 +162,8 @@ fn every_number_of_the_table() {
     let numbers: Vec<(String, i64)> =
         defined.into_iter().filter(|(name, _)| !OTHERS.contains(&name.as_str())).collect();
     assert_eq!(numbers, table);
-    assert!(table.iter().map(|(_, number)| *number).eq(-1..=21), "{table:?}");
+    assert!(table.len() >= 23, "{table:?}");
+    assert!(table.iter().map(|(_, number)| *number).zip(-1..).all(|(a, b)| a == b), "{table:?}");
     let words = text("tools/words.c");
     for (name, _) in &table {
         assert_eq!(words.matches(&format!("{{ {name}, \"")).count(), 1, "{name} in tools/words.c");
