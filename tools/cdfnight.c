@@ -4,12 +4,10 @@
 #include "listing.h"
 #include "options.h"
 #include "print.h"
-#include "text.h"
 #include "window.h"
 
 #include <inttypes.h>
 #include <stdio.h>
-#include <stdlib.h>
 
 static const char help[] =
     "Usage: cdfnight [OPTION].. DIR\n"

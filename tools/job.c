@@ -1,5 +1,3 @@
-#define _POSIX_C_SOURCE 200809L
-
 #include "job.h"
 
 #include "console.h"
@@ -8,7 +6,6 @@
 #include "window.h"
 #include "words.h"
 
-#include <inttypes.h>
 #include <stdio.h>
 #include <stdlib.h>
 #include <string.h>

@@ -9,7 +9,6 @@
 #include <getopt.h>
 #include <stdio.h>
 #include <stdlib.h>
-#include <string.h>
 #include <unistd.h>
 
 enum { GRANT = 1, LIMIT, SECONDS, SAVE, RESUME, JSON, QUIET, MARKS, PROGRESS, HELP, VERSION_OF, UNTIL, MEMORY };

@@ -6,33 +6,37 @@
 
 struct job {
     const char *name;
-    uint8_t *file, *marks;
+    uint8_t *file, *marks; /* the caller's; null if the file could not be read */
     size_t length;
     uint32_t state[TLZ_STATE_LEN];
     uint64_t steps;
     int32_t answer;
 };
 
-/* Reads a file and makes its state fresh; 0 if it can be checked. The caller owns file, marks and state. */
-static int begin(struct job *job, const char *name)
+static void end(struct job *job)
+{
+    free(job->file);
+    free(job->marks);
+    job->file = job->marks = NULL;
+}
+
+/* Reads a file, lends it marks of its length and makes its state fresh. */
+static void begin(struct job *job, const char *name)
 {
     FILE *in = fopen(name, "rb");
-    long length = -1;
+    long length = in != NULL && fseek(in, 0, SEEK_END) == 0 ? ftell(in) : -1;
 
-    *job = (struct job){ .name = name, .answer = TLZ_RUNNING };
-    if (in != NULL && fseek(in, 0, SEEK_END) == 0)
-        length = ftell(in);
+    *job = (struct job){ .name = name, .length = length > 0 ? (size_t)length : 0, .answer = TLZ_RUNNING };
     if (length >= 0) {
         rewind(in);
-        job->length = (size_t)length;
         job->file = malloc(job->length + 1); /* never null, also for an empty file */
         job->marks = malloc(job->length + 1);
     }
-    if (job->file == NULL || job->marks == NULL || fread(job->file, 1, job->length, in) != job->length)
-        length = -1;
+    if (job->file == NULL || job->marks == NULL || fread(job->file, 1, job->length, in) != job->length ||
+        tlz_check_begin(job->state, TLZ_STATE_LEN) != 0)
+        end(job);
     if (in != NULL)
         fclose(in);
-    return length < 0 || tlz_check_begin(job->state, TLZ_STATE_LEN) != 0;
 }
 
 /* A turn of up to 1000 steps. A finished check repeats its verdict, in 0 steps. */
@@ -40,39 +44,41 @@ static void turn(struct job *job)
 {
     uint64_t made = 0;
 
+    if (job->file == NULL)
+        return;
     job->answer = tlz_check_grant(job->file, job->length, job->marks, job->length, job->state, TLZ_STATE_LEN, 1000, &made);
     job->steps += made;
 }
 
-/* Accepted is 0 and nothing else; -1 is no verdict. */
-static void report(const struct job *job)
+/* Accepted is 0 and nothing else; -1 is no verdict. Gives 0 if the file is accepted. */
+static int report(const struct job *job)
 {
-    const char *word = job->answer == TLZ_ACCEPTED ? "accepted" : job->answer == TLZ_RUNNING ? "unfinished" : "refused";
+    const char *word = "refused";
 
+    if (job->answer == TLZ_ACCEPTED)
+        word = "accepted";
+    else if (job->answer == TLZ_RUNNING)
+        word = job->file == NULL ? "unchecked" : "unfinished";
     printf("%s %" PRId32 " %" PRIu64 " %s\n", word, job->answer, job->steps, job->name);
+    return job->answer != TLZ_ACCEPTED;
 }
 
 int main(int count, char **words)
 {
-    int files = count > 2 ? count - 2 : 0, not_accepted = files == 0;
     long rounds = count > 1 ? strtol(words[1], NULL, 10) : 0;
+    int files = count > 2 ? count - 2 : 0, not_accepted = files == 0;
     struct job *jobs = calloc((size_t)files + 1, sizeof *jobs);
 
     if (jobs == NULL)
         return 2;
-    for (int i = 0; i < files; i++) {
-        if (begin(&jobs[i], words[i + 2]) != 0)
-            return 2;
-    }
-    for (long round = 0; round < rounds; round++) {
+    for (int i = 0; i < files; i++)
+        begin(&jobs[i], words[i + 2]);
+    for (long round = 0; round < rounds; round++)
         for (int i = 0; i < files; i++)
             turn(&jobs[i]);
-    }
     for (int i = 0; i < files; i++) {
-        report(&jobs[i]);
-        not_accepted |= jobs[i].answer != TLZ_ACCEPTED;
-        free(jobs[i].file);
-        free(jobs[i].marks);
+        not_accepted |= report(&jobs[i]);
+        end(&jobs[i]);
     }
     free(jobs);
     return not_accepted;
