@@ -27,7 +27,7 @@ static void begin(struct job *job, const char *name)
     long length = in != NULL && fseek(in, 0, SEEK_END) == 0 ? ftell(in) : -1;
 
     *job = (struct job){ .name = name, .length = length > 0 ? (size_t)length : 0, .answer = TLZ_RUNNING };
-    if (length >= 0) {
+    if (length >= 0 && length <= TLZ_LONGEST_FILE) {
         rewind(in);
         job->file = malloc(job->length + 1); /* never null, also for an empty file */
         job->marks = malloc(job->length + 1);
