@@ -18,7 +18,7 @@ pub enum Place {
 }
 
 // An index is 0 or more and below its dimension's size.
-fn index_right(i: i64, size: u32) -> bool
+pub fn index_right(i: i64, size: u32) -> bool
     ensures { λ r. ⌜ r ≡ indexRight i size ⌝ }
 {
     (0 <= i) & (i < size as i64)
@@ -39,7 +39,7 @@ fn indices_right(f: &[u8], p: usize, indices: &[i64], n: usize) -> bool
 }
 
 // An index as a natural number, a negative one as 0.
-fn nat_of(i: i64) -> u64
+pub fn nat_of(i: i64) -> u64
     ensures { λ r. ⌜ (r ≡ natOr 0 i) × (r < 9223372036854775808) ⌝ }
 {
     if i < 0 { 0 } else { i as u64 }

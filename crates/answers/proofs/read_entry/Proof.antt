@@ -1,0 +1,65 @@
+use Rattle.answers.proofs.Asked.{in-entry, entry-found, entry-stopped}
+use mir.Facts.{toZ-ofZ}
+use mir.Syntax.{w64}
+use native.Mathlib.Omega.{arith}
+use mathlib.Core.Path.{_≡_, sym, _∙_}
+use borrow.Author.Needs.{needs}
+use Rattle.answers.proofs.read_entry.Statement.{statement}
+use Rattle.answers.proofs.read_entry.Tie as tie
+
+to-entry-requires : tie.Need-to-entry-requires
+to-entry-requires c κs = search needs
+
+enum-known-way : tie.Need-enum-known-way
+enum-known-way c = search needs
+
+cast-e : tie.Need-cast-e
+cast-e c = search needs
+
+cast-element : tie.Need-cast-element
+cast-element c = search needs
+
+add-element : tie.Need-add-element
+add-element c = search needs
+
+add-element-2 : tie.Need-add-element-2
+add-element-2 c = search needs
+
+add-element-3 : tie.Need-add-element-3
+add-element-3 c = search needs
+
+element-requires : tie.Need-element-requires
+element-requires c κs =
+    let i = in-entry (c .before .before .before .before .before .args .f .now) _ _ _ _ _ (sym (c .before .before .before .to-entry .ensures) ∙ c .before .way .given .1) in
+    (i .short, omega (arith, i .long), omega (arith, i .bytes), omega (arith, i .bytes), omega (arith, i .short, i .bytes))
+
+enum-known-way-2 : tie.Need-enum-known-way-2
+enum-known-way-2 c = search needs
+
+returns : tie.Need-returns
+returns c =
+    let a = c .before .before .before .before .before .before in
+    let e = rw (toZ-ofZ {w = w64} (a .fits .attribute), toZ-ofZ {w = w64} (a .fits .kind), toZ-ofZ {w = w64} (a .fits .number)) at (sym (c .before .before .before .before .to-entry .ensures) ∙ c .before .before .way .given .1) in
+    c .element .ensures ∙ rw (toZ-ofZ {w = w64} (a .fits .x)) (sym (entry-found (a .args .f .now) (a .args .attribute) (a .args .kind) (a .args .number) (a .args .x) _ _ e))
+
+returns-2 : tie.Need-returns-2
+returns-2 c =
+    let a = c .before .before .before .before .before in
+    let e = rw (toZ-ofZ {w = w64} (a .fits .attribute), toZ-ofZ {w = w64} (a .fits .kind), toZ-ofZ {w = w64} (a .fits .number)) at (sym (c .before .before .before .to-entry .ensures) ∙ c .before .way2 .given .1) in
+    sym (entry-stopped (a .args .f .now) (a .args .attribute) (a .args .kind) (a .args .number) (a .args .x) _ e)
+
+pub read-entry-spec : {M : Type 1} → statement M
+read-entry-spec =
+    tie.close
+    (tie.spec
+    to-entry-requires
+    enum-known-way
+    cast-e
+    cast-element
+    add-element
+    add-element-2
+    add-element-3
+    element-requires
+    enum-known-way-2
+    returns
+    returns-2)

@@ -1,0 +1,56 @@
+use Rattle.answers.proofs.Asked.{in-variable, value-found, value-stopped}
+use Rattle.answers.proofs.Fitting.{variable-fits}
+use Rattle.answers.specs.Bounds.{Fits}
+use mir.Facts.{toZ-ofZ}
+use mir.Syntax.{w64}
+use mathlib.Core.Path.{_≡_, sym, _∙_, subst}
+use borrow.Author.Needs.{needs}
+use Rattle.answers.proofs.read_value.Statement.{statement}
+use Rattle.answers.proofs.read_value.Tie as tie
+
+to-variable-requires : tie.Need-to-variable-requires
+to-variable-requires c κs = search needs
+
+enum-known-way : tie.Need-enum-known-way
+enum-known-way c = search needs
+
+kind-among-requires : tie.Need-kind-among-requires
+kind-among-requires c κs = search needs
+
+variable-at-requires : tie.Need-variable-at-requires
+variable-at-requires c κs = search needs
+
+in-variable-requires : tie.Need-in-variable-requires
+in-variable-requires c κs =
+    let a = c .before .before .before .before .before .before .before in
+    let i = in-variable (a .args .f .now) _ _ _ _ (sym (c .before .before .before .before .before .to-variable .ensures) ∙ c .before .before .before .way .given .1) in
+    (i, subst Fits (sym (c .variable-at .ensures)) (variable-fits (a .args .f .now) _ _ (i .short)))
+
+enum-known-way-2 : tie.Need-enum-known-way-2
+enum-known-way-2 c = search needs
+
+returns : tie.Need-returns
+returns c =
+    let a = c .before .before .before .before .before .before .before .before in
+    let e = rw (toZ-ofZ {w = w64} (a .fits .kind), toZ-ofZ {w = w64} (a .fits .number)) at (sym (c .before .before .before .before .before .before .to-variable .ensures) ∙ c .before .before .before .before .way .given .1) in
+    let k = rw (toZ-ofZ {w = w64} (a .fits .kind)) at (c .before .before .kind-among .ensures) in
+    c .in-variable .ensures ∙ rw (c .before .variable-at .ensures, k, toZ-ofZ {w = w64} (a .fits .r), toZ-ofZ {w = w64} (a .fits .x)) (sym (value-found (a .args .f .now) (a .args .kind) (a .args .number) (a .args .r) (a .args .indices .now) (a .args .x) _ _ e))
+
+returns-2 : tie.Need-returns-2
+returns-2 c =
+    let a = c .before .before .before .before .before in
+    let e = rw (toZ-ofZ {w = w64} (a .fits .kind), toZ-ofZ {w = w64} (a .fits .number)) at (sym (c .before .before .before .to-variable .ensures) ∙ c .before .way2 .given .1) in
+    sym (value-stopped (a .args .f .now) (a .args .kind) (a .args .number) (a .args .r) (a .args .indices .now) (a .args .x) _ e)
+
+pub read-value-spec : {M : Type 1} → statement M
+read-value-spec =
+    tie.close
+    (tie.spec
+    to-variable-requires
+    enum-known-way
+    kind-among-requires
+    variable-at-requires
+    in-variable-requires
+    enum-known-way-2
+    returns
+    returns-2)

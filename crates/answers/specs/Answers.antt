@@ -1,0 +1,101 @@
+-- The answers to questions for values: of a variable, of an entry, of a pad value. Document 01, "Values". Assumes nothing.
+use Prim.Native.Nat.{ℕ, _+_, _*_}
+use mathlib.Core.Bool.{Bool, cond, _&&_}
+use mathlib.Core.List.{List}
+use lib.IntN.{ℤ, pos}
+use lib.Signed.{leZ, ltZ}
+use Rattle.format.specs.Fields.{fieldAt, natAt, natOr, bitAt}
+use Rattle.values.specs.declared.value.Answer.{Answer}
+use Rattle.values.specs.declared.value.Decoded.{Decoded}
+use Rattle.values.specs.declared.value.Decoded.the-variants.{Given, Vax, Nothing}
+use Rattle.values.specs.Values.{decodedOf}
+use Rattle.records.specs.Attributes.{elementSize}
+use Rattle.variables.specs.Vdr.{variableOf}
+use Rattle.variables.specs.Place.{placeOf}
+use Rattle.variables.specs.declared.vdr.Variable.{Variable}
+use Rattle.variables.specs.declared.place.Place.{Place}
+use Rattle.variables.specs.declared.place.Place.the-variants.{At, Wrong}
+use Rattle.ways.specs.Lists.{kindAmong, variableWay, entryWay}
+use Rattle.ways.specs.Indexes.{recordWay}
+use Rattle.ways.specs.declared.lists.Wanted.the-variants.{Number}
+use Rattle.ways.specs.declared.lists.Way.{Way}
+use Rattle.ways.specs.declared.lists.Way.the-variants.{Found, Stopped}
+use Rattle.ways.specs.declared.indexes.Values.{Values}
+use Rattle.ways.specs.declared.indexes.Values.the-variants.{Record, Refused as NoRecord}
+use Rattle.answers.specs.declared.Read.{Read}
+use Rattle.answers.specs.declared.Read.the-variants.{Value, Refused}
+
+-- the number that comes back: 0, "value given", or the refusal's
+abbrev pub numberOf : Read → ℕ
+numberOf (Value a) = 0
+numberOf (Refused v) = v
+
+-- 19: "float in encoding 3, 14 or 15"; an element that is not in the file would be 20
+abbrev pub answered : Decoded → Read
+answered (Given a) = Value a
+answered Vax = Refused 19
+answered Nothing = Refused 20
+
+-- CDR: "encoding (20)"; flags (24): "Bit 0 set means row majority"; the CDR stands at 8
+abbrev pub encodingAt : List ℕ → ℕ
+encodingAt f = natAt f 28
+
+abbrev pub rowMajority : List ℕ → Bool
+rowMajority f = bitAt f 32 1
+
+-- an element of those that the field at p counts; else 18, "element out of range"
+unfoldable pub elementThere : List ℕ → ℕ → ℤ → Bool
+elementThere f p x = leZ (pos 0) x && ltZ x (fieldAt f p)
+
+-- element x of the values from an offset on, whose data type stands at t and whose count at c
+unfoldable pub elementRead : List ℕ → ℕ → ℕ → ℕ → ℤ → Read
+elementRead f at t c x =
+    cond (elementThere f c x) (answered (decodedOf f (at + natOr 0 x * elementSize f t) (natAt f t) (encodingAt f))) (Refused 18)
+
+-- of a record that begins at an offset: the value at a place, the VDR at v saying its data type (12) and elements (48)
+abbrev pub atPlace : List ℕ → ℕ → ℕ → ℕ → ℤ → Place → Read
+atPlace f v bytes at x (At p) = elementRead f (at + p * bytes) (v + 12) (v + 48) x
+atPlace f v bytes at x Wrong = Refused 18
+
+unfoldable pub inRecord : List ℕ → ℕ → Variable → ℕ → List ℤ → ℤ → Read
+inRecord f v u at is x = atPlace f v (u .value) at x (placeOf f u (rowMajority f) is)
+
+abbrev pub inValues : List ℕ → ℕ → Variable → List ℤ → ℤ → Values → Read
+inValues f v u is x (Record at) = inRecord f v u at is x
+inValues f v u is x (NoRecord n) = Refused n
+
+-- of the variable whose VDR is at v, where left more records may be met
+unfoldable pub inVariable : List ℕ → ℕ → ℕ → Variable → ℤ → List ℤ → ℤ → Read
+inVariable f v left u r is x = inValues f v u is x (recordWay f v (u .bytes) r left)
+
+abbrev pub valueOn : List ℕ → ℕ → ℤ → List ℤ → ℤ → Way → Read
+valueOn f k r is x (Found v left) = inVariable f v left (variableOf f k v) r is x
+valueOn f k r is x (Stopped n) = Refused n
+
+-- A VALUE: "asked by kind, number, record, indices and element"
+unfoldable pub valueRead : List ℕ → ℤ → ℤ → ℤ → List ℤ → ℤ → Read
+valueRead f k n r is x = valueOn f (kindAmong 3 8 k) r is x (variableWay f k n)
+
+-- "data type 16, .. elements 24 .., value from 48"
+abbrev pub entryOn : List ℕ → ℤ → Way → Read
+entryOn f x (Found e left) = elementRead f (e + 48) (e + 16) (e + 24) x
+entryOn f x (Stopped n) = Refused n
+
+-- AN ENTRY'S VALUE: "by attribute, kind, entry number and element"
+unfoldable pub entryRead : List ℕ → ℤ → ℤ → ℤ → ℤ → Read
+entryRead f a k n x = entryOn f x (entryWay f a k (Number n))
+
+-- "Pad value last if bit 1 is set": after the variances
+abbrev pub padPlace : Variable → ℕ
+padPlace u = u .dimensions .variances + 4 * u .dimensions .count
+
+unfoldable pub padIn : List ℕ → ℕ → Variable → ℤ → Read
+padIn f v u x = cond (bitAt f (v + 28) 2) (elementRead f (padPlace u) (v + 12) (v + 48) x) (Refused 18)
+
+abbrev pub padOn : List ℕ → ℕ → ℤ → Way → Read
+padOn f k x (Found v left) = padIn f v (variableOf f k v) x
+padOn f k x (Stopped n) = Refused n
+
+-- A PAD VALUE: "pad value as elements (18 if there is none)"
+unfoldable pub padRead : List ℕ → ℤ → ℤ → ℤ → Read
+padRead f k n x = padOn f (kindAmong 3 8 k) x (variableWay f k n)

@@ -1,0 +1,84 @@
+-- A record that a way has found lies in the file up to the end of its fields. Assumes nothing.
+use mathlib.Core.Path.{_≡_, refl, subst}
+use mathlib.Core.Bool.{Bool, true, false, cond}
+use mathlib.Core.List.{List}
+use Prim.Native.Nat.{ℕ, _+_, _*_, _≤_, _<_}
+use native.Mathlib.Omega.{arith}
+use lib.IntN.{ℤ, pos}
+use lib.ListN.{length}
+use lib.Dec.{eqb}
+use Rattle.format.specs.Fields.{endOf, eqZ}
+use Rattle.variables.specs.Vdr.{countPlace, layoutAt, layoutOf, variableOf}
+use Rattle.variables.proofs.Right.{right}
+use Rattle.ways.specs.Lists.{kindAmong, meets, variableWay, attributeWay, entryWay}
+use Rattle.ways.specs.declared.lists.Wanted.{Wanted}
+use Rattle.ways.specs.declared.lists.Way.{Way}
+use Rattle.ways.specs.declared.lists.Way.the-variants.{Found, Stopped}
+use Rattle.ways.proofs.Found.{Finds, Met, variable-finds, attribute-finds, entry-finds, attribute-inside, entry-inside, variable-kept, variable-inside}
+use Rattle.descriptors.specs.declared.Field.the-variants.{Refused}
+use Rattle.descriptors.specs.Descriptors.{rowField, variableSize, variableVariance}
+use Rattle.descriptors.specs.Bounds.{fieldBytes, Holds}
+
+-- what a way has found holds as many bytes as each record that it can find
+holds : (f : List ℕ) (t n : ℕ) → ((o : ℕ) → meets f t o ≡ true → o + n ≤ length f) → (way : Way) → Finds (Met f t) way → Holds f n way
+holds f t n h (Found o left) m = h o (m .met)
+holds f t n h (Stopped v) m = tt
+
+counted : (f : List ℕ) (o : ℕ) → layoutOf f 8 o .sizes + 4 * layoutOf f 8 o .count ≤ endOf f → o + 132 ≤ length f
+unfolding layoutOf layoutAt countPlace endOf
+counted f o e = omega (arith, e)
+
+module _ (f : List ℕ) where
+  variable-bytes : (k : ℤ) (o : ℕ) → meets f (kindAmong 3 8 k) o ≡ true → o + fieldBytes (kindAmong 3 8 k) ≤ length f
+  variable-bytes k o m = go (eqZ k (pos 3)) refl
+    where
+      go : (b : Bool) → eqZ k (pos 3) ≡ b → o + fieldBytes (kindAmong 3 8 k) ≤ length f
+      go true e = rw e (variable-inside f o k m)
+      go false e = rw e (counted f o (right f 8 o (rw e at (variable-kept f o k m)) .sizes))
+
+  entry-bytes : (k : ℤ) (o : ℕ) → meets f (kindAmong 5 9 k) o ≡ true → o + fieldBytes (kindAmong 5 9 k) ≤ length f
+  entry-bytes k o m = go (eqZ k (pos 5)) refl
+    where
+      go : (b : Bool) → eqZ k (pos 5) ≡ b → o + fieldBytes (kindAmong 5 9 k) ≤ length f
+      go true e = rw e (entry-inside f o k m)
+      go false e = rw e (entry-inside f o k m)
+
+  pub variable-holds : (k n : ℤ) → Holds f (fieldBytes (kindAmong 3 8 k)) (variableWay f k n)
+  variable-holds k n = holds f (kindAmong 3 8 k) (fieldBytes (kindAmong 3 8 k)) (variable-bytes k) (variableWay f k n) (variable-finds f k n)
+
+  pub variable-named : (k n : ℤ) → Holds f 128 (variableWay f k n)
+  variable-named k n = holds f (kindAmong 3 8 k) 128 (λ o m. variable-inside f o k m) (variableWay f k n) (variable-finds f k n)
+
+  pub attribute-holds : (n : ℤ) → Holds f 116 (attributeWay f n)
+  attribute-holds n = holds f 4 116 (attribute-inside f) (attributeWay f n) (attribute-finds f n)
+
+  pub entry-holds : (a k : ℤ) (w : Wanted) → Holds f (fieldBytes (kindAmong 5 9 k)) (entryWay f a k w)
+  entry-holds a k w = holds f (kindAmong 5 9 k) (fieldBytes (kindAmong 5 9 k)) (entry-bytes k) (entryWay f a k w) (entry-finds f a k w)
+
+  -- a variable that was found is one of a file whose length an offset can say
+  pub found-short : (k n : ℤ) (o left : ℕ) → variableWay f k n ≡ Found o left → length f < 2147483648
+  found-short k n o left e = subst (Finds (Met f (kindAmong 3 8 k))) e (variable-finds f k n) .file .short
+
+  -- what is asked of a variable that was found, and of one that was not
+  module _ (k n d : ℤ) where
+    pub size-is : (o left : ℕ) → variableWay f k n ≡ Found o left → eqb (kindAmong 3 8 k) 8 ≡ true
+        → variableSize f k n d ≡ rowField f (variableOf f (kindAmong 3 8 k) o .dimensions .sizes) (variableOf f (kindAmong 3 8 k) o .dimensions .count) d
+    unfolding variableSize
+    size-is o left e h = rw (e, h)
+
+    pub size-none : (o left : ℕ) → variableWay f k n ≡ Found o left → eqb (kindAmong 3 8 k) 8 ≡ false → variableSize f k n d ≡ Refused 18
+    unfolding variableSize
+    size-none o left e h = rw (e, h)
+
+    pub size-stopped : (v : ℕ) → variableWay f k n ≡ Stopped v → variableSize f k n d ≡ Refused v
+    unfolding variableSize
+    size-stopped v e = rw e
+
+    pub variance-is : (o left : ℕ) → variableWay f k n ≡ Found o left
+        → variableVariance f k n d ≡ rowField f (variableOf f (kindAmong 3 8 k) o .dimensions .variances) (variableOf f (kindAmong 3 8 k) o .dimensions .count) d
+    unfolding variableVariance
+    variance-is o left e = rw e
+
+    pub variance-stopped : (v : ℕ) → variableWay f k n ≡ Stopped v → variableVariance f k n d ≡ Refused v
+    unfolding variableVariance
+    variance-stopped v e = rw e

@@ -1,0 +1,25 @@
+use Rattle.descriptors.proofs.Inside.{entry-holds}
+use Rattle.descriptors.specs.Descriptors.{entryField}
+use mir.Facts.{toZ-ofZ}
+use mir.Syntax.{w64}
+use mathlib.Core.Path.{_∙_}
+use borrow.Author.Needs.{needs}
+use Rattle.descriptors.proofs.entry_field.Statement.{statement}
+use Rattle.descriptors.proofs.entry_field.Tie as tie
+
+kind-among-requires : tie.Need-kind-among-requires
+kind-among-requires c κs = search needs
+
+to-entry-requires : tie.Need-to-entry-requires
+to-entry-requires c κs = search needs
+
+field-on-requires : tie.Need-field-on-requires
+field-on-requires c κs = rw (c .before .kind-among .ensures, c .to-entry .ensures) (entry-holds (c .before .before .before .args .f .now) _ _ _)
+
+returns : tie.Need-returns
+unfolding entryField
+returns c = c .field-on .ensures ∙ rw (c .before .before .kind-among .ensures, c .before .to-entry .ensures, toZ-ofZ {w = w64} (c .before .before .before .before .fits .attribute), toZ-ofZ {w = w64} (c .before .before .before .before .fits .kind))
+
+pub entry-field-spec : {M : Type 1} → statement M
+entry-field-spec =
+    tie.close (tie.spec kind-among-requires to-entry-requires field-on-requires returns)

@@ -1,0 +1,25 @@
+use Rattle.descriptors.proofs.Inside.{variable-holds}
+use Rattle.descriptors.specs.Descriptors.{variableField}
+use mir.Facts.{toZ-ofZ}
+use mir.Syntax.{w64}
+use mathlib.Core.Path.{_∙_}
+use borrow.Author.Needs.{needs}
+use Rattle.descriptors.proofs.variable_field.Statement.{statement}
+use Rattle.descriptors.proofs.variable_field.Tie as tie
+
+kind-among-requires : tie.Need-kind-among-requires
+kind-among-requires c κs = search needs
+
+to-variable-requires : tie.Need-to-variable-requires
+to-variable-requires c κs = search needs
+
+field-on-requires : tie.Need-field-on-requires
+field-on-requires c κs = rw (c .before .kind-among .ensures, c .to-variable .ensures) (variable-holds (c .before .before .before .args .f .now) _ _)
+
+returns : tie.Need-returns
+unfolding variableField
+returns c = c .field-on .ensures ∙ rw (c .before .before .kind-among .ensures, c .before .to-variable .ensures, toZ-ofZ {w = w64} (c .before .before .before .before .fits .number), toZ-ofZ {w = w64} (c .before .before .before .before .fits .kind))
+
+pub variable-field-spec : {M : Type 1} → statement M
+variable-field-spec =
+    tie.close (tie.spec kind-among-requires to-variable-requires field-on-requires returns)

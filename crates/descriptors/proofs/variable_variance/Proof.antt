@@ -1,0 +1,65 @@
+use Rattle.ways.proofs.Dimensions.{Dimensions, of-variable}
+use Rattle.descriptors.proofs.Inside.{found-short, variance-is, variance-stopped}
+use mir.Facts.{toZ-ofZ}
+use mir.Syntax.{w64}
+use native.Mathlib.Omega.{arith}
+use mathlib.Core.Path.{_≡_, sym, _∙_, subst}
+use borrow.Author.Needs.{needs}
+use Rattle.descriptors.proofs.variable_variance.Statement.{statement}
+use Rattle.descriptors.proofs.variable_variance.Tie as tie
+
+to-variable-requires : tie.Need-to-variable-requires
+to-variable-requires c κs = search needs
+
+enum-known-way : tie.Need-enum-known-way
+enum-known-way c = search needs
+
+kind-among-requires : tie.Need-kind-among-requires
+kind-among-requires c κs = search needs
+
+variable-at-requires : tie.Need-variable-at-requires
+variable-at-requires c κs = search needs
+
+cast-row-field : tie.Need-cast-row-field
+cast-row-field c =
+    let a = c .before .before .before .before .before .before .before .before .before in
+    let d = subst (Dimensions (a .args .f .now)) (sym (c .before .before .variable-at .ensures)) (of-variable (a .args .f .now) _ _) in
+    omega (arith, d .variances, found-short (a .args .f .now) _ _ _ _ (sym (c .before .before .before .before .before .before .before .to-variable .ensures) ∙ c .before .before .before .before .before .way .given .1))
+
+row-field-requires : tie.Need-row-field-requires
+row-field-requires c κs =
+    let a = c .before .before .before .before .before .before .before .before .before in
+    let d = subst (Dimensions (a .args .f .now)) (sym (c .before .before .variable-at .ensures)) (of-variable (a .args .f .now) _ _) in
+    omega (arith, d .variances)
+
+enum-known-way-2 : tie.Need-enum-known-way-2
+enum-known-way-2 c = search needs
+
+returns : tie.Need-returns
+returns c =
+    let a = c .before .before .before .before .before .before .before .before .before .before in
+    let f = a .args .f .now in
+    let e = rw (toZ-ofZ {w = w64} (a .fits .kind), toZ-ofZ {w = w64} (a .fits .number)) at (sym (c .before .before .before .before .before .before .before .before .to-variable .ensures) ∙ c .before .before .before .before .before .before .way .given .1) in
+    let k = rw (toZ-ofZ {w = w64} (a .fits .kind)) at (c .before .before .before .before .kind-among .ensures) in
+    let v = rw k at (c .before .before .before .variable-at .ensures) in
+    c .row-field .ensures ∙ rw (v, toZ-ofZ {w = w64} (a .fits .d)) (sym (variance-is f (a .args .kind) (a .args .number) (a .args .d) _ _ e))
+
+returns-2 : tie.Need-returns-2
+returns-2 c =
+    let a = c .before .before .before .before .before in
+    let e = rw (toZ-ofZ {w = w64} (a .fits .kind), toZ-ofZ {w = w64} (a .fits .number)) at (sym (c .before .before .before .to-variable .ensures) ∙ c .before .way2 .given .1) in
+    sym (variance-stopped (a .args .f .now) (a .args .kind) (a .args .number) (a .args .d) _ e)
+
+pub variable-variance-spec : {M : Type 1} → statement M
+variable-variance-spec =
+    tie.close
+    (tie.spec
+    to-variable-requires
+    enum-known-way
+    kind-among-requires
+    variable-at-requires
+    cast-row-field
+    row-field-requires
+    enum-known-way-2
+    returns
+    returns-2)

@@ -1,0 +1,127 @@
+-- Descriptors: what the CDR, the GDR, a VDR, an ADR and an AEDR say. Document 01, "Values". Assumes nothing.
+use Prim.Native.Nat.{ℕ, zero, suc, _+_, _*_}
+use mathlib.Core.Bool.{Bool, false, cond, _&&_, _||_}
+use mathlib.Core.List.{List, [], _∷_}
+use lib.ListN.{getD}
+use lib.Dec.{leb, eqb}
+use lib.IntN.{ℤ, pos}
+use Rattle.format.specs.Fields.{fieldAt, bitAt, natOr}
+use Rattle.records.specs.Opening.{gdrAt, rNumDims}
+use Rattle.variables.specs.Vdr.{variableOf}
+use Rattle.variables.specs.Place.{indexRight}
+use Rattle.variables.specs.declared.vdr.Variable.{Variable}
+use Rattle.ways.specs.Lists.{opened, isEntryKind, kindAmong, variableWay, attributeWay, entryWay}
+use Rattle.ways.specs.declared.lists.Wanted.{Wanted}
+use Rattle.ways.specs.declared.lists.Way.{Way}
+use Rattle.ways.specs.declared.lists.Way.the-variants.{Found, Stopped}
+use Rattle.descriptors.specs.declared.Field.{Field}
+use Rattle.descriptors.specs.declared.Field.the-variants.{Is, Refused}
+use Rattle.descriptors.specs.declared.Name.{Name}
+use Rattle.descriptors.specs.declared.Name.the-variants.{Bytes, Nameless}
+
+-- the number that comes back
+abbrev pub fieldNumber : Field → ℕ
+fieldNumber (Is x) = 0
+fieldNumber (Refused v) = v
+
+abbrev pub nameNumber : Name → ℕ
+nameNumber (Bytes o n) = 0
+nameNumber (Nameless v) = v
+
+-- ---- a field of a record, asked by its offset in the record
+abbrev pub among : List ℕ → ℕ → Bool
+among [] x = false
+among (y ∷ ys) x = eqb x y || among ys x
+
+-- "fields other than size, record type, links, tail, compression offset, blocking and rfu": of an ADR scope, Num, both counts and
+-- maxima; of an AEDR Num, data type, entry number, elements; of a VDR data type, MaxRec, flags, sRecords, elements, Num
+abbrev pub attributeFields : List ℕ
+attributeFields = 16 ∷ 20 ∷ 24 ∷ 28 ∷ 40 ∷ 44 ∷ []
+
+abbrev pub entryFields : List ℕ
+entryFields = 12 ∷ 16 ∷ 20 ∷ 24 ∷ []
+
+abbrev pub variableFields : List ℕ
+variableFields = 12 ∷ 16 ∷ 28 ∷ 32 ∷ 48 ∷ 52 ∷ []
+
+-- of a record of type t; of a zVDR also the number of its dimensions
+unfoldable pub isShown : ℕ → ℕ → Bool
+isShown t field =
+    cond (eqb t 4) (among attributeFields field)
+    (cond (isEntryKind t) (among entryFields field) (among variableFields field || (eqb t 8 && eqb field 128)))
+
+-- of the record of type t at the end of a way
+abbrev pub fieldOn : List ℕ → ℕ → ℕ → Way → Field
+fieldOn f t field (Found o left) = cond (isShown t field) (Is (fieldAt f (o + field))) (Refused 18)
+fieldOn f t field (Stopped v) = Refused v
+
+unfoldable pub variableField : List ℕ → ℤ → ℤ → ℕ → Field
+variableField f k n field = fieldOn f (kindAmong 3 8 k) field (variableWay f k n)
+
+unfoldable pub attributeField : List ℕ → ℤ → ℕ → Field
+attributeField f n field = fieldOn f 4 field (attributeWay f n)
+
+unfoldable pub entryField : List ℕ → ℤ → ℤ → Wanted → ℕ → Field
+entryField f a k w field = fieldOn f (kindAmong 5 9 k) field (entryWay f a k w)
+
+-- ---- dimensions: the d-th of n fields from p on; "a dimension that is not there, 18"
+unfoldable pub rowField : List ℕ → ℕ → ℕ → ℤ → Field
+rowField f p n d = cond (indexRight d n) (Is (fieldAt f (p + 4 * natOr 0 d))) (Refused 18)
+
+-- the GDR's, of the rVariables: "sizes from 60"
+unfoldable pub dimensionSize : List ℕ → ℤ → Field
+dimensionSize f d = cond (opened f) (rowField f (gdrAt f + 60) (rNumDims f (gdrAt f)) d) (Refused 20)
+
+-- a zVariable's own sizes; an rVariable has none
+abbrev pub sizeOn : List ℕ → ℕ → ℤ → Way → Field
+sizeOn f k d (Found v left) =
+    let l = variableOf f k v .dimensions in
+    cond (eqb k 8) (rowField f (l .sizes) (l .count) d) (Refused 18)
+sizeOn f k d (Stopped v) = Refused v
+
+unfoldable pub variableSize : List ℕ → ℤ → ℤ → ℤ → Field
+variableSize f k n d = sizeOn f (kindAmong 3 8 k) d (variableWay f k n)
+
+abbrev pub varianceOn : List ℕ → ℕ → ℤ → Way → Field
+varianceOn f k d (Found v left) =
+    let l = variableOf f k v .dimensions in
+    rowField f (l .variances) (l .count) d
+varianceOn f k d (Stopped v) = Refused v
+
+unfoldable pub variableVariance : List ℕ → ℤ → ℤ → ℤ → Field
+variableVariance f k n d = varianceOn f (kindAmong 3 8 k) d (variableWay f k n)
+
+-- ---- names: "names up to the NUL", 64 bytes at most
+unfoldable pub untilNul : List ℕ → ℕ → ℕ → ℕ
+untilNul f p zero = 0
+untilNul f p (suc n) = cond (eqb (getD f p 0) 0) 0 (suc (untilNul f (suc p) n))
+
+-- the name at an offset of the record that a way has found
+abbrev pub nameOn : List ℕ → ℕ → Way → Name
+nameOn f place (Found o left) = Bytes (o + place) (untilNul f (o + place) 64)
+nameOn f place (Stopped v) = Nameless v
+
+-- VDR: "name 64"; ADR: "name 52 (64 bytes)"
+unfoldable pub variableName : List ℕ → ℤ → ℤ → Name
+variableName f k n = nameOn f 64 (variableWay f k n)
+
+unfoldable pub attributeName : List ℕ → ℤ → Name
+attributeName f n = nameOn f 52 (attributeWay f n)
+
+-- ---- "majority, encoding, counts and rVariable dimensions": 0 majority, 1 for row and 0 for column; 1 encoding; 2 NrVars, 3 NzVars,
+-- 4 NumAttr; 5 the number of dimensions of the rVariables; any other 18
+abbrev pub majority : Bool → ℤ
+majority row = cond row (pos 1) (pos 0)
+
+-- where the fields that are asked for by 1 to 5 stand: CDR 20, GDR 24, 40, 28, 36
+abbrev pub saidPlace : List ℕ → ℕ → ℕ
+saidPlace f what =
+    cond (eqb what 1) 28
+    (cond (eqb what 2) (gdrAt f + 24) (cond (eqb what 3) (gdrAt f + 40) (cond (eqb what 4) (gdrAt f + 28) (gdrAt f + 36))))
+
+abbrev pub said : List ℕ → ℕ → Field
+said f what =
+    cond (eqb what 0) (Is (majority (bitAt f 32 1))) (cond (leb what 5) (Is (fieldAt f (saidPlace f what))) (Refused 18))
+
+unfoldable pub fileField : List ℕ → ℕ → Field
+fileField f what = cond (opened f) (said f what) (Refused 20)

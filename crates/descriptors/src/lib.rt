@@ -1,0 +1,254 @@
+// Descriptors: what the CDR, the GDR, a VDR, an ADR and an AEDR say.
+ghost use mathlib.Core.Path.{_≡_};
+ghost use Prim.Native.Nat.{_+_, _*_, _≤_, _<_};
+ghost use lib.ListN.{length};
+ghost use Rattle.ways.specs.Opened.{Opened};
+ghost use Rattle.descriptors.specs.Descriptors.{isShown, fieldOn, variableField, attributeField, entryField, rowField, dimensionSize, variableSize, variableVariance, untilNul, nameOn, variableName, attributeName, majority, saidPlace, said, fileField};
+ghost use Rattle.descriptors.specs.Bounds.{fieldBytes, Holds};
+use format::fields;
+use variables::place;
+use variables::vdr;
+use ways::lists;
+use ways::lists::Wanted;
+use ways::lists::Way;
+
+// A control field, or the number of a refusal.
+pub enum Field {
+    Is(i32),
+    Refused(u8),
+}
+
+// Where a name stands and its length, or the number of a refusal.
+pub enum Name {
+    Bytes { offset: u64, length: u64 },
+    Nameless(u8),
+}
+
+// A field of a record of a type is shown, by its offset in the record.
+fn shows(t: u32, field: u64) -> bool
+    ensures { λ r. ⌜ r ≡ isShown t field ⌝ }
+{
+    if t == 4 {
+        return (field == 16)
+            | (field == 20)
+            | (field == 24)
+            | (field == 28)
+            | (field == 40)
+            | (field == 44);
+    }
+    if lists::is_entry(t) {
+        return (field == 12) | (field == 16) | (field == 20) | (field == 24);
+    }
+    (field == 12)
+        | (field == 16)
+        | (field == 28)
+        | (field == 32)
+        | (field == 48)
+        | (field == 52)
+        | ((t == 8) & (field == 128))
+}
+
+// A field of the record of a type that a way has found.
+fn field_on(f: &[u8], t: u32, field: u64, way: Way) -> Field
+    requires { ⌜ Holds (now f) (fieldBytes t) way ⌝ }
+    ensures { λ r. ⌜ r ≡ fieldOn (now (f .entry)) t field way ⌝ }
+{
+    match way {
+        Way::Found { at, left: _ } => {
+            if shows(t, field) {
+                Field::Is(fields::field(f, at as usize + field as usize))
+            } else {
+                Field::Refused(18)
+            }
+        }
+        Way::Stopped { number } => Field::Refused(number),
+    }
+}
+
+// A field of a variable's VDR, by kind, number and the field's offset.
+pub fn variable_field(f: &[u8], kind: i64, number: i64, field: u64) -> Field
+    ensures { λ r. ⌜ r ≡ variableField (now (f .entry)) kind number field ⌝ }
+{
+    field_on(
+        f,
+        lists::kind_among(3, 8, kind),
+        field,
+        lists::to_variable(f, kind, number),
+    )
+}
+
+// A field of an attribute's ADR, by number and the field's offset.
+pub fn attribute_field(f: &[u8], number: i64, field: u64) -> Field
+    ensures { λ r. ⌜ r ≡ attributeField (now (f .entry)) number field ⌝ }
+{
+    field_on(f, 4, field, lists::to_attribute(f, number))
+}
+
+// A field of an entry's AEDR, by attribute, kind, which entry, and the field's offset.
+pub fn entry_field(f: &[u8], attribute: i64, kind: i64, w: Wanted, field: u64) -> Field
+    ensures { λ r. ⌜ r ≡ entryField (now (f .entry)) attribute kind w field ⌝ }
+{
+    field_on(
+        f,
+        lists::kind_among(5, 9, kind),
+        field,
+        lists::to_entry(f, attribute, kind, w),
+    )
+}
+
+// The d-th of n fields from an offset on.
+fn row_field(f: &[u8], p: usize, n: u32, d: i64) -> Field
+    requires { ⌜ p + 4 * n ≤ length (now f) ⌝ }
+    ensures { λ r. ⌜ r ≡ rowField (now (f .entry)) p n d ⌝ }
+{
+    if !place::index_right(d, n) {
+        return Field::Refused(18);
+    }
+    let i = place::nat_of(d) as usize;
+    Field::Is(fields::field(f, p + 4 * i))
+}
+
+// The size of a dimension of the rVariables.
+pub fn dimension_size(f: &[u8], d: i64) -> Field
+    ensures { λ r. ⌜ r ≡ dimensionSize (now (f .entry)) d ⌝ }
+{
+    if !lists::opens(f) {
+        return Field::Refused(20);
+    }
+    let g = fields::link_at(f, 16) as usize;
+    row_field(f, g + 60, fields::nat_at(f, g + 36), d)
+}
+
+// The size of a dimension of a zVariable, by kind, number and dimension.
+pub fn variable_size(f: &[u8], kind: i64, number: i64, d: i64) -> Field
+    ensures { λ r. ⌜ r ≡ variableSize (now (f .entry)) kind number d ⌝ }
+{
+    let way = lists::to_variable(f, kind, number);
+    match way {
+        Way::Found { at, left: _ } => {
+            let k = lists::kind_among(3, 8, kind);
+            let v = vdr::variable_at(f, k, at);
+            let l = v.dimensions;
+            if k == 8 {
+                row_field(f, l.sizes, l.count as u32, d)
+            } else {
+                Field::Refused(18)
+            }
+        }
+        Way::Stopped { number } => Field::Refused(number),
+    }
+}
+
+// The variance of a dimension of a variable, by kind, number and dimension.
+pub fn variable_variance(f: &[u8], kind: i64, number: i64, d: i64) -> Field
+    ensures { λ r. ⌜ r ≡ variableVariance (now (f .entry)) kind number d ⌝ }
+{
+    let way = lists::to_variable(f, kind, number);
+    match way {
+        Way::Found { at, left: _ } => {
+            let v = vdr::variable_at(f, lists::kind_among(3, 8, kind), at);
+            let l = v.dimensions;
+            row_field(f, l.variances, l.count as u32, d)
+        }
+        Way::Stopped { number } => Field::Refused(number),
+    }
+}
+
+// The bytes before the first NUL among the n from an offset on.
+fn until_nul(f: &[u8], p: usize, n: usize) -> usize
+    requires { ⌜ p + n ≤ length (now f) ⌝ }
+    ensures { λ r. ⌜ (r ≡ untilNul (now (f .entry)) p n) × (r ≤ n) ⌝ }
+{
+    let mut i = 0;
+    while i < n {
+        if f[p + i] == 0 {
+            return i;
+        }
+        i += 1;
+    }
+    n
+}
+
+// The name that stands at an offset in the record that a way has found.
+fn name_on(f: &[u8], place: u32, way: Way) -> Name
+    requires { ⌜ Holds (now f) (place + 64) way × (place < 128) ⌝ }
+    ensures { λ r. ⌜ r ≡ nameOn (now (f .entry)) place way ⌝ }
+{
+    match way {
+        Way::Found { at, left: _ } => {
+            let p = at as usize + place as usize;
+            Name::Bytes {
+                offset: p as u64,
+                length: until_nul(f, p, 64) as u64,
+            }
+        }
+        Way::Stopped { number } => Name::Nameless(number),
+    }
+}
+
+// The name of a variable, by kind and number.
+pub fn variable_name(f: &[u8], kind: i64, number: i64) -> Name
+    ensures { λ r. ⌜ r ≡ variableName (now (f .entry)) kind number ⌝ }
+{
+    name_on(f, 64, lists::to_variable(f, kind, number))
+}
+
+// The name of an attribute, by number.
+pub fn attribute_name(f: &[u8], number: i64) -> Name
+    ensures { λ r. ⌜ r ≡ attributeName (now (f .entry)) number ⌝ }
+{
+    name_on(f, 52, lists::to_attribute(f, number))
+}
+
+// 1 for row majority, 0 for column majority.
+fn majority_of(row: bool) -> i32
+    ensures { λ r. ⌜ r ≡ majority row ⌝ }
+{
+    if row { 1 } else { 0 }
+}
+
+// Where what is asked for by 1 to 5 stands.
+fn said_place(f: &[u8], what: u64) -> usize
+    requires { ⌜ Opened (now f) ⌝ }
+    ensures { λ r. ⌜ (r ≡ saidPlace (now (f .entry)) what) × (r + 4 ≤ length (now (f .entry))) ⌝ }
+{
+    let g = fields::link_at(f, 16) as usize;
+    if what == 1 {
+        return 28;
+    }
+    if what == 2 {
+        return g + 24;
+    }
+    if what == 3 {
+        return g + 40;
+    }
+    if what == 4 {
+        return g + 28;
+    }
+    g + 36
+}
+
+// What the CDR and the GDR say of the file.
+fn said_of(f: &[u8], what: u64) -> Field
+    requires { ⌜ Opened (now f) ⌝ }
+    ensures { λ r. ⌜ r ≡ said (now (f .entry)) what ⌝ }
+{
+    if what == 0 {
+        return Field::Is(majority_of(fields::bit(f, 32, 1)));
+    }
+    if 5 < what {
+        return Field::Refused(18);
+    }
+    Field::Is(fields::field(f, said_place(f, what)))
+}
+
+// What the file says of itself: 0 majority, 1 encoding, 2 to 4 its counts of rVariables, zVariables and attributes, 5 the number
+// of dimensions of the rVariables.
+pub fn file_field(f: &[u8], what: u64) -> Field
+    ensures { λ r. ⌜ r ≡ fileField (now (f .entry)) what ⌝ }
+{
+    if !lists::opens(f) {
+        return Field::Refused(20);
+    }
+    said_of(f, what)
+}

@@ -1,0 +1,280 @@
+// The reader's calls for C. A call answers 0 and sets the caller's numbers, or answers the number of a refusal and leaves them alone.
+ghost use mathlib.Core.Path.{_≡_};
+ghost use Rattle.values.specs.Values.{kindOf};
+ghost use Rattle.ways.specs.declared.lists.Wanted.the-variants.{Place, Number};
+ghost use Rattle.answers.specs.Answers.{valueRead, entryRead, padRead};
+ghost use Rattle.descriptors.specs.Descriptors.{variableField, attributeField, entryField, dimensionSize, variableSize, variableVariance, variableName, attributeName, fileField};
+ghost use Rattle.reader.specs.Shown.{shownValue, valueShown, shownField, fieldShown, shownName, nameShown};
+use answers::Read;
+use descriptors::Field;
+use descriptors::Name;
+use values::value::Value;
+use ways::lists::Wanted;
+
+// The number of a value's kind: 0 signed, 1 unsigned, 2 single, 3 double, 4 character code.
+fn kind_number(v: Value) -> u64
+    ensures { λ r. ⌜ r ≡ kindOf v ⌝ }
+{
+    match v {
+        Value::Signed(_) => 0,
+        Value::Unsigned(_) => 1,
+        Value::Single(_) => 2,
+        Value::Double(_) => 3,
+        Value::Code(_) => 4,
+    }
+}
+
+// A value for C: its kind, its bits, the offset it was read from.
+fn show_value(r: Read, kind: &mut u64, bits: &mut u64, offset: &mut u64) -> i32
+    ensures { λ q. ⌜ shownValue q (now (kind .exit)) (now (bits .exit)) (now (offset .exit)) ≡ valueShown r (now (kind .entry)) (now (bits .entry)) (now (offset .entry)) ⌝ }
+{
+    match r {
+        Read::Value(a) => {
+            let v = a.value;
+            *kind = kind_number(v);
+            *bits = a.bits;
+            *offset = a.offset;
+            0
+        }
+        Read::Refused(number) => number as i32,
+    }
+}
+
+// A field for C.
+fn show_field(r: Field, number: &mut i32) -> i32
+    ensures { λ q. ⌜ shownField q (now (number .exit)) ≡ fieldShown r (now (number .entry)) ⌝ }
+{
+    match r {
+        Field::Is(x) => {
+            *number = x;
+            0
+        }
+        Field::Refused(v) => v as i32,
+    }
+}
+
+// A name for C.
+fn show_name(r: Name, offset: &mut u64, length: &mut u64) -> i32
+    ensures { λ q. ⌜ shownName q (now (offset .exit)) (now (length .exit)) ≡ nameShown r (now (offset .entry)) (now (length .entry)) ⌝ }
+{
+    match r {
+        Name::Bytes {
+            offset: o,
+            length: n,
+        } => {
+            *offset = o;
+            *length = n;
+            0
+        }
+        Name::Nameless(v) => v as i32,
+    }
+}
+
+// An element of a value of a variable, by kind, number, record, indices and element.
+#[no_mangle]
+pub extern "C" fn tlz_read_value(
+    file: &[u8],
+    kind: i64,
+    number: i64,
+    rec: i64,
+    indices: &[i64],
+    element: i64,
+    form: &mut u64,
+    bits: &mut u64,
+    offset: &mut u64,
+) -> i32
+    ensures { λ q. ⌜ shownValue q (now (form .exit)) (now (bits .exit)) (now (offset .exit))
+        ≡ valueShown (valueRead (now (file .entry)) kind number rec (now (indices .entry)) element) (now (form .entry)) (now (bits .entry)) (now (offset .entry)) ⌝ }
+{
+    show_value(
+        answers::read_value(file, kind, number, rec, indices, element),
+        form,
+        bits,
+        offset,
+    )
+}
+
+// An element of an attribute's entry, by attribute, kind, entry number and element.
+#[no_mangle]
+pub extern "C" fn tlz_read_entry(
+    file: &[u8],
+    attribute: i64,
+    kind: i64,
+    entry: i64,
+    element: i64,
+    form: &mut u64,
+    bits: &mut u64,
+    offset: &mut u64,
+) -> i32
+    ensures { λ q. ⌜ shownValue q (now (form .exit)) (now (bits .exit)) (now (offset .exit))
+        ≡ valueShown (entryRead (now (file .entry)) attribute kind entry element) (now (form .entry)) (now (bits .entry)) (now (offset .entry)) ⌝ }
+{
+    show_value(
+        answers::read_entry(file, attribute, kind, entry, element),
+        form,
+        bits,
+        offset,
+    )
+}
+
+// An element of the pad value of a variable, by kind, number and element.
+#[no_mangle]
+pub extern "C" fn tlz_read_pad(
+    file: &[u8],
+    kind: i64,
+    number: i64,
+    element: i64,
+    form: &mut u64,
+    bits: &mut u64,
+    offset: &mut u64,
+) -> i32
+    ensures { λ q. ⌜ shownValue q (now (form .exit)) (now (bits .exit)) (now (offset .exit))
+        ≡ valueShown (padRead (now (file .entry)) kind number element) (now (form .entry)) (now (bits .entry)) (now (offset .entry)) ⌝ }
+{
+    show_value(
+        answers::read_pad(file, kind, number, element),
+        form,
+        bits,
+        offset,
+    )
+}
+
+// What the file says of itself: 0 majority, 1 encoding, 2 to 4 the counts of rVariables, zVariables and attributes, 5 the number of
+// dimensions of the rVariables.
+#[no_mangle]
+pub extern "C" fn tlz_read_file(file: &[u8], what: u64, field: &mut i32) -> i32
+    ensures { λ q. ⌜ shownField q (now (field .exit)) ≡ fieldShown (fileField (now (file .entry)) what) (now (field .entry)) ⌝ }
+{
+    show_field(descriptors::file_field(file, what), field)
+}
+
+// The size of a dimension of the rVariables.
+#[no_mangle]
+pub extern "C" fn tlz_read_dimension(file: &[u8], dimension: i64, field: &mut i32) -> i32
+    ensures { λ q. ⌜ shownField q (now (field .exit)) ≡ fieldShown (dimensionSize (now (file .entry)) dimension) (now (field .entry)) ⌝ }
+{
+    show_field(descriptors::dimension_size(file, dimension), field)
+}
+
+// A field of a variable's VDR, by kind, number and the field's offset in the record.
+#[no_mangle]
+pub extern "C" fn tlz_read_variable(
+    file: &[u8],
+    kind: i64,
+    number: i64,
+    at: u64,
+    field: &mut i32,
+) -> i32
+    ensures { λ q. ⌜ shownField q (now (field .exit)) ≡ fieldShown (variableField (now (file .entry)) kind number at) (now (field .entry)) ⌝ }
+{
+    show_field(descriptors::variable_field(file, kind, number, at), field)
+}
+
+// The size of a dimension of a zVariable, by kind, number and dimension.
+#[no_mangle]
+pub extern "C" fn tlz_read_size(
+    file: &[u8],
+    kind: i64,
+    number: i64,
+    dimension: i64,
+    field: &mut i32,
+) -> i32
+    ensures { λ q. ⌜ shownField q (now (field .exit)) ≡ fieldShown (variableSize (now (file .entry)) kind number dimension) (now (field .entry)) ⌝ }
+{
+    show_field(
+        descriptors::variable_size(file, kind, number, dimension),
+        field,
+    )
+}
+
+// The variance of a dimension of a variable, -1 or 0, by kind, number and dimension.
+#[no_mangle]
+pub extern "C" fn tlz_read_variance(
+    file: &[u8],
+    kind: i64,
+    number: i64,
+    dimension: i64,
+    field: &mut i32,
+) -> i32
+    ensures { λ q. ⌜ shownField q (now (field .exit)) ≡ fieldShown (variableVariance (now (file .entry)) kind number dimension) (now (field .entry)) ⌝ }
+{
+    show_field(
+        descriptors::variable_variance(file, kind, number, dimension),
+        field,
+    )
+}
+
+// Where the name of a variable stands and its length, by kind and number.
+#[no_mangle]
+pub extern "C" fn tlz_read_variable_name(
+    file: &[u8],
+    kind: i64,
+    number: i64,
+    offset: &mut u64,
+    length: &mut u64,
+) -> i32
+    ensures { λ q. ⌜ shownName q (now (offset .exit)) (now (length .exit)) ≡ nameShown (variableName (now (file .entry)) kind number) (now (offset .entry)) (now (length .entry)) ⌝ }
+{
+    show_name(
+        descriptors::variable_name(file, kind, number),
+        offset,
+        length,
+    )
+}
+
+// A field of an attribute's ADR, by number and the field's offset in the record.
+#[no_mangle]
+pub extern "C" fn tlz_read_attribute(file: &[u8], number: i64, at: u64, field: &mut i32) -> i32
+    ensures { λ q. ⌜ shownField q (now (field .exit)) ≡ fieldShown (attributeField (now (file .entry)) number at) (now (field .entry)) ⌝ }
+{
+    show_field(descriptors::attribute_field(file, number, at), field)
+}
+
+// Where the name of an attribute stands and its length, by number.
+#[no_mangle]
+pub extern "C" fn tlz_read_attribute_name(
+    file: &[u8],
+    number: i64,
+    offset: &mut u64,
+    length: &mut u64,
+) -> i32
+    ensures { λ q. ⌜ shownName q (now (offset .exit)) (now (length .exit)) ≡ nameShown (attributeName (now (file .entry)) number) (now (offset .entry)) (now (length .entry)) ⌝ }
+{
+    show_name(descriptors::attribute_name(file, number), offset, length)
+}
+
+// A field of the AEDR of the first entry of a number, by attribute, kind, entry number and the field's offset in the record.
+#[no_mangle]
+pub extern "C" fn tlz_read_entry_field(
+    file: &[u8],
+    attribute: i64,
+    kind: i64,
+    entry: i64,
+    at: u64,
+    field: &mut i32,
+) -> i32
+    ensures { λ q. ⌜ shownField q (now (field .exit)) ≡ fieldShown (entryField (now (file .entry)) attribute kind (Number entry) at) (now (field .entry)) ⌝ }
+{
+    show_field(
+        descriptors::entry_field(file, attribute, kind, Wanted::Number(entry), at),
+        field,
+    )
+}
+
+// The same for the entry at a place of its list, from 0: so entries of equal numbers can be told apart, and all be listed.
+#[no_mangle]
+pub extern "C" fn tlz_read_entry_at(
+    file: &[u8],
+    attribute: i64,
+    kind: i64,
+    place: u64,
+    at: u64,
+    field: &mut i32,
+) -> i32
+    ensures { λ q. ⌜ shownField q (now (field .exit)) ≡ fieldShown (entryField (now (file .entry)) attribute kind (Place place) at) (now (field .entry)) ⌝ }
+{
+    show_field(
+        descriptors::entry_field(file, attribute, kind, Wanted::Place(place), at),
+        field,
+    )
+}

@@ -1,0 +1,19 @@
+-- Kinds as they are asked for. Assumes nothing.
+use mathlib.Core.Path.{_≡_, sym, _∙_}
+use mathlib.Core.Bool.{true, false}
+use mathlib.Core.List.{List}
+use Prim.Native.Nat.{ℕ}
+use borrow.Author.Tests.{eq-eqb, ne-eqb}
+use lib.IntN.{ℤ, pos}
+use mir.Syntax.{w64}
+use mir.Val.{SFits, ofZ}
+use Rattle.format.specs.Fields.{eqZ}
+use Rattle.format.proofs.SignedTests.{equal-is}
+
+-- a number asked for is n, or is not
+module _ (x : ℤ) (n : ℕ) (f : SFits w64 x) (g : SFits w64 (pos n)) where
+  pub is-kind : ofZ w64 x ≡ ofZ w64 (pos n) → eqZ x (pos n) ≡ true
+  is-kind e = sym (equal-is w64 x (pos n) f g) ∙ eq-eqb _ _ e
+
+  pub no-kind : (ofZ w64 x ≡ ofZ w64 (pos n) → ⊥) → eqZ x (pos n) ≡ false
+  no-kind e = sym (equal-is w64 x (pos n) f g) ∙ ne-eqb _ _ e

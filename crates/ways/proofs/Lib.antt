@@ -1,0 +1,9 @@
+pub mod Asked
+pub mod Opening
+pub mod Links
+pub mod Found
+pub mod Looking
+pub mod Scans
+pub mod Offsets
+pub mod Seeks
+pub mod Dimensions
