@@ -2,7 +2,8 @@
 use crate::runs;
 use crate::runs::Run;
 
-fn verdict(v: i32) {
+// A number that came back, or none for -1.
+pub fn verdict(v: i32) {
     if v < 0 {
         io::write_all(1, b"none");
     } else {

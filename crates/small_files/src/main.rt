@@ -1,6 +1,7 @@
-// The small files A to I, checked in one grant of steps and in grants of one step.
+// The small files: A to I checked in one grant of steps and in grants of one step; what is read of J to M.
 mod line;
 mod parts;
+mod reads;
 mod runs;
 mod store;
 
@@ -37,6 +38,41 @@ fn variable(name: &[u8], vvr: u32, length: u32) {
     line::shown(name, &f, length, 5);
 }
 
+// H with two bytes at 546, in an encoding: what is read of a record.
+fn decoded(name: &[u8], encoding: u32, high: u8, low: u8, rec: i64) {
+    let mut f = [0u8; 550];
+    parts::start(&mut f, encoding, 3);
+    parts::gdr(&mut f, 550, 372, 1, 0);
+    parts::variable(&mut f, 14);
+    store::put_byte(&mut f, 546, high);
+    store::put_byte(&mut f, 547, low);
+    let none = [0i64; 0];
+    reads::shown(name, &f, rec, &none);
+}
+
+// Sizes 2, 3, both varying, by the flags' majority: index (1, 0).
+fn both_vary(name: &[u8], flags: u32) {
+    let mut f = [0u8; 566];
+    parts::start(&mut f, 6, flags);
+    parts::gdr(&mut f, 566, 372, 1, 0);
+    let sizes = [2, 3];
+    let variances = [0xffff_ffff, 0xffff_ffff];
+    parts::plane(&mut f, &sizes, &variances, 14);
+    let index = [1i64, 0];
+    reads::shown(name, &f, 0, &index);
+}
+
+// Sizes 3, 5, of which only the first varies: index (2, 4).
+fn one_varies(name: &[u8]) {
+    let mut f = [0u8; 563];
+    parts::opening(&mut f, 563, 372, 1, 0);
+    let sizes = [3, 5];
+    let variances = [0xffff_ffff, 0];
+    parts::plane(&mut f, &sizes, &variances, 11);
+    let index = [2i64, 4];
+    reads::shown(name, &f, 0, &index);
+}
+
 fn main() {
     without_lists(b"A", 372, 2);
     without_lists(b"B", 0, 0);
@@ -47,4 +83,10 @@ fn main() {
     listed(b"G", 372);
     variable(b"H", 14, 550);
     variable(b"I", 15, 551);
+    decoded(b"J", 6, 0xff, 0xfe, 1);
+    decoded(b"J, encoding 1", 1, 0xff, 0xfe, 1);
+    decoded(b"K", 6, 0, 0, 3);
+    both_vary(b"L, row majority", 3);
+    both_vary(b"L, column majority", 2);
+    one_varies(b"M");
 }

@@ -1,12 +1,16 @@
 // The records that the small files are made of.
 use crate::store;
 
-// Magics, CDR at 8 and GDR at 312; eof is the length.
-pub fn opening(f: &mut [u8], length: u32, z_head: u32, z_vars: u32, unused: u32) {
+// Magics and the CDR at 8, of an encoding and flags.
+pub fn start(f: &mut [u8], encoding: u32, flags: u32) {
     let magics = [0xcdf2_6002, 0x0000_ffff];
     store::put_all(f, 0, &magics);
-    let cdr = [304, 1, 312, 2, 0, 6, 3];
+    let cdr = [304, 1, 312, 2, 0, encoding, flags];
     store::put_all(f, 8, &cdr);
+}
+
+// The GDR at 312; eof is the length.
+pub fn gdr(f: &mut [u8], length: u32, z_head: u32, z_vars: u32, unused: u32) {
     let gdr = [
         60,
         2,
@@ -24,6 +28,12 @@ pub fn opening(f: &mut [u8], length: u32, z_head: u32, z_vars: u32, unused: u32)
     store::put_all(f, 312, &gdr);
 }
 
+// The base file: encoding 6, flags 3.
+pub fn opening(f: &mut [u8], length: u32, z_head: u32, z_vars: u32, unused: u32) {
+    start(f, 6, 3);
+    gdr(f, length, z_head, z_vars, unused);
+}
+
 // A zVDR at 372 of type 2 and MaxRec 2, its VXR at 504 of one used entry 0..2, its VVR at 536 of a size.
 pub fn variable(f: &mut [u8], vvr: u32) {
     let vdr = [132, 8, 0, 2, 2, 504, 504, 1, 0, 0, 0, 0, 1];
@@ -32,4 +42,29 @@ pub fn variable(f: &mut [u8], vvr: u32) {
     store::put_all(f, 504, &vxr);
     let record = [vvr, 7];
     store::put_all(f, 536, &record);
+}
+
+// A zVDR at 372 of type 1 with two dimensions and one record, its VXR at 520, its VVR at 552 of a size; the value at each place
+// is that place.
+pub fn plane(f: &mut [u8], sizes: &[u32], variances: &[u32], vvr: u32) {
+    let vdr = [148, 8, 0, 1, 0, 520, 520, 1, 0, 0, 0, 0, 1];
+    store::put_all(f, 372, &vdr);
+    let count = [2];
+    store::put_all(f, 500, &count);
+    store::put_all(f, 504, sizes);
+    store::put_all(f, 512, variances);
+    let vxr = [32, 6, 0, 1, 1, 0, 0, 552];
+    store::put_all(f, 520, &vxr);
+    let record = [vvr, 7];
+    store::put_all(f, 552, &record);
+    places(f);
+}
+
+// Values 0 to 5 from 560 on, as many as the file has.
+fn places(f: &mut [u8]) {
+    store::put_byte(f, 561, 1);
+    store::put_byte(f, 562, 2);
+    store::put_byte(f, 563, 3);
+    store::put_byte(f, 564, 4);
+    store::put_byte(f, 565, 5);
 }

@@ -13,3 +13,10 @@ pub fn put_all(f: &mut [u8], at: usize, fields: &[u32]) {
         i += 1;
     }
 }
+
+// Stores a byte, where there is one.
+pub fn put_byte(f: &mut [u8], at: usize, x: u8) {
+    if at < f.len() {
+        f[at] = x;
+    }
+}

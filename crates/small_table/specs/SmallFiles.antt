@@ -1,12 +1,12 @@
 -- The small files of document 01 and their plain runs, in one table. Assumes nothing.
 use mathlib.Core.Path.{_≡_, refl}
-use mathlib.Core.Bool.{Bool, true, _&&_}
+use mathlib.Core.Bool.{Bool, true, false, _&&_}
 use mathlib.Core.List.{List, [], _∷_, _++_}
 use Prim.Native.Nat.{ℕ, _+_, _/_, _%_}
 use lib.ListN.{length, getD, take, replicate}
 use lib.Dec.{eqb}
-use lib.IntN.{ℤ, pos}
-use Rattle.format.specs.Bytes.{bigAt}
+use lib.IntN.{ℤ, pos, negsuc}
+use Rattle.format.specs.Bytes.{bigAt, littleAt}
 use Rattle.format.specs.Fields.{endOf, fieldAt, eqZ, isAt, atLeast, atMost, inOrder, sameAt, eachWithin, natAt, afterAt, linkAt, bitAt}
 use Rattle.format.specs.Types.{typeOf}
 use Rattle.format.specs.Encodings.{encodingOf}
@@ -18,6 +18,16 @@ use Rattle.records.specs.Index.{vxrRight, vxrRule, rangeRight, entryOf, vvrRule
 use Rattle.records.specs.Unused.{uirRule}
 use Rattle.variables.specs.Limit.{capped}
 use Rattle.variables.specs.Vdr.{carriedOf, vdrFields, countPlace, countRight, layoutAt, layoutOf, valueBytes, padBytes, sizeExact, dimensionsRight, factorOf, spread, recordBytes, dimensioned, variableOf}
+use Rattle.variables.specs.Place.{placeAfter, elementPlace, indicesRight, rowFits, placed, placeOf}
+use Rattle.values.specs.Values.{rawAt, valueOf, bitsOf, isVax, isNothing, decodedOf}
+use Rattle.values.specs.declared.value.Value.{Value}
+use Rattle.values.specs.declared.value.Value.the-variants.{Signed, Unsigned, Single, Double, Code}
+use Rattle.values.specs.declared.value.Answer.{Answer}
+use Rattle.ways.specs.Lists.{opened, allowance, landsOn, vdrKept, ruleKept, meets, lastLink, sought, placeWay, variableWay}
+use Rattle.ways.specs.Indexes.{recordThere, recordRead, lookedUp, scanned, indexMet, lastIndex, indexed, valuesMet, recordWay}
+use Rattle.answers.specs.declared.Read.{Read}
+use Rattle.answers.specs.declared.Read.the-variants.{Value as Given, Refused}
+use Rattle.answers.specs.Answers.{elementThere, elementRead, inRecord, inVariable, valueRead}
 use Rattle.walk.specs.Walk.{typeNumber, followed, gdrThere, varsTally, varNumber, chainTally, attrNumber, entriesTally, entryNumber, unusedNumber, turnOf}
 use Rattle.marks.specs.Marks.{cleared, marked, startAt, unclaimedAt, followedAt, leftFrom, leftOf}
 use Rattle.checker.specs.Step.{Run, answerOf, openNumber, linkNumber, turned, stepBy, runOf, plainRun}
@@ -32,20 +42,32 @@ wordsOf (x ∷ xs) = x / 16777216 ∷ x / 65536 % 256 ∷ x / 256 % 256 ∷ x % 
 abbrev pub minusOne : ℕ
 minusOne = 4294967295
 
--- "Base file: magics, CDR at 8 (encoding 6, flags 3, GDR at 312), GDR at 312, no lists, rMaxRec -1", and what follows: a length, the
--- head and count of its zVariables, the head of its unused records, and the records after the GDR. "In every file here eof is the length"
-unfoldable pub fileOf : ℕ → ℕ → ℕ → ℕ → List ℕ → List ℕ
-fileOf len zHead zVars uHead rest =
-    wordsOf (0xCDF26002 ∷ 0x0000FFFF ∷ 304 ∷ 1 ∷ 312 ∷ 2 ∷ 0 ∷ 6 ∷ 3 ∷ [])
+-- "Base file: magics, CDR at 8 (encoding 6, flags 3, GDR at 312), GDR at 312, no lists, rMaxRec -1", and what follows: an encoding and
+-- flags, a length, the head and count of its zVariables, the head of its unused records, and the records after the GDR. "In every file
+-- here eof is the length"
+unfoldable pub fileBy : ℕ → ℕ → ℕ → ℕ → ℕ → ℕ → List ℕ → List ℕ
+fileBy encoding flags len zHead zVars uHead rest =
+    wordsOf (0xCDF26002 ∷ 0x0000FFFF ∷ 304 ∷ 1 ∷ 312 ∷ 2 ∷ 0 ∷ encoding ∷ flags ∷ [])
     ++ (replicate 276 0
     ++ (wordsOf (60 ∷ 2 ∷ 0 ∷ zHead ∷ 0 ∷ len ∷ 0 ∷ 0 ∷ minusOne ∷ 0 ∷ zVars ∷ uHead ∷ 0 ∷ 0 ∷ 0 ∷ []) ++ rest))
 
+unfoldable pub fileOf : ℕ → ℕ → ℕ → ℕ → List ℕ → List ℕ
+fileOf len zHead zVars uHead rest = fileBy 6 3 len zHead zVars uHead rest
+
 -- "one zVariable, type 2, one element, no dimensions, no pad, record variance set, MaxRec 2, VDR at 372, VXR of one used entry 0..2
--- at 504, VVR .. at 536", of a size, its values n bytes 0
-unfoldable pub variable : ℕ → ℕ → List ℕ
-variable size n =
+-- at 504, VVR .. at 536", of a size and with values
+unfoldable pub variable : ℕ → List ℕ → List ℕ
+variable size values =
     wordsOf (132 ∷ 8 ∷ 0 ∷ 2 ∷ 2 ∷ 504 ∷ 504 ∷ 1 ∷ 0 ∷ 0 ∷ 0 ∷ 0 ∷ 1 ∷ 0 ∷ 0 ∷ 0 ∷ [])
-    ++ (replicate 64 0 ++ (wordsOf (0 ∷ 32 ∷ 6 ∷ 0 ∷ 1 ∷ 1 ∷ 0 ∷ 2 ∷ 536 ∷ size ∷ 7 ∷ []) ++ replicate n 0))
+    ++ (replicate 64 0 ++ (wordsOf (0 ∷ 32 ∷ 6 ∷ 0 ∷ 1 ∷ 1 ∷ 0 ∷ 2 ∷ 536 ∷ size ∷ 7 ∷ []) ++ values))
+
+-- a zVariable of type 1 with two dimensions, of sizes a and b and variances v and w, and one record: VDR at 372, VXR at 520, VVR at 552;
+-- the value at each place is that place
+unfoldable pub plane : ℕ → ℕ → ℕ → ℕ → List ℕ → List ℕ
+plane a b v w values =
+    wordsOf (148 ∷ 8 ∷ 0 ∷ 1 ∷ 0 ∷ 520 ∷ 520 ∷ 1 ∷ 0 ∷ 0 ∷ 0 ∷ 0 ∷ 1 ∷ 0 ∷ 0 ∷ 0 ∷ [])
+    ++ (replicate 64 0
+    ++ (wordsOf (2 ∷ a ∷ b ∷ v ∷ w ∷ 32 ∷ 6 ∷ 0 ∷ 1 ∷ 1 ∷ 0 ∷ 0 ∷ 552 ∷ (8 + length values) ∷ 7 ∷ []) ++ values))
 
 unfoldable pub fileA : List ℕ
 fileA = fileOf 372 0 0 0 []
@@ -54,7 +76,7 @@ unfoldable pub fileB : List ℕ
 fileB = []
 
 unfoldable pub fileC : List ℕ
-fileC = take 371 fileA
+fileC = take 371 (fileOf 371 0 0 0 [])
 
 -- "an unlisted 8-byte unused record"
 unfoldable pub fileD : List ℕ
@@ -73,11 +95,23 @@ unfoldable pub fileG : List ℕ
 fileG = fileOf 388 0 0 372 (wordsOf (16 ∷ minusOne ∷ 372 ∷ 0 ∷ []))
 
 unfoldable pub fileH : List ℕ
-fileH = fileOf 550 372 1 0 (variable 14 6)
+fileH = fileOf 550 372 1 0 (variable 14 (replicate 6 0))
 
 -- "H with a VVR of 15 bytes"
 unfoldable pub fileI : List ℕ
-fileI = fileOf 551 372 1 0 (variable 15 7)
+fileI = fileOf 551 372 1 0 (variable 15 (replicate 7 0))
+
+-- "in H, bytes FF FE at 546", in an encoding
+unfoldable pub fileJ : ℕ → List ℕ
+fileJ encoding = fileBy encoding 3 550 372 1 0 (variable 14 (0 ∷ 0 ∷ 255 ∷ 254 ∷ 0 ∷ 0 ∷ []))
+
+-- "sizes 2,3 both varying", by row with flags 3, by column with flags 2
+unfoldable pub fileL : ℕ → List ℕ
+fileL flags = fileBy 6 flags 566 372 1 0 (plane 2 3 minusOne minusOne (0 ∷ 1 ∷ 2 ∷ 3 ∷ 4 ∷ 5 ∷ []))
+
+-- "sizes 3,5, variances true, false"
+unfoldable pub fileM : List ℕ
+fileM = fileBy 6 3 563 372 1 0 (plane 3 5 minusOne 0 (0 ∷ 1 ∷ 2 ∷ []))
 
 -- ---- rows
 -- the marks at some places
@@ -92,11 +126,31 @@ ends v n ps r = eqZ (answerOf (r .at .state .stage)) v && eqb (r .made) n && mar
 unfoldable pub checks : List ℕ → ℤ → ℕ → List (ℕ × ℕ) → Bool
 checks f v n ps = ends v n ps (plainRun f (replicate (length f) 7) (length f / 4 + 1))
 
+-- an answer is a signed value that was read at an offset, or a refusal
+unfoldable pub isSigned : ℤ → Value → Bool
+isSigned x (Signed y) = eqZ y x
+isSigned x (Unsigned n) = false
+isSigned x (Single z) = false
+isSigned x (Double z) = false
+isSigned x (Code n) = false
+
+unfoldable pub gives : ℤ → ℕ → Read → Bool
+gives x at (Given a) = isSigned x (a .value) && eqb (a .offset) at
+gives x at (Refused n) = false
+
+unfoldable pub refuses : ℕ → Read → Bool
+refuses n (Given a) = false
+refuses n (Refused m) = eqb m n
+
+-- the first element of a value of the first zVariable
+unfoldable pub reads : List ℕ → ℕ → List ℤ → Read
+reads f rec is = valueRead f (pos 8) (pos 0) (pos rec) is (pos 0)
+
 unfoldable pub allOf : List Bool → Bool
 allOf [] = true
 allOf (b ∷ bs) = b && allOf bs
 
--- a row for each file, with the marks at its record starts
+-- a row for each file, with the marks at its record starts; then what is read of J (both encodings), K, L (by row and by column) and M
 unfoldable pub rows : List Bool
 rows =
     checks fileA (pos 0) 8 ((0, 7) ∷ (8, 1) ∷ (312, 2) ∷ [])
@@ -108,6 +162,12 @@ rows =
     ∷ checks fileG (pos 9) 10 ((8, 1) ∷ (312, 2) ∷ (372, 2) ∷ [])
     ∷ checks fileH (pos 0) 15 ((8, 1) ∷ (312, 2) ∷ (372, 2) ∷ (504, 2) ∷ (536, 2) ∷ [])
     ∷ checks fileI (pos 10) 11 ((8, 1) ∷ (312, 2) ∷ (372, 2) ∷ (504, 2) ∷ (536, 1) ∷ [])
+    ∷ gives (negsuc 256) 546 (reads (fileJ 6) 1 [])
+    ∷ gives (negsuc 1) 546 (reads (fileJ 1) 1 [])
+    ∷ refuses 16 (reads fileH 3 [])
+    ∷ gives (pos 3) 563 (reads (fileL 3) 0 (pos 1 ∷ pos 0 ∷ []))
+    ∷ gives (pos 1) 561 (reads (fileL 2) 0 (pos 1 ∷ pos 0 ∷ []))
+    ∷ gives (pos 2) 562 (reads fileM 0 (pos 2 ∷ pos 4 ∷ []))
     ∷ []
 
 -- THE TABLE
@@ -118,6 +178,10 @@ unfolding bigAt endOf fieldAt isAt atLeast atMost inOrder sameAt eachWithin natA
     entryOf vvrRule uirRule capped carriedOf vdrFields countPlace countRight layoutAt layoutOf valueBytes padBytes
     sizeExact dimensionsRight factorOf spread recordBytes dimensioned variableOf typeNumber followed gdrThere varsTally
     varNumber chainTally attrNumber entriesTally entryNumber unusedNumber turnOf cleared marked startAt unclaimedAt
-    followedAt leftFrom leftOf openNumber linkNumber turned stepBy runOf wordsOf fileOf variable fileA fileB fileC
-    fileD fileE fileF fileG fileH fileI marksAre ends checks allOf rows
+    followedAt leftFrom leftOf openNumber linkNumber turned stepBy runOf littleAt placeAfter elementPlace indicesRight
+    rowFits placed placeOf rawAt valueOf bitsOf isVax isNothing decodedOf opened allowance landsOn vdrKept ruleKept meets
+    lastLink sought placeWay variableWay recordThere recordRead lookedUp scanned indexMet lastIndex indexed valuesMet
+    recordWay elementThere elementRead inRecord inVariable valueRead wordsOf fileBy fileOf variable plane fileA fileB
+    fileC fileD fileE fileF fileG fileH fileI fileJ fileL fileM marksAre ends checks isSigned gives refuses reads allOf
+    rows
 small-files = refl

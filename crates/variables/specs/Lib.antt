@@ -1,4 +1,3 @@
 pub mod Limit
 pub mod Vdr
 pub mod Place
-pub mod Examples
