@@ -92,7 +92,7 @@ module _ (f : List ℕ) (n : NestedAccepted f) where
 
   -- ---- the entry found
   module _ (b k : ℤ) (w : Wanted) (e left : ℕ) (way : entryWay f b k w ≡ Found e left) where
-    found : ToEntry f b k w e
+    pub found : ToEntry f b k w e
     found = subst (Finds (ToEntry f b k w)) way (entry-found f b k w)
 
     pub owner-there : attributeThere f b k ≡ true
@@ -100,7 +100,7 @@ module _ (f : List ℕ) (n : NestedAccepted f) where
         let a = subst (EntryOn f n b k w) way (entry-on f n b k w) in
         attribute-is-there f n b k (a .1 .adr) (a .1 .left) (a .0) (found .attribute .least) (a .1 .attribute)
 
-    owner-met : Met f 4 (headPlace f 4) (natOr 0 b) (found .adr)
+    pub owner-met : Met f 4 (headPlace f 4) (natOr 0 b) (found .adr)
     owner-met = list-met f 4 (headPlace f 4) (natOr 0 b) (found .adr) (found .attribute .is) (found .attribute .met)
 
     entry-met : Met f (kindAmong 5 9 k) (found .adr + entriesPlace (kindAmong 5 9 k)) (found .entry .place) e
@@ -135,8 +135,9 @@ module _ (f : List ℕ) (n : NestedAccepted f) where
         (λ v left at e h g w. let a = ranged k j v left e r at h in inr (there k j v left e, v, met k j v left e, inr (inr (inr (refl, a .0, a .1, g, w))))));
     entry = λ b k j x.
         told (EntryShown f b k j x) (EntryRefused f b k j x) (entryRead f b k j x)
-        (entry-tells f b k j x (EntryRefused f b k j x)
+        (entry-tells f b k j x (EntryShown f b k j x) (EntryRefused f b k j x)
         (λ m e. entry-why b k j x m (subst (EntryOn f n b k (Number j)) e (entry-on f n b k (Number j))))
+        (λ e left q a w h g. w)
         (λ e left q h.
         inr (
           owner-there b k (Number j) e left q,
@@ -153,8 +154,9 @@ module _ (f : List ℕ) (n : NestedAccepted f) where
         )));
     pad = λ k j x.
         told (PadShown f k j x) (PadRefused f k j x) (padRead f k j x)
-        (pad-tells f k j x (PadRefused f k j x)
+        (pad-tells f k j x (PadShown f k j x) (PadRefused f k j x)
         (λ m e. let a = subst (VariableOn f n k j) e (variable-on f n k j) in inl (a .0, variable-not-there f n k j (a .1)))
+        (λ v left e a w h g. w)
         (λ v left e h. inr (there k j v left e, v, met k j v left e, inl (refl, h)))
         (λ v left e h g. inr (there k j v left e, v, met k j v left e, inr (refl, h, g))));
   }

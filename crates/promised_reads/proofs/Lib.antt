@@ -8,3 +8,4 @@ pub mod Demand2Values
 pub mod Never20
 pub mod CoveredOnce
 pub mod Fifteen
+pub mod Exact

@@ -34,7 +34,7 @@ use Rattle.ways.specs.declared.indexes.Values.the-variants.{Record, Refused as 
 use Rattle.answers.specs.Answers.{encodingAt, rowMajority, elementThere, elementRead, atPlace, inRecord, inValues, inVariable, valueOn, valueRead, entryOn, entryRead, padIn, padOn, padRead}
 use Rattle.answers.specs.declared.Read.the-variants.{Refused}
 use Rattle.demands.specs.Acceptance.{Slot, firstOf, lastOf, namedBy}
-use Rattle.promised_reads.specs.Reading.{nthRecord, Met, CoveredBy, ValueShown, EntryShown, PadShown, ValuesShown, vaxFloat}
+use Rattle.promised_reads.specs.Reading.{nthRecord, Met, CoveredBy, ValueShown, EntryShown, PadShown, ValuesShown, padRight, vaxFloat}
 use Rattle.variables.proofs.Capped.{capped-small}
 use Rattle.variables.proofs.Bound.{place-below}
 use Rattle.variables.proofs.Right.{right, fields-right, variable-is, place-is}
@@ -45,7 +45,7 @@ use Rattle.demands.proofs.Nested.{entryIs, entry-is, entry-reads}
 use Rattle.ways.proofs.Kept.{both, Lies, lands-lies, meets-parts, variable-kept, entry-kept}
 use Rattle.ways.proofs.Sought.{nth, first-met, listed-met, Finds, ToVariable, variable-found, ToEntry, entry-found}
 use Rattle.ways.proofs.Chains.{ToRecord, Leads, record-found}
-use Rattle.answers.proofs.Telling.{Tells, element-below, element-tells}
+use Rattle.answers.proofs.Telling.{Tells, given-plain, element-below, element-tells}
 
 pub nth-same : (f : List ℕ) (p n : ℕ) → nth f p n ≡ nthRecord f p n
 nth-same f p zero = refl
@@ -269,17 +269,18 @@ aedr-parts f e h =
       eqb-true (sizeAt f e) (48 + natAt f (e + 24) * elementSize f (e + 16)) (p .1),
     )
 
-module _ (f : List ℕ) (b k n x : ℤ) (N : ℕ → Type 0) where
+module _ (f : List ℕ) (b k n x : ℤ) (Fact : Answer → Type 0) (N : ℕ → Type 0) where
   in-entry : (e : ℕ) → ToEntry f b k (Number n) e
+      → ((a : Answer) → EntryShown f b k n x a → elementThere f (e + 24) x ≡ true → vaxFloat f (e + 16) ≡ false → Fact a)
       → (elementThere f (e + 24) x ≡ false → N 18) → (elementThere f (e + 24) x ≡ true → vaxFloat f (e + 16) ≡ true → N 19)
-      → Tells (EntryShown f b k n x) N (elementRead f (e + 48) (e + 16) (e + 24) x)
+      → Tells Fact N (elementRead f (e + 48) (e + 16) (e + 24) x)
   unfolding aedrRule
-  in-entry e t eighteen nineteen =
-      element-tells f (e + 48) (e + 16) (e + 24) x (EntryShown f b k n x) N eighteen nineteen (parts .0) (ordered f (t .opens))
+  in-entry e t fact eighteen nineteen =
+      element-tells f (e + 48) (e + 16) (e + 24) x Fact N eighteen nineteen (parts .0) (ordered f (t .opens))
       (λ h. let i = inside h in omega (arith, i, met .0 .inside))
       (λ a h i d.
       let j = inside h in
-      record {
+      fact a (record {
         kind = t .kind;
         number = t .attribute .least;
         adr = t .adr;
@@ -294,7 +295,7 @@ module _ (f : List ℕ) (b k n x : ℤ) (N : ℕ → Type 0) where
         offset = i;
         inside = record { begins = omega (arith, i); ends = omega (arith, i, j) };
         decoded = d;
-      })
+      }) h (given-plain f (a .offset) (natAt f (e + 16)) (encodingAt f) a d))
     where
       met : Lies f (kindAmong 5 9 k) e × (aedrRule f e ≡ 0)
       met = let m = meets-parts f (kindAmong 5 9 k) e (first-met f (kindAmong 5 9 k) (Number n) (t .adr + entriesPlace (kindAmong 5 9 k)) 0 e (t .entry)) in (m .0, entry-kept f e (eqZ k (pos 5)) (m .1))
@@ -308,14 +309,16 @@ module _ (f : List ℕ) (b k n x : ℤ) (N : ℕ → Type 0) where
           omega (arith, a, parts .1, suc-mul (natOr 0 x) (elementSize f (e + 16)))
 
   pub entry-tells : ((m : ℕ) → entryWay f b k (Number n) ≡ Stopped m → N m)
+      → ((e left : ℕ) → entryWay f b k (Number n) ≡ Found e left → (a : Answer) → EntryShown f b k n x a
+      → elementThere f (e + 24) x ≡ true → vaxFloat f (e + 16) ≡ false → Fact a)
       → ((e left : ℕ) → entryWay f b k (Number n) ≡ Found e left → elementThere f (e + 24) x ≡ false → N 18)
       → ((e left : ℕ) → entryWay f b k (Number n) ≡ Found e left → elementThere f (e + 24) x ≡ true → vaxFloat f (e + 16) ≡ true → N 19)
-      → Tells (EntryShown f b k n x) N (entryRead f b k n x)
+      → Tells Fact N (entryRead f b k n x)
   unfolding entryRead
-  entry-tells stopped eighteen nineteen = go (entryWay f b k (Number n)) refl (entry-found f b k (Number n))
+  entry-tells stopped fact eighteen nineteen = go (entryWay f b k (Number n)) refl (entry-found f b k (Number n))
     where
-      go : (w : Way) → entryWay f b k (Number n) ≡ w → Finds (ToEntry f b k (Number n)) w → Tells (EntryShown f b k n x) N (entryOn f x w)
-      go (Found e left) q t = in-entry e t (eighteen e left q) (nineteen e left q)
+      go : (w : Way) → entryWay f b k (Number n) ≡ w → Finds (ToEntry f b k (Number n)) w → Tells Fact N (entryOn f x w)
+      go (Found e left) q t = in-entry e t (fact e left q) (eighteen e left q) (nineteen e left q)
       go (Stopped m) q t = stopped m q
 
 -- ---- A PAD VALUE
@@ -331,12 +334,13 @@ pad-behind f k o = go (eqb k 8) refl
     go true e = omega (arith, z-layout f k o e .2)
     go false e = omega (arith, r-layout f k o e .2)
 
-module _ (f : List ℕ) (k n x : ℤ) (N : ℕ → Type 0) where
-  in-pad : (v : ℕ) → ToVariable f k n v → ((bitAt f (v + 28) 2 && elementThere f (v + 48) x) ≡ false → N 18)
-      → ((bitAt f (v + 28) 2 && elementThere f (v + 48) x) ≡ true → vaxFloat f (v + 12) ≡ true → N 19)
-      → Tells (PadShown f k n x) N (padIn f v (variableOf f (kindAmong 3 8 k) v) x)
+module _ (f : List ℕ) (k n x : ℤ) (Fact : Answer → Type 0) (N : ℕ → Type 0) where
+  in-pad : (v : ℕ) → ToVariable f k n v → ((a : Answer) → PadShown f k n x a → padRight f v x ≡ true → vaxFloat f (v + 12) ≡ false → Fact a)
+      → (padRight f v x ≡ false → N 18)
+      → (padRight f v x ≡ true → vaxFloat f (v + 12) ≡ true → N 19)
+      → Tells Fact N (padIn f v (variableOf f (kindAmong 3 8 k) v) x)
   unfolding padIn
-  in-pad v t eighteen nineteen = rw (variable-is f (kindAmong 3 8 k) v fault) (go (bitAt f (v + 28) 2) refl)
+  in-pad v t fact eighteen nineteen = rw (variable-is f (kindAmong 3 8 k) v fault) (go (bitAt f (v + 28) 2) refl)
     where
       met : Lies f (kindAmong 3 8 k) v
       met = meets-parts f (kindAmong 3 8 k) v (listed-met f (kindAmong 3 8 k) n v (t .listed)) .0
@@ -354,14 +358,14 @@ module _ (f : List ℕ) (k n x : ℤ) (N : ℕ → Type 0) where
       ends e = omega (arith, exact-size f (kindAmong 3 8 k) v (right f (kindAmong 3 8 k) v fault .exact), pad-is f v e)
 
       go : (c : Bool) → bitAt f (v + 28) 2 ≡ c
-          → Tells (PadShown f k n x) N
+          → Tells Fact N
           (cond c (elementRead f (layoutOf f (kindAmong 3 8 k) v .variances + 4 * layoutOf f (kindAmong 3 8 k) v .count) (v + 12) (v + 48) x) (Refused 18))
       go true e =
-          element-tells f (layoutOf f (kindAmong 3 8 k) v .variances + 4 * layoutOf f (kindAmong 3 8 k) v .count) (v + 12) (v + 48) x (PadShown f k n x) N
+          element-tells f (layoutOf f (kindAmong 3 8 k) v .variances + 4 * layoutOf f (kindAmong 3 8 k) v .count) (v + 12) (v + 48) x Fact N
           (λ h. eighteen (rw (e, h))) (λ h. nineteen (rw (e, h)))
           (vdr-sized f v (fields-right f (kindAmong 3 8 k) v fault)) (ordered f (t .opens))
           (λ h. omega (arith, inside h, ends e, met .inside))
-          (λ a h i d. record {
+          (λ a h i d. fact a (record {
             kind = t .kind;
             number = t .listed .least;
             vdr = v;
@@ -371,18 +375,19 @@ module _ (f : List ℕ) (k n x : ℤ) (N : ℕ → Type 0) where
             offset = omega (arith, i, ends e);
             inside = record { begins = omega (arith, i, pad-behind f (kindAmong 3 8 k) v); ends = omega (arith, i, ends e, inside h) };
             decoded = d;
-          })
+          }) (rw (e, h)) (given-plain f (a .offset) (natAt f (v + 12)) (encodingAt f) a d))
       go false e = eighteen (rw e)
 
   pub pad-tells : ((m : ℕ) → variableWay f k n ≡ Stopped m → N m)
-      → ((v left : ℕ) → variableWay f k n ≡ Found v left → (bitAt f (v + 28) 2 && elementThere f (v + 48) x) ≡ false → N 18)
-      → ((v left : ℕ) → variableWay f k n ≡ Found v left → (bitAt f (v + 28) 2 && elementThere f (v + 48) x) ≡ true → vaxFloat f (v + 12) ≡ true → N 19)
-      → Tells (PadShown f k n x) N (padRead f k n x)
+      → ((v left : ℕ) → variableWay f k n ≡ Found v left → (a : Answer) → PadShown f k n x a → padRight f v x ≡ true → vaxFloat f (v + 12) ≡ false → Fact a)
+      → ((v left : ℕ) → variableWay f k n ≡ Found v left → padRight f v x ≡ false → N 18)
+      → ((v left : ℕ) → variableWay f k n ≡ Found v left → padRight f v x ≡ true → vaxFloat f (v + 12) ≡ true → N 19)
+      → Tells Fact N (padRead f k n x)
   unfolding padRead
-  pad-tells stopped eighteen nineteen = go (variableWay f k n) refl (variable-found f k n)
+  pad-tells stopped fact eighteen nineteen = go (variableWay f k n) refl (variable-found f k n)
     where
-      go : (w : Way) → variableWay f k n ≡ w → Finds (ToVariable f k n) w → Tells (PadShown f k n x) N (padOn f (kindAmong 3 8 k) x w)
-      go (Found v left) q t = in-pad v t (eighteen v left q) (nineteen v left q)
+      go : (w : Way) → variableWay f k n ≡ w → Finds (ToVariable f k n) w → Tells Fact N (padOn f (kindAmong 3 8 k) x w)
+      go (Found v left) q t = in-pad v t (fact v left q) (eighteen v left q) (nineteen v left q)
       go (Stopped m) q t = stopped m q
 
 -- THE THEOREM
@@ -390,6 +395,6 @@ pub values-shown : ValuesShown
 values-shown f = record {
   value = λ k n r is x a e.
       subst (Tells (ValueShown f k n r is x) (λ m. Unit {0})) e (value-tells f k n r is x (λ m. Unit {0}) (λ m q. tt) (λ v left m q h. tt) (λ v left at q h g. tt) (λ v left at q h g w. tt));
-  entry = λ b k n x a e. subst (Tells (EntryShown f b k n x) (λ m. Unit {0})) e (entry-tells f b k n x (λ m. Unit {0}) (λ m q. tt) (λ e left q h. tt) (λ e left q h g. tt));
-  pad = λ k n x a e. subst (Tells (PadShown f k n x) (λ m. Unit {0})) e (pad-tells f k n x (λ m. Unit {0}) (λ m q. tt) (λ v left q h. tt) (λ v left q h g. tt));
+  entry = λ b k n x a e. subst (Tells (EntryShown f b k n x) (λ m. Unit {0})) e (entry-tells f b k n x (EntryShown f b k n x) (λ m. Unit {0}) (λ m q. tt) (λ e left q a w h v. w) (λ e left q h. tt) (λ e left q h g. tt));
+  pad = λ k n x a e. subst (Tells (PadShown f k n x) (λ m. Unit {0})) e (pad-tells f k n x (PadShown f k n x) (λ m. Unit {0}) (λ m q. tt) (λ v left q a w h g. w) (λ v left q h. tt) (λ v left q h g. tt));
 }

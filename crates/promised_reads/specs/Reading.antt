@@ -23,9 +23,10 @@ use Rattle.variables.specs.Place.{elementPlace, placed}
 use Rattle.checker.specs.declared.state.Stage.the-variants.{Done}
 use Rattle.demands.specs.Acceptance.{_∈_, Each, Linked, Slot, usedEntries, firstOf, lastOf, namedBy, IndexRight}
 use Rattle.demands.specs.Demands.{endStage}
-use Rattle.ways.specs.Lists.{meets, headPlace, entriesPlace, ofKinds, kindAmong, variableWay}
+use Rattle.ways.specs.Lists.{meets, headPlace, entriesPlace, ofKinds, kindAmong, variableWay, entryWay}
 use Rattle.ways.specs.Indexes.{recordVaries, recordThere, recordRead, indexMet}
 use Rattle.ways.specs.declared.lists.Wanted.{Wanted}
+use Rattle.ways.specs.declared.lists.Wanted.the-variants.{Number}
 use Rattle.ways.specs.declared.lists.Way.the-variants.{Found}
 use Rattle.answers.specs.Answers.{numberOf, encodingAt, rowMajority, elementThere, valueRead, entryRead, padRead}
 use Rattle.answers.specs.declared.Read.{Read}
@@ -171,6 +172,10 @@ attributeThere f b k = ofKinds 5 9 k && placeThere f (gdrAt f + 28) b
 abbrev pub vaxFloat : List ℕ → ℕ → Bool
 vaxFloat f t = isVax (typeOf (natAt f t) .kind) (encodingOf (encodingAt f) .float)
 
+-- a pad value, and an element of it that is there
+abbrev pub padRight : List ℕ → ℕ → ℤ → Bool
+padRight f v x = bitAt f (v + 28) 2 && elementThere f (v + 48) x
+
 -- as many indices as dimensions, each right, and an element that is there
 abbrev pub questionRight : List ℕ → ℕ → ℕ → List ℤ → ℤ → Bool
 questionRight f t v is x = placed f (layoutOf f t v) is && elementThere f (v + 48) x
@@ -211,6 +216,32 @@ pub record NoSuch (f : List ℕ) : Type 0 where
 
 abbrev pub Fifteen : Type 0
 Fifteen = (f : List ℕ) → PlainAccepts f → NoSuch f
+
+-- the entries of type t of the ADR at a are those listed, and none has the number n
+pub record NoEntry (f : List ℕ) (a t : ℕ) (n : ℤ) : Type 0 where
+  pub entries : List ℕ
+  pub linked : Linked f (λ e. e) (a + entriesPlace t) entries
+  pub none : Each entries (λ earlier e. isAt f (e + 20) n ≡ false)
+
+-- 16 of an entry: "no such .. entry number"
+abbrev pub NoEntryNumber : Type 0
+NoEntryNumber = (f : List ℕ) → PlainAccepts f → (b k n x : ℤ)
+    → (numberOf (entryRead f b k n x) ≡ 16)
+    ↔ ((attributeThere f b k ≡ true) × (a : ℕ) × Met f 4 (headPlace f 4) (natOr 0 b) a × NoEntry f a (kindAmong 5 9 k) n)
+
+-- of every file: 18 and 19 of an entry that was found at e, and of the pad value of a VDR that was found at v
+pub record ElementsExact (f : List ℕ) : Type 0 where
+  pub entryWrong : (b k n x : ℤ) (e left : ℕ) → entryWay f b k (Number n) ≡ Found e left
+      → (numberOf (entryRead f b k n x) ≡ 18) ↔ (elementThere f (e + 24) x ≡ false)
+  pub entryFloat : (b k n x : ℤ) (e left : ℕ) → entryWay f b k (Number n) ≡ Found e left
+      → (numberOf (entryRead f b k n x) ≡ 19) ↔ ((elementThere f (e + 24) x && vaxFloat f (e + 16)) ≡ true)
+  -- "pad value as elements (18 if there is none)"
+  pub padWrong : (k n x : ℤ) (v left : ℕ) → variableWay f k n ≡ Found v left → (numberOf (padRead f k n x) ≡ 18) ↔ (padRight f v x ≡ false)
+  pub padFloat : (k n x : ℤ) (v left : ℕ) → variableWay f k n ≡ Found v left
+      → (numberOf (padRead f k n x) ≡ 19) ↔ ((padRight f v x && vaxFloat f (v + 12)) ≡ true)
+
+abbrev pub ElementsRefused : Type 0
+ElementsRefused = (f : List ℕ) → ElementsExact f
 
 -- the record numbers that are there, and which record is read: with record variance set those from 0 to MaxRec, each itself; with it
 -- clear all from 0, if MaxRec is not -1, and record 0
@@ -264,15 +295,9 @@ PadRefused f k n x m =
     ((m ≡ 15) × (variableThere f k n ≡ false))
     ⊎ ((variableThere f k n ≡ true) × (v : ℕ) × Met f (kindAmong 3 8 k) (headPlace f (kindAmong 3 8 k)) (natOr 0 n) v
     -- "pad value as elements (18 if there is none)"; 18: "element out of range"
-    × (((m ≡ 18) × ((bitAt f (v + 28) 2 && elementThere f (v + 48) x) ≡ false))
+    × (((m ≡ 18) × (padRight f v x ≡ false))
     -- 19: "float in encoding 3, 14 or 15"
-    ⊎ ((m ≡ 19) × ((bitAt f (v + 28) 2 && elementThere f (v + 48) x) ≡ true) × (vaxFloat f (v + 12) ≡ true))))
-
--- the entries of type t of the ADR at a are those listed, and none has the number n
-pub record NoEntry (f : List ℕ) (a t : ℕ) (n : ℤ) : Type 0 where
-  pub entries : List ℕ
-  pub linked : Linked f (λ e. e) (a + entriesPlace t) entries
-  pub none : Each entries (λ earlier e. isAt f (e + 20) n ≡ false)
+    ⊎ ((m ≡ 19) × (padRight f v x ≡ true) × (vaxFloat f (v + 12) ≡ true))))
 
 abbrev pub EntryRefused : List ℕ → ℤ → ℤ → ℤ → ℤ → ℕ → Type 0
 EntryRefused f b k n x m =
