@@ -9,7 +9,7 @@ use lib.Dec.{eqb}
 use lib.IntN.{ℤ, pos}
 use Rattle.format.specs.Fields.{eqZ, isAt, linkAt, natAt, natOr}
 use Rattle.values.specs.declared.value.Answer.{Answer}
-use Rattle.ways.specs.Lists.{meets, overOf, lastLink, sought, headPlace, kindAmong, entriesPlace, entriesOf, placeWay, variableWay, entryWay}
+use Rattle.ways.specs.Lists.{opened, ofKinds, meets, overOf, lastLink, sought, headPlace, kindAmong, entriesPlace, entriesOf, placeWay, variableWay, entryWay}
 use Rattle.ways.specs.declared.lists.Wanted.the-variants.{Number}
 use Rattle.ways.specs.declared.lists.Way.{Way}
 use Rattle.ways.specs.declared.lists.Way.the-variants.{Found, Stopped}
@@ -20,11 +20,11 @@ use Rattle.demands.specs.Acceptance.{Each, Linked}
 use Rattle.promised_reads.specs.Reading.{Met, EntryShown, PadShown, attributeThere, vaxFloat, padRight, NoEntry, NoEntryNumber, ElementsExact, ElementsRefused, EntryRefused, GivenOrRefused}
 use Rattle.demands.proofs.NestedDemand.{NestedAccepted}
 use Rattle.ways.proofs.Kept.{both}
-use Rattle.ways.proofs.Sought.{Finds, ToVariable, variable-found, ToEntry, entry-found}
+use Rattle.ways.proofs.Sought.{Finds, Listed, place-listed}
 use Rattle.answers.proofs.Telling.{Tells, given-plain}
 use Rattle.promised_reads.proofs.Shown.{nth-same, entry-tells, pad-tells}
 use Rattle.promised_reads.proofs.Accepted.{EntryOn, entry-on, attribute-not-there}
-use Rattle.promised_reads.proofs.Demand2Values.{nested, owner-met, reads-right}
+use Rattle.promised_reads.proofs.Demand2Values.{nested, reads-right}
 
 -- ---- of three numbers one comes back, by two tests: 18 if the first fails, 19 if both hold, else 0
 abbrev Judged : Bool → Bool → ℕ → Type 0
@@ -113,3 +113,55 @@ elements-refused f = record {
   padWrong = λ k n x v left way. judged-wrong (padRight f v x) (vaxFloat f (v + 12)) (numberOf (padRead f k n x)) (pad-judged f k n x v left way);
   padFloat = λ k n x v left way. judged-float (padRight f v x) (vaxFloat f (v + 12)) (numberOf (padRead f k n x)) (pad-judged f k n x v left way);
 }
+
+-- ---- 16 of an entry
+entry-stopped : (f : List ℕ) (b k n x : ℤ) (m : ℕ) → entryWay f b k (Number n) ≡ Stopped m → entryRead f b k n x ≡ Refused m
+unfolding entryRead
+entry-stopped f b k n x m e = rw e
+
+module _ (f : List ℕ) (b k n : ℤ) (a : ℕ) (met : Met f 4 (headPlace f 4) (natOr 0 b) a) (none : NoEntry f a (kindAmong 5 9 k) n) where
+  none-found : Finds (λ o. ⊥) (entryWay f b k (Number n))
+  unfolding entryWay
+  none-found = go (opened f) (ofKinds 5 9 k) (placeWay f 4 b) (place-listed f 4 b)
+    where
+      go : (c d : Bool) (s : Way) → Finds (Listed f 4 b) s
+          → Finds (λ o. ⊥) (cond c (cond d (entriesOf f (kindAmong 5 9 k) (Number n) s) (Stopped 15)) (Stopped 20))
+      go false d s l = tt
+      go true false s l = tt
+      go true true (Stopped m) l = tt
+      go true true (Found o left) l =
+          let q : a ≡ o = sym (met .place) ∙ sym (nth-same f (headPlace f 4) (natOr 0 b)) ∙ l .is in
+          none-sought f (kindAmong 5 9 k) n (none .entries) left (o + entriesPlace (kindAmong 5 9 k)) 0
+          (subst (λ (o : ℕ). Linked f (λ e. e) (o + entriesPlace (kindAmong 5 9 k)) (none .entries)) q (none .linked)) (none .none)
+
+module _ (f : List ℕ) (c : NestedAccepted f) (b k n x : ℤ) where
+  abbrev Lacks : Type 0
+  Lacks = (attributeThere f b k ≡ true) × (a : ℕ) × Met f 4 (headPlace f 4) (natOr 0 b) a × NoEntry f a (kindAmong 5 9 k) n
+
+  sixteen-lacks : (m : ℕ) → m ≡ 16 → EntryRefused f b k n x m → Lacks
+  sixteen-lacks m q (inl a) = absurd (omega (arith, q, a .0))
+  sixteen-lacks m q (inr (t, a, met, inl e)) = (t, a, met, e .1)
+  sixteen-lacks m q (inr (t, a, met, inr (o, p, w, v, inl d))) = absurd (omega (arith, q, d .0))
+  sixteen-lacks m q (inr (t, a, met, inr (o, p, w, v, inr d))) = absurd (omega (arith, q, d .0))
+
+  lacks-sixteen : Lacks → numberOf (entryRead f b k n x) ≡ 16
+  lacks-sixteen l = go (entryWay f b k (Number n)) refl (none-found f b k n (l .1) (l .2) (l .3)) (entry-on f c b k (Number n))
+    where
+      stopped : (m : ℕ) → EntryOn f c b k (Number n) (Stopped m) → m ≡ 16
+      stopped m (inl a) = absurd (true≢false (sym (l .0) ∙ attribute-not-there f c b k (a .1)))
+      stopped m (inr a) = a .0
+
+      go : (w : Way) → entryWay f b k (Number n) ≡ w → Finds (λ o. ⊥) w → EntryOn f c b k (Number n) w → numberOf (entryRead f b k n x) ≡ 16
+      go (Found e left) q h a = absurd h
+      go (Stopped m) q h a = ap numberOf (entry-stopped f b k n x m q) ∙ stopped m a
+
+  sixteen : (numberOf (entryRead f b k n x) ≡ 16) ↔ Lacks
+  sixteen = (go (entryRead f b k n x) (reads-right f c .entry b k n x), lacks-sixteen)
+    where
+      go : (s : Read) → GivenOrRefused (EntryShown f b k n x) (EntryRefused f b k n x) s → numberOf s ≡ 16 → Lacks
+      go (Value a) t q = absurd (omega arith)
+      go (Refused m) t q = sixteen-lacks m q t
+
+-- THE THEOREM of an accepted file
+pub no-entry-number : NoEntryNumber
+no-entry-number f p b k n x = sixteen f (nested f p) b k n x
