@@ -17,15 +17,18 @@ use Rattle.values.specs.declared.value.Answer.{Answer}
 use Rattle.values.specs.declared.value.Decoded.{Decoded}
 use Rattle.values.specs.declared.value.Decoded.the-variants.{Given, Vax, Nothing}
 use Rattle.values.proofs.Places.{lies}
+use Rattle.ways.specs.Lists.{variableWay, entryWay}
+use Rattle.ways.specs.declared.lists.Wanted.the-variants.{Number}
+use Rattle.ways.specs.declared.lists.Way.the-variants.{Stopped}
 use Rattle.ways.proofs.Kept.{both}
-use Rattle.answers.specs.Answers.{answered, encodingAt, elementThere, elementRead}
+use Rattle.answers.specs.Answers.{answered, encodingAt, elementThere, elementRead, valueRead, entryRead, padRead}
 use Rattle.answers.specs.declared.Read.{Read}
 use Rattle.answers.specs.declared.Read.the-variants.{Value, Refused}
 
 -- a fact of the answer, or of the number of the refusal
 abbrev pub Tells : (Answer → Type 0) → (ℕ → Type 0) → Read → Type 0
-Tells Fact Number (Value a) = Fact a
-Tells Fact Number (Refused v) = Number v
+Tells Fact Meaning (Value a) = Fact a
+Tells Fact Meaning (Refused v) = Meaning v
 
 -- ---- an element that is decoded
 abbrev pub DecodedAt : List ℕ → ℕ → ℕ → ℕ → Decoded → Type 0
@@ -74,9 +77,9 @@ unfolding elementThere natAt
 element-below f p x e = below x (fieldAt f p) e
 
 -- ---- ELEMENT x of the values at an offset that all lie in the file: a value; 18 if it is not there; 19 for a VAX float
-module _ (f : List ℕ) (at t c : ℕ) (x : ℤ) (Fact : Answer → Type 0) (Number : ℕ → Type 0)
-    (eighteen : elementThere f c x ≡ false → Number 18)
-    (nineteen : elementThere f c x ≡ true → isVax (typeOf (natAt f t) .kind) (encodingOf (encodingAt f) .float) ≡ true → Number 19)
+module _ (f : List ℕ) (at t c : ℕ) (x : ℤ) (Fact : Answer → Type 0) (Meaning : ℕ → Type 0)
+    (eighteen : elementThere f c x ≡ false → Meaning 18)
+    (nineteen : elementThere f c x ≡ true → isVax (typeOf (natAt f t) .kind) (encodingOf (encodingAt f) .float) ≡ true → Meaning 19)
     (sized : 1 ≤ elementSize f t) (ordered : 1 ≤ encodingOf (encodingAt f) .order)
     (within : elementThere f c x ≡ true → at + natOr 0 x * elementSize f t + elementSize f t ≤ endOf f)
     (fact : (a : Answer) → elementThere f c x ≡ true → a .offset ≡ at + natOr 0 x * elementSize f t
@@ -86,17 +89,30 @@ module _ (f : List ℕ) (at t c : ℕ) (x : ℤ) (Fact : Answer → Type 0) (Num
     place = at + natOr 0 x * elementSize f t
 
     decoded-tells : elementThere f c x ≡ true → (d : Decoded) → decodedOf f place (natAt f t) (encodingAt f) ≡ d
-        → DecodedAt f place (natAt f t) (encodingAt f) d → Tells Fact Number (answered d)
+        → DecodedAt f place (natAt f t) (encodingAt f) d → Tells Fact Meaning (answered d)
     unfolding elementSize
     decoded-tells h (Given a) e i = fact a h i (ap (λ (p : ℕ). decodedOf f p (natAt f t) (encodingAt f)) i ∙ e)
     decoded-tells h Vax e i = nineteen h i
     decoded-tells h Nothing e i =
         absurd (true≢false (sym i ∙ lies f place (typeOf (natAt f t) .size) (encodingOf (encodingAt f) .order) refl (λ z. omega arith) (λ z. omega arith) (within h)))
 
-    pub element-tells : Tells Fact Number (elementRead f at t c x)
+    pub element-tells : Tells Fact Meaning (elementRead f at t c x)
     unfolding elementRead
     element-tells = go (elementThere f c x) refl
       where
-        go : (b : Bool) → elementThere f c x ≡ b → Tells Fact Number (cond b (answered (decodedOf f place (natAt f t) (encodingAt f))) (Refused 18))
+        go : (b : Bool) → elementThere f c x ≡ b → Tells Fact Meaning (cond b (answered (decodedOf f place (natAt f t) (encodingAt f))) (Refused 18))
         go true h = decoded-tells h (decodedOf f place (natAt f t) (encodingAt f)) refl (decoded-at f place (natAt f t) (encodingAt f))
         go false h = eighteen h
+
+-- ---- a way that stops: its number comes back
+pub value-stopped : (f : List ℕ) (k n r : ℤ) (is : List ℤ) (x : ℤ) (m : ℕ) → variableWay f k n ≡ Stopped m → valueRead f k n r is x ≡ Refused m
+unfolding valueRead
+value-stopped f k n r is x m e = rw e
+
+pub entry-stopped : (f : List ℕ) (a k n x : ℤ) (m : ℕ) → entryWay f a k (Number n) ≡ Stopped m → entryRead f a k n x ≡ Refused m
+unfolding entryRead
+entry-stopped f a k n x m e = rw e
+
+pub pad-stopped : (f : List ℕ) (k n x : ℤ) (m : ℕ) → variableWay f k n ≡ Stopped m → padRead f k n x ≡ Refused m
+unfolding padRead
+pad-stopped f k n x m e = rw e

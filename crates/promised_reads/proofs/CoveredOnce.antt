@@ -12,7 +12,7 @@ use Rattle.variables.specs.Place.{placed}
 use Rattle.values.specs.declared.value.Answer.{Answer}
 use Rattle.ways.specs.Lists.{kindAmong, variableWay}
 use Rattle.ways.specs.Indexes.{recordThere, recordRead, recordWay}
-use Rattle.ways.specs.declared.lists.Way.the-variants.{Found, Stopped}
+use Rattle.ways.specs.declared.lists.Way.the-variants.{Found}
 use Rattle.ways.specs.declared.indexes.Values.{Values}
 use Rattle.ways.specs.declared.indexes.Values.the-variants.{Record, Refused as NoRecord}
 use Rattle.answers.specs.Answers.{numberOf, encodingAt, elementThere, inValues, inVariable, valueRead}
@@ -23,13 +23,11 @@ use Rattle.promised_reads.specs.Reading.{CoveredBy, questionRight, Value
 use Rattle.demands.proofs.NestedDemand.{NestedAccepted}
 use Rattle.demands.proofs.IndexFacts.{index-reads}
 use Rattle.ways.proofs.Kept.{both}
+use Rattle.ways.proofs.Sought.{found-not-stopped, found-same}
 use Rattle.answers.proofs.Telling.{Tells, given-plain}
 use Rattle.promised_reads.proofs.Shown.{value-tells}
 use Rattle.promised_reads.proofs.Indexes.{NoneCovers, rows, RecordOn, covered-once}
 use Rattle.promised_reads.proofs.Demand2Values.{nested, vdr, way-on, met}
-
-found-not-stopped : (v left m : ℕ) → Found v left ≡ Stopped m → ⊥
-found-not-stopped v left m e = let z : _≡_ {A = ℕ} 0 1 = cc in absurd (omega arith)
 
 given-not-refused : (m : ℕ) (a : Answer) → Refused m ≡ Value a → ⊥
 given-not-refused m a e = let z : _≡_ {A = ℕ} 0 1 = cc in absurd (omega arith)
@@ -104,7 +102,7 @@ module _ (f : List ℕ) (n : NestedAccepted f) (k j : ℤ) (v left : ℕ) (way :
         read (Refused m) e t = t
 
         same-way : (u rest : ℕ) → variableWay f k j ≡ Found u rest → (u ≡ v) × (rest ≡ left)
-        same-way u rest h = let q : Found u rest ≡ Found v left = sym h ∙ way in (cc, cc)
+        same-way u rest h = found-same v u left rest (sym h ∙ way)
 
         stopped : {u rest : ℕ} → u ≡ v → rest ≡ left → (m : ℕ) → recordWay f u (variableOf f (kindAmong 3 8 k) u .bytes) r rest ≡ NoRecord m → Due r is x m
         stopped a b m g = halted m (subst (On r) (rw (a, b) at g) (way-on f n k j v left way r))

@@ -2,26 +2,25 @@
 use mathlib.Core.Path.{_≡_, refl, sym, ap, _∙_, subst}
 use mathlib.Core.Logic.{_↔_, _⊎_, inl, inr}
 use mathlib.Core.Bool.{Bool, true, false, cond, _&&_, true≢false}
-use mathlib.Core.List.{List, [], _∷_, _++_}
+use mathlib.Core.List.{List, [], _∷_}
 use Prim.Native.Nat.{ℕ, zero, suc, _+_}
 use native.Mathlib.Omega.{arith}
 use lib.Dec.{eqb}
-use lib.IntN.{ℤ, pos}
-use Rattle.format.specs.Fields.{eqZ, isAt, linkAt, natAt, natOr}
-use Rattle.values.specs.declared.value.Answer.{Answer}
+use lib.IntN.{ℤ}
+use Rattle.format.specs.Fields.{isAt, linkAt, natOr}
 use Rattle.ways.specs.Lists.{opened, ofKinds, meets, overOf, lastLink, sought, headPlace, kindAmong, entriesPlace, entriesOf, placeWay, variableWay, entryWay}
 use Rattle.ways.specs.declared.lists.Wanted.the-variants.{Number}
 use Rattle.ways.specs.declared.lists.Way.{Way}
 use Rattle.ways.specs.declared.lists.Way.the-variants.{Found, Stopped}
-use Rattle.answers.specs.Answers.{numberOf, encodingAt, elementThere, entryRead, padRead}
+use Rattle.answers.specs.Answers.{numberOf, elementThere, entryRead, padRead}
 use Rattle.answers.specs.declared.Read.{Read}
 use Rattle.answers.specs.declared.Read.the-variants.{Value, Refused}
 use Rattle.demands.specs.Acceptance.{Each, Linked}
-use Rattle.promised_reads.specs.Reading.{Met, EntryShown, PadShown, attributeThere, vaxFloat, padRight, NoEntry, NoEntryNumber, ElementsExact, ElementsRefused, EntryRefused, GivenOrRefused}
+use Rattle.promised_reads.specs.Reading.{Met, EntryShown, attributeThere, vaxFloat, padRight, NoEntry, NoEntryNumber, ElementsRefused, EntryRefused, GivenOrRefused}
 use Rattle.demands.proofs.NestedDemand.{NestedAccepted}
 use Rattle.ways.proofs.Kept.{both}
-use Rattle.ways.proofs.Sought.{Finds, Listed, place-listed}
-use Rattle.answers.proofs.Telling.{Tells, given-plain}
+use Rattle.ways.proofs.Sought.{Finds, found-not-stopped, found-same, Listed, place-listed}
+use Rattle.answers.proofs.Telling.{Tells, entry-stopped}
 use Rattle.promised_reads.proofs.Shown.{nth-same, entry-tells, pad-tells}
 use Rattle.promised_reads.proofs.Accepted.{EntryOn, entry-on, attribute-not-there}
 use Rattle.promised_reads.proofs.Demand2Values.{nested, reads-right}
@@ -42,12 +41,6 @@ judged-float right vax m (inl a) = (λ q. absurd (omega (arith, q, a .0)), λ h.
 judged-float right vax m (inr (inl a)) = (λ q. rw (a .1, a .2), λ h. a .0)
 judged-float right vax m (inr (inr a)) = (λ q. absurd (omega (arith, q, a .0)), λ h. absurd (true≢false (sym (both right vax h .1) ∙ a .2)))
 
-found-not-stopped : (o left m : ℕ) → Found o left ≡ Stopped m → ⊥
-found-not-stopped o left m e = let z : _≡_ {A = ℕ} 0 1 = cc in absurd (omega arith)
-
-found-same : (o u left rest : ℕ) → Found u rest ≡ Found o left → u ≡ o
-found-same o u left rest e = cc
-
 module _ (f : List ℕ) where
   -- the number that comes back, where the answer says so
   numbered : (right vax : Bool) (s : Read) → Tells (λ a. Judged right vax 0) (Judged right vax) s → Judged right vax (numberOf s)
@@ -62,11 +55,11 @@ module _ (f : List ℕ) where
       (entry-tells f b k n x (λ a. Judged (elementThere f (e + 24) x) (vaxFloat f (e + 16)) 0) (Judged (elementThere f (e + 24) x) (vaxFloat f (e + 16)))
       (λ m h. absurd (found-not-stopped e left m (sym way ∙ h)))
       (λ u rest h a w i v.
-      let q = found-same e u left rest (sym h ∙ way) in
+      let q = found-same e u left rest (sym h ∙ way) .0 in
       inr (inr (refl, subst (λ (o : ℕ). elementThere f (o + 24) x ≡ true) q i, subst (λ (o : ℕ). vaxFloat f (o + 16) ≡ false) q v)))
-      (λ u rest h i. inl (refl, subst (λ (o : ℕ). elementThere f (o + 24) x ≡ false) (found-same e u left rest (sym h ∙ way)) i))
+      (λ u rest h i. inl (refl, subst (λ (o : ℕ). elementThere f (o + 24) x ≡ false) (found-same e u left rest (sym h ∙ way) .0) i))
       (λ u rest h i v.
-      let q = found-same e u left rest (sym h ∙ way) in
+      let q = found-same e u left rest (sym h ∙ way) .0 in
       inr (inl (refl, subst (λ (o : ℕ). elementThere f (o + 24) x ≡ true) q i, subst (λ (o : ℕ). vaxFloat f (o + 16) ≡ true) q v))))
 
   -- ---- the pad value of a VDR that was found
@@ -76,11 +69,11 @@ module _ (f : List ℕ) where
       (pad-tells f k n x (λ a. Judged (padRight f v x) (vaxFloat f (v + 12)) 0) (Judged (padRight f v x) (vaxFloat f (v + 12)))
       (λ m h. absurd (found-not-stopped v left m (sym way ∙ h)))
       (λ u rest h a w i g.
-      let q = found-same v u left rest (sym h ∙ way) in
+      let q = found-same v u left rest (sym h ∙ way) .0 in
       inr (inr (refl, subst (λ (o : ℕ). padRight f o x ≡ true) q i, subst (λ (o : ℕ). vaxFloat f (o + 12) ≡ false) q g)))
-      (λ u rest h i. inl (refl, subst (λ (o : ℕ). padRight f o x ≡ false) (found-same v u left rest (sym h ∙ way)) i))
+      (λ u rest h i. inl (refl, subst (λ (o : ℕ). padRight f o x ≡ false) (found-same v u left rest (sym h ∙ way) .0) i))
       (λ u rest h i g.
-      let q = found-same v u left rest (sym h ∙ way) in
+      let q = found-same v u left rest (sym h ∙ way) .0 in
       inr (inl (refl, subst (λ (o : ℕ). padRight f o x ≡ true) q i, subst (λ (o : ℕ). vaxFloat f (o + 12) ≡ true) q g))))
 
   -- ---- a list none of whose entries has the number n
@@ -115,10 +108,6 @@ elements-refused f = record {
 }
 
 -- ---- 16 of an entry
-entry-stopped : (f : List ℕ) (b k n x : ℤ) (m : ℕ) → entryWay f b k (Number n) ≡ Stopped m → entryRead f b k n x ≡ Refused m
-unfolding entryRead
-entry-stopped f b k n x m e = rw e
-
 module _ (f : List ℕ) (b k n : ℤ) (a : ℕ) (met : Met f 4 (headPlace f 4) (natOr 0 b) a) (none : NoEntry f a (kindAmong 5 9 k) n) where
   none-found : Finds (λ o. ⊥) (entryWay f b k (Number n))
   unfolding entryWay

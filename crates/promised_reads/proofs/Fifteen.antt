@@ -17,20 +17,9 @@ use Rattle.answers.specs.declared.Read.the-variants.{Value, Refused}
 use Rattle.promised_reads.specs.Reading.{NoSuch, Fifteen, ValueShown, EntryShown, PadShown, variableThere, attributeThere, ValueRefused, PadRefused, EntryRefused, GivenOrRefused}
 use Rattle.demands.proofs.NestedDemand.{NestedAccepted}
 use Rattle.ways.proofs.Sought.{Finds, Listed, place-listed}
+use Rattle.answers.proofs.Telling.{value-stopped, entry-stopped, pad-stopped}
 use Rattle.promised_reads.proofs.Accepted.{attribute-is-there, EntryOn, entry-on}
 use Rattle.promised_reads.proofs.Demand2Values.{nested, variable-stops, there, owner-there, reads-right}
-
-value-stopped : (f : List ℕ) (k j r : ℤ) (is : List ℤ) (x : ℤ) (m : ℕ) → variableWay f k j ≡ Stopped m → valueRead f k j r is x ≡ Refused m
-unfolding valueRead
-value-stopped f k j r is x m e = rw e
-
-pad-stopped : (f : List ℕ) (k j x : ℤ) (m : ℕ) → variableWay f k j ≡ Stopped m → padRead f k j x ≡ Refused m
-unfolding padRead
-pad-stopped f k j x m e = rw e
-
-entry-stopped : (f : List ℕ) (b k j x : ℤ) (m : ℕ) → entryWay f b k (Number j) ≡ Stopped m → entryRead f b k j x ≡ Refused m
-unfolding entryRead
-entry-stopped f b k j x m e = rw e
 
 -- the number of a refusal whose meaning is a fact where it is 15
 fifteen : (Shown : Answer → Type 0) (Why : ℕ → Type 0) (Fact : Type 0) → ((m : ℕ) → m ≡ 15 → Why m → Fact) → (s : Read) → GivenOrRefused Shown Why s
