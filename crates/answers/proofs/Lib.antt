@@ -2,3 +2,4 @@ pub mod Elements
 pub mod Places
 pub mod Fitting
 pub mod Asked
+pub mod Telling

@@ -56,7 +56,7 @@ in-slots x i (suc n) s (inl e) = let a : s .vxr ≡ x = ap (λ (s : Slot). s .vx
 in-slots x i (suc n) s (inr m) = let r = in-slots x (i + 1) n s m in (r .0, omega (arith, r .1))
 
 module _ (f : List ℕ) where
-  in-used : (xs : List ℕ) (s : Slot) → s ∈ usedEntries f xs → (s .vxr ∈ xs) × (s .entry < usedAt f (s .vxr))
+  pub in-used : (xs : List ℕ) (s : Slot) → s ∈ usedEntries f xs → (s .vxr ∈ xs) × (s .entry < usedAt f (s .vxr))
   in-used [] s m = absurd m
   in-used (x ∷ xs) s m = go (in-either (slotsOf f x) (usedEntries f xs) s m) (in-used xs s)
     where
@@ -65,12 +65,12 @@ module _ (f : List ℕ) where
       go (inl j) ih = let r = in-slots x 0 (usedAt f x) s j in (inl (r .0), rw (r .0) (omega (arith, r .1)))
       go (inr j) ih = let r = ih j in (inr (r .0), r .1)
 
-  named-in : (ss : List Slot) (s : Slot) → s ∈ ss → namedBy f s ∈ namedByAll f ss
+  pub named-in : (ss : List Slot) (s : Slot) → s ∈ ss → namedBy f s ∈ namedByAll f ss
   named-in [] s m = absurd m
   named-in (t ∷ ss) s (inl e) = inl (ap (namedBy f) e)
   named-in (t ∷ ss) s (inr m) = inr (named-in ss s m)
 
-  used-named : (xs : List ℕ) (s : Slot) → s ∈ usedEntries f xs → namedBy f s ∈ indexOffsets f xs
+  pub used-named : (xs : List ℕ) (s : Slot) → s ∈ usedEntries f xs → namedBy f s ∈ indexOffsets f xs
   used-named [] s m = absurd m
   used-named (x ∷ xs) s m = inr (go (in-either (slotsOf f x) (usedEntries f xs) s m) (used-named xs s))
     where
@@ -92,7 +92,7 @@ module _ (f : List ℕ) (k v : ℕ) where
   abbrev rowOf : List ℕ → ℕ → Type 0
   rowOf bs x = RowGood f k v (chainFloor f bs) (slotsOf f x)
 
-  along-rows : (xs bs : List ℕ) → Along rowOf bs xs → RowGood f k v (chainFloor f bs) (usedEntries f xs)
+  pub along-rows : (xs bs : List ℕ) → Along rowOf bs xs → RowGood f k v (chainFloor f bs) (usedEntries f xs)
   along-rows [] bs a = tt
   along-rows (x ∷ xs) bs a = row-join (slotsOf f x) (usedEntries f xs) (chainFloor f bs) (a .0) (along-rows xs (x ∷ bs) (a .1))
 
@@ -135,13 +135,13 @@ module _ (f : List ℕ) (k v : ℕ) where
       go (inl e) = inl (rw e)
       go (inr t) = at (t .0) (t .1) (t .2)
 
-  row-each : (ss : List Slot) (l : ℕ) → RowGood f k v l ss → (s : Slot) → s ∈ ss → (floor : ℕ) × SlotGood f k v floor s
+  pub row-each : (ss : List Slot) (l : ℕ) → RowGood f k v l ss → (s : Slot) → s ∈ ss → (floor : ℕ) × SlotGood f k v floor s
   row-each [] l a s m = absurd m
   row-each (t ∷ ss) l a s (inl e) = (l, subst (SlotGood f k v l) (sym e) (a .0))
   row-each (t ∷ ss) l a s (inr m) = row-each ss (lastOf f t + 1) (a .1) s m
 
   -- ---- one entry
-  range-parts : (s : Slot) (floor : ℕ) → rangeRight f (firstAt s) (lastAt f s) floor ≡ true
+  pub range-parts : (s : Slot) (floor : ℕ) → rangeRight f (firstAt s) (lastAt f s) floor ≡ true
       → (atLeast f (firstAt s) (pos 0) ≡ true) × (floor ≤ firstOf f s) × (inOrder f (firstAt s) (lastAt f s) ≡ true)
   unfolding rangeRight
   range-parts s floor e =

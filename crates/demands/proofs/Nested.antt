@@ -196,13 +196,13 @@ module _ (f : List ℕ) (E : W.Walk → List ℕ → Type 0) where
 
 -- ---- an entry
 module _ (f : List ℕ) (s : Slot) (floor : ℕ) where
-  entry-is : s .vxr + 20 ≤ endOf f → offsetPlace (s .vxr) (entriesAt f (s .vxr)) (s .entry) + 4 ≤ endOf f
+  pub entry-is : s .vxr + 20 ≤ endOf f → offsetPlace (s .vxr) (entriesAt f (s .vxr)) (s .entry) + 4 ≤ endOf f
       → rangeRight f (firstAt s) (lastAt f s) floor ≡ true
       → entryOf f (s .vxr) (s .entry) floor ≡ entryIs f s
   unfolding entryOf
   entry-is a b c = rw (le-ltb (endOf f) (s .vxr + 20) a, le-ltb (endOf f) (offsetPlace (s .vxr) (entriesAt f (s .vxr)) (s .entry) + 4) b, c)
 
-  entry-reads : entryOf f (s .vxr) (s .entry) floor .fault ≡ 0
+  pub entry-reads : entryOf f (s .vxr) (s .entry) floor .fault ≡ 0
       → (s .vxr + 20 ≤ endOf f) × (offsetPlace (s .vxr) (entriesAt f (s .vxr)) (s .entry) + 4 ≤ endOf f) × (rangeRight f (firstAt s) (lastAt f s) floor ≡ true)
   unfolding entryOf
   entry-reads e =

@@ -1,0 +1,170 @@
+-- DEMAND 2, its second half: of an accepted file every answer is a value as it stands in the file, or a refusal with its meaning.
+-- Assumes nothing.
+use mathlib.Core.Path.{_≡_, refl, subst}
+use mathlib.Core.Logic.{_⊎_, inl, inr}
+use mathlib.Core.Bool.{true}
+use mathlib.Core.List.{List}
+use Prim.Native.Nat.{ℕ, _+_}
+use lib.IntN.{ℤ, pos}
+use Rattle.format.specs.Fields.{eqZ, natOr}
+use Rattle.variables.specs.Vdr.{variableOf}
+use Rattle.values.specs.declared.value.Answer.{Answer}
+use Rattle.ways.specs.Lists.{allowance, ofKinds, kindAmong, headPlace, entriesPlace, variableWay, attributeWay, entryWay}
+use Rattle.ways.specs.Indexes.{recordThere, recordRead, recordWay}
+use Rattle.ways.specs.declared.lists.Wanted.{Wanted}
+use Rattle.ways.specs.declared.lists.Wanted.the-variants.{Place, Number}
+use Rattle.ways.specs.declared.lists.Way.the-variants.{Found, Stopped}
+use Rattle.ways.specs.declared.indexes.Values.the-variants.{Record, Refused as NoRecord}
+use Rattle.answers.specs.Answers.{valueRead, entryRead, padRead}
+use Rattle.answers.specs.declared.Read.{Read}
+use Rattle.answers.specs.declared.Read.the-variants.{Value, Refused}
+use Rattle.demands.specs.Acceptance.{Linked}
+use Rattle.promised_reads.specs.Reading.{PlainAccepts, Met, ValueShown, EntryShown, PadShown, variableThere, attributeThere, InRange, RecordRefused, ValueRefused, PadRefused, EntryRefused, GivenOrRefused, ReadsRight, Demand2Values}
+use Rattle.demands.proofs.NestedDemand.{NestedAccepted, nested-demand}
+use Rattle.demands.proofs.Nested.{chainRules}
+use Rattle.demands.proofs.Splits.{listed-reads}
+use Rattle.ways.proofs.Sought.{Finds, Listed, place-listed, ToVariable, variable-found, ToEntry, entry-found}
+use Rattle.answers.proofs.Telling.{Tells}
+use Rattle.promised_reads.proofs.Shown.{list-met, value-tells, entry-tells, pad-tells}
+use Rattle.promised_reads.proofs.Indexes.{RecordOn, record-on}
+use Rattle.promised_reads.proofs.Ways.{VariableIn}
+use Rattle.promised_reads.proofs.Accepted.{varsOf, variable-not-there, variable-is-there, VariableOn, variable-on, AttributeOn, attribute-on, entriesIn, entries-linked, EntryLacks, attribute-not-there, attribute-is-there, EntryOn, entry-on}
+
+pub nested : (f : List ℕ) → PlainAccepts f → NestedAccepted f
+nested f p = nested-demand f (p .0) (p .1) .0 (p .2)
+
+told : (Shown : Answer → Type 0) (Why : ℕ → Type 0) (s : Read) → Tells Shown Why s → GivenOrRefused Shown Why s
+told Shown Why (Value a) t = t
+told Shown Why (Refused v) t = t
+
+module _ (f : List ℕ) (n : NestedAccepted f) where
+  -- ---- the numbers that the ways stop with
+  pub variable-stops : (k j : ℤ) (m : ℕ) → variableWay f k j ≡ Stopped m → m ≡ 15
+  variable-stops k j m e = subst (VariableOn f n k j) e (variable-on f n k j) .0
+
+  pub attribute-stops : (j : ℤ) (m : ℕ) → attributeWay f j ≡ Stopped m → m ≡ 15
+  attribute-stops j m e = subst (AttributeOn f n j) e (attribute-on f n j) .0
+
+  pub entry-stops : (j k : ℤ) (w : Wanted) (m : ℕ) → entryWay f j k w ≡ Stopped m → (m ≡ 15) ⊎ (m ≡ 16)
+  entry-stops j k w m e = go (subst (EntryOn f n j k w) e (entry-on f n j k w))
+    where
+      go : EntryOn f n j k w (Stopped m) → (m ≡ 15) ⊎ (m ≡ 16)
+      go (inl a) = inl (a .0)
+      go (inr a) = inr (a .0)
+
+  -- ---- the variable found, and the way to a record of it
+  module _ (k j : ℤ) (v left : ℕ) (way : variableWay f k j ≡ Found v left) where
+    listed : Listed f (kindAmong 3 8 k) j v
+    listed = subst (Finds (ToVariable f k j)) way (variable-found f k j) .listed
+
+    pub vdr : VariableIn f (kindAmong 3 8 k) (Place (natOr 0 j)) (allowance f) (varsOf f n (eqZ k (pos 3))) v left
+    vdr = subst (VariableOn f n k j) way (variable-on f n k j) .1
+
+    pub way-on : (r : ℤ) → RecordOn f (kindAmong 3 8 k) v (vdr .found .here .vxrs) (vdr .index) (vdr .stands) r (recordWay f v (variableOf f (kindAmong 3 8 k) v .bytes) r left)
+    way-on r = record-on f (kindAmong 3 8 k) v (vdr .found .here .vxrs) (vdr .index) (vdr .stands) r left (vdr .room)
+
+    pub there : variableThere f k j ≡ true
+    there = let a = subst (VariableOn f n k j) way (variable-on f n k j) in variable-is-there f n k j v left (a .0) (listed .least) (a .1)
+
+    pub met : Met f (kindAmong 3 8 k) (headPlace f (kindAmong 3 8 k)) (natOr 0 j) v
+    met = list-met f (kindAmong 3 8 k) (headPlace f (kindAmong 3 8 k)) (natOr 0 j) v (listed .is) (listed .met)
+
+    -- ---- why a record is refused
+    abbrev chain : List ℕ
+    chain = vdr .found .here .vxrs
+
+    linked : Linked f (λ x. x) (v + 20) (vdr .found .here .vxrs)
+    linked = listed-reads f (chainRules f (kindAmong 3 8 k) v) (v + 20) chain (vdr .index) .linked
+
+    record-why : (r : ℤ) (is : List ℤ) (x : ℤ) (m : ℕ) → recordWay f v (variableOf f (kindAmong 3 8 k) v .bytes) r left ≡ NoRecord m
+        → RecordRefused f (kindAmong 3 8 k) v r is x m
+    record-why r is x m e = go (subst (RecordOn f (kindAmong 3 8 k) v chain (vdr .index) (vdr .stands) r) e (way-on r))
+      where
+        go : RecordOn f (kindAmong 3 8 k) v chain (vdr .index) (vdr .stands) r (NoRecord m) → RecordRefused f (kindAmong 3 8 k) v r is x m
+        go (inl a) = inl a
+        go (inr a) = inr (inl (a .0, a .1, record { vxrs = chain; linked = linked; none = a .2 }))
+
+    ranged : (r : ℤ) (at : ℕ) → recordWay f v (variableOf f (kindAmong 3 8 k) v .bytes) r left ≡ Record at
+        → (recordThere f v r ≡ true) × InRange f v (recordRead f v r)
+    ranged r at e =
+        let a = subst (RecordOn f (kindAmong 3 8 k) v chain (vdr .index) (vdr .stands) r) e (way-on r) in
+        (a .0, record { vxrs = chain; linked = linked; slot = a .1; used = a .2; covers = a .3 })
+
+  -- ---- the entry found
+  module _ (b k : ℤ) (w : Wanted) (e left : ℕ) (way : entryWay f b k w ≡ Found e left) where
+    pub found : ToEntry f b k w e
+    found = subst (Finds (ToEntry f b k w)) way (entry-found f b k w)
+
+    pub owner-there : attributeThere f b k ≡ true
+    owner-there =
+        let a = subst (EntryOn f n b k w) way (entry-on f n b k w) in
+        attribute-is-there f n b k (a .1 .adr) (a .1 .left) (a .0) (found .attribute .least) (a .1 .attribute)
+
+    pub owner-met : Met f 4 (headPlace f 4) (natOr 0 b) (found .adr)
+    owner-met = list-met f 4 (headPlace f 4) (natOr 0 b) (found .adr) (found .attribute .is) (found .attribute .met)
+
+    entry-met : Met f (kindAmong 5 9 k) (found .adr + entriesPlace (kindAmong 5 9 k)) (found .entry .place) e
+    entry-met = list-met f (kindAmong 5 9 k) (found .adr + entriesPlace (kindAmong 5 9 k)) (found .entry .place) e (found .entry .is) (found .entry .met)
+
+  no-entry : (b k j x : ℤ) (m : ℕ) → m ≡ 16 → ofKinds 5 9 k ≡ true → EntryLacks f n (eqZ k (pos 5)) b (Number j) m → EntryRefused f b k j x m
+  no-entry b k j x m e h a =
+      let l = subst (Finds (Listed f 4 b)) (a .way) (place-listed f 4 b) in
+      inr (
+        attribute-is-there f n b k (a .adr) (a .left) h (l .least) (a .attribute),
+        a .adr,
+        list-met f 4 (headPlace f 4) (natOr 0 b) (a .adr) (l .is) (l .met),
+        inl (
+          e,
+          record {
+            entries = entriesIn f n (eqZ k (pos 5)) (a .attribute .found .here);
+            linked = entries-linked f n (eqZ k (pos 5)) b (a .adr) (a .left) (a .attribute);
+            none = a .entry .none;
+          },
+        ),
+      )
+
+  -- ---- THE VALUES
+  pub reads-right : ReadsRight f
+  reads-right = record {
+    value = λ k j r is x.
+        told (ValueShown f k j r is x) (ValueRefused f k j r is x) (valueRead f k j r is x)
+        (value-tells f k j r is x (ValueRefused f k j r is x)
+        (λ m e. let a = subst (VariableOn f n k j) e (variable-on f n k j) in inl (a .0, variable-not-there f n k j (a .1)))
+        (λ v left m e h. inr (there k j v left e, v, met k j v left e, record-why k j v left e r is x m h))
+        (λ v left at e h g. let a = ranged k j v left e r at h in inr (there k j v left e, v, met k j v left e, inr (inr (inl (refl, a .0, a .1, g)))))
+        (λ v left at e h g w. let a = ranged k j v left e r at h in inr (there k j v left e, v, met k j v left e, inr (inr (inr (refl, a .0, a .1, g, w))))));
+    entry = λ b k j x.
+        told (EntryShown f b k j x) (EntryRefused f b k j x) (entryRead f b k j x)
+        (entry-tells f b k j x (EntryShown f b k j x) (EntryRefused f b k j x)
+        (λ m e. entry-why b k j x m (subst (EntryOn f n b k (Number j)) e (entry-on f n b k (Number j))))
+        (λ e left q a w h g. w)
+        (λ e left q h.
+        inr (
+          owner-there b k (Number j) e left q,
+          found b k (Number j) e left q .adr,
+          owner-met b k (Number j) e left q,
+          inr (e, found b k (Number j) e left q .entry .place, entry-met b k (Number j) e left q, found b k (Number j) e left q .entry .wanted, inl (refl, h)),
+        ))
+        (λ e left q h g.
+        inr (
+          owner-there b k (Number j) e left q,
+          found b k (Number j) e left q .adr,
+          owner-met b k (Number j) e left q,
+          inr (e, found b k (Number j) e left q .entry .place, entry-met b k (Number j) e left q, found b k (Number j) e left q .entry .wanted, inr (refl, h, g)),
+        )));
+    pad = λ k j x.
+        told (PadShown f k j x) (PadRefused f k j x) (padRead f k j x)
+        (pad-tells f k j x (PadShown f k j x) (PadRefused f k j x)
+        (λ m e. let a = subst (VariableOn f n k j) e (variable-on f n k j) in inl (a .0, variable-not-there f n k j (a .1)))
+        (λ v left e a w h g. w)
+        (λ v left e h. inr (there k j v left e, v, met k j v left e, inl (refl, h)))
+        (λ v left e h g. inr (there k j v left e, v, met k j v left e, inr (refl, h, g))));
+  }
+    where
+      entry-why : (b k j x : ℤ) (m : ℕ) → EntryOn f n b k (Number j) (Stopped m) → EntryRefused f b k j x m
+      entry-why b k j x m (inl a) = inl (a .0, attribute-not-there f n b k (a .1))
+      entry-why b k j x m (inr a) = no-entry b k j x m (a .0) (a .1) (a .2)
+
+-- THE THEOREM
+pub demand-2-values : Demand2Values
+demand-2-values f p = reads-right f (nested f p)

@@ -1,0 +1,11 @@
+pub mod Shown
+pub mod Room
+pub mod Lists
+pub mod Indexes
+pub mod Ways
+pub mod Accepted
+pub mod Demand2Values
+pub mod Never20
+pub mod CoveredOnce
+pub mod Fifteen
+pub mod Exact

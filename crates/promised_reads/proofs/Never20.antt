@@ -1,0 +1,138 @@
+-- NEVER 20, on an accepted file. Assumes nothing.
+use mathlib.Core.Path.{_≡_, refl}
+use mathlib.Core.Logic.{_≢_, _⊎_, inl, inr}
+use mathlib.Core.Bool.{Bool, true, false, cond, _&&_}
+use mathlib.Core.List.{List}
+use Prim.Native.Nat.{ℕ, _+_, _*_}
+use native.Mathlib.Omega.{arith}
+use lib.Dec.{leb, eqb}
+use lib.IntN.{ℤ}
+use Rattle.format.specs.Fields.{fieldAt, natOr, bitAt}
+use Rattle.records.specs.Opening.{gdrAt, rNumDims}
+use Rattle.variables.specs.Vdr.{variableOf}
+use Rattle.variables.specs.Place.{indexRight}
+use Rattle.values.specs.declared.value.Answer.{Answer}
+use Rattle.ways.specs.Lists.{kindAmong, variableWay, attributeWay, entryWay}
+use Rattle.ways.specs.declared.lists.Wanted.{Wanted}
+use Rattle.ways.specs.declared.lists.Way.{Way}
+use Rattle.ways.specs.declared.lists.Way.the-variants.{Found, Stopped}
+use Rattle.answers.specs.Answers.{numberOf, elementThere, valueRead, entryRead, padRead}
+use Rattle.answers.specs.declared.Read.{Read}
+use Rattle.answers.specs.declared.Read.the-variants.{Value, Refused}
+use Rattle.descriptors.specs.Descriptors.{fieldNumber, nameNumber, isShown, fieldOn, variableField, attributeField, entryField, rowField, dimensionSize, sizeOn, variableSize, varianceOn, variableVariance, nameOn, variableName, attributeName, said, fileField}
+use Rattle.descriptors.specs.declared.Field.{Field}
+use Rattle.descriptors.specs.declared.Field.the-variants.{Is, Refused as NoField}
+use Rattle.promised_reads.specs.Reading.{ValueShown, EntryShown, PadShown, NeverTwenty, Never20, vaxFloat, RecordRefused, ValueRefused, PadRefused, EntryRefused, GivenOrRefused}
+use Rattle.demands.proofs.NestedDemand.{NestedAccepted}
+use Rattle.promised_reads.proofs.Accepted.{opens}
+use Rattle.promised_reads.proofs.Demand2Values.{nested, variable-stops, attribute-stops, entry-stops, reads-right}
+
+never : (Shown : Answer → Type 0) (Why : ℕ → Type 0) → ((m : ℕ) → Why m → m ≢ 20) → (s : Read) → GivenOrRefused Shown Why s → numberOf s ≢ 20
+never Shown Why h (Value a) t = λ e. omega arith
+never Shown Why h (Refused v) t = h v t
+
+-- no refusal with a meaning has the number 20
+value-why : (f : List ℕ) (k j r : ℤ) (is : List ℤ) (x : ℤ) (m : ℕ) → ValueRefused f k j r is x m → m ≢ 20
+value-why f k j r is x m (inl a) e = omega (arith, a .0)
+value-why f k j r is x m (inr a) e = go (a .3)
+  where
+    go : RecordRefused f (kindAmong 3 8 k) (a .1) r is x m → ⊥
+    go (inl b) = omega (arith, b .0)
+    go (inr (inl b)) = omega (arith, b .0)
+    go (inr (inr (inl b))) = omega (arith, b .0)
+    go (inr (inr (inr b))) = omega (arith, b .0)
+
+entry-why-not : (f : List ℕ) (b k j x : ℤ) (m : ℕ) → EntryRefused f b k j x m → m ≢ 20
+entry-why-not f b k j x m (inl a) e = omega (arith, a .0)
+entry-why-not f b k j x m (inr (a, o, t, inl c)) e = omega (arith, c .0)
+entry-why-not f b k j x m (inr (a, o, t, inr (u, p, q, w, inl c))) e = omega (arith, c .0)
+entry-why-not f b k j x m (inr (a, o, t, inr (u, p, q, w, inr c))) e = omega (arith, c .0)
+
+pad-why : (f : List ℕ) (k j x : ℤ) (m : ℕ) → PadRefused f k j x m → m ≢ 20
+pad-why f k j x m (inl a) e = omega (arith, a .0)
+pad-why f k j x m (inr a) e = go (a .3)
+  where
+    go : ((m ≡ 18) × ((bitAt f (a .1 + 28) 2 && elementThere f (a .1 + 48) x) ≡ false))
+        ⊎ ((m ≡ 19) × ((bitAt f (a .1 + 28) 2 && elementThere f (a .1 + 48) x) ≡ true) × (vaxFloat f (a .1 + 12) ≡ true))
+        → ⊥
+    go (inl b) = omega (arith, b .0)
+    go (inr b) = omega (arith, b .0)
+
+module _ (f : List ℕ) (n : NestedAccepted f) where
+  -- ---- descriptors: the number of a way, 0 or 18
+  abbrev Goes : Way → Type 0
+  Goes (Found o left) = Unit {0}
+  Goes (Stopped m) = m ≢ 20
+
+  goes : (w : Way) → ((m : ℕ) → w ≡ Stopped m → m ≢ 20) → Goes w
+  goes (Found o left) h = tt
+  goes (Stopped m) h = h m refl
+
+  variable-goes : (k j : ℤ) → Goes (variableWay f k j)
+  variable-goes k j = goes (variableWay f k j) (λ m e q. omega (arith, variable-stops f n k j m e))
+
+  attribute-goes : (j : ℤ) → Goes (attributeWay f j)
+  attribute-goes j = goes (attributeWay f j) (λ m e q. omega (arith, attribute-stops f n j m e))
+
+  entry-goes : (j k : ℤ) (w : Wanted) → Goes (entryWay f j k w)
+  entry-goes j k w = goes (entryWay f j k w) (λ m e. apart m (entry-stops f n j k w m e))
+    where
+      apart : (m : ℕ) → (m ≡ 15) ⊎ (m ≡ 16) → m ≢ 20
+      apart m (inl e) q = omega arith
+      apart m (inr e) q = omega arith
+
+  shown-or : (b : Bool) (z : ℤ) → fieldNumber (cond b (Is z) (NoField 18)) ≢ 20
+  shown-or true z = λ e. omega arith
+  shown-or false z = λ e. omega arith
+
+  row-goes : (p m : ℕ) (d : ℤ) → fieldNumber (rowField f p m d) ≢ 20
+  unfolding rowField
+  row-goes p m d = shown-or (indexRight d m) (fieldAt f (p + 4 * natOr 0 d))
+
+  field-goes : (t p : ℕ) (w : Way) → Goes w → fieldNumber (fieldOn f t p w) ≢ 20
+  field-goes t p (Found o left) h = shown-or (isShown t p) (fieldAt f (o + p))
+  field-goes t p (Stopped m) h = h
+
+  size-goes : (k : ℕ) (d : ℤ) (w : Way) → Goes w → fieldNumber (sizeOn f k d w) ≢ 20
+  size-goes k d (Found v left) h = go (eqb k 8)
+    where
+      go : (b : Bool) → fieldNumber (cond b (rowField f (variableOf f k v .dimensions .sizes) (variableOf f k v .dimensions .count) d) (NoField 18)) ≢ 20
+      go true = row-goes (variableOf f k v .dimensions .sizes) (variableOf f k v .dimensions .count) d
+      go false = λ e. omega arith
+  size-goes k d (Stopped m) h = h
+
+  variance-goes : (k : ℕ) (d : ℤ) (w : Way) → Goes w → fieldNumber (varianceOn f k d w) ≢ 20
+  variance-goes k d (Found v left) h = row-goes (variableOf f k v .dimensions .variances) (variableOf f k v .dimensions .count) d
+  variance-goes k d (Stopped m) h = h
+
+  name-goes : (p : ℕ) (w : Way) → Goes w → nameNumber (nameOn f p w) ≢ 20
+  name-goes p (Found o left) h = λ e. omega arith
+  name-goes p (Stopped m) h = h
+
+  is-or : (b : Bool) (z : ℤ) (s : Field) → fieldNumber s ≢ 20 → fieldNumber (cond b (Is z) s) ≢ 20
+  is-or true z s h e = omega arith
+  is-or false z s h e = h e
+
+  said-goes : (what : ℕ) → fieldNumber (said f what) ≢ 20
+  said-goes what = is-or (eqb what 0) _ _ (is-or (leb what 5) _ _ (λ e. omega arith))
+
+  pub never-twenty : NeverTwenty f
+  unfolding variableField attributeField entryField dimensionSize variableSize variableVariance variableName attributeName fileField
+  never-twenty = record {
+    value = λ k j r is x. never (ValueShown f k j r is x) (ValueRefused f k j r is x) (value-why f k j r is x) (valueRead f k j r is x) (reads-right f n .value k j r is x);
+    entry = λ b k j x. never (EntryShown f b k j x) (EntryRefused f b k j x) (entry-why-not f b k j x) (entryRead f b k j x) (reads-right f n .entry b k j x);
+    pad = λ k j x. never (PadShown f k j x) (PadRefused f k j x) (pad-why f k j x) (padRead f k j x) (reads-right f n .pad k j x);
+    ofVariable = λ k j p. field-goes (kindAmong 3 8 k) p (variableWay f k j) (variable-goes k j);
+    ofAttribute = λ j p. field-goes 4 p (attributeWay f j) (attribute-goes j);
+    ofEntry = λ b k w p. field-goes (kindAmong 5 9 k) p (entryWay f b k w) (entry-goes b k w);
+    ofDimension = λ d. rw (opens f n) (row-goes (gdrAt f + 60) (rNumDims f (gdrAt f)) d);
+    ofSize = λ k j d. size-goes (kindAmong 3 8 k) d (variableWay f k j) (variable-goes k j);
+    ofVariance = λ k j d. variance-goes (kindAmong 3 8 k) d (variableWay f k j) (variable-goes k j);
+    variableNamed = λ k j. name-goes 64 (variableWay f k j) (variable-goes k j);
+    attributeNamed = λ j. name-goes 52 (attributeWay f j) (attribute-goes j);
+    ofFile = λ what. rw (opens f n) (said-goes what);
+  }
+
+-- THE THEOREM
+pub never-20 : Never20
+never-20 f p = never-twenty f (nested f p)

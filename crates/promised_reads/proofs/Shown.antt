@@ -1,0 +1,400 @@
+-- THE VALUE SHOWN: of every file, accepted or not. Assumes nothing.
+use mathlib.Core.Path.{_≡_, refl, sym, ap, _∙_, subst}
+use mathlib.Core.Bool.{Bool, true, false, cond, not, _&&_, _||_}
+use mathlib.Core.List.{List}
+use Prim.Native.Nat.{ℕ, zero, suc, _+_, _-_, _*_, _≤_, _<_}
+use native.Mathlib.Nat.{mul-le-mul-right, suc-mul, mul-comm}
+use native.Mathlib.Omega.{arith}
+use lib.Dec.{ltb, leb, eqb}
+use lib.IntN.{ℤ, pos, negsuc}
+use lib.ListN.{length}
+use borrow.Author.Tests.{eqb-true, leb-true}
+use Rattle.format.specs.Bytes.{bigAt}
+use Rattle.format.specs.Fields.{eqZ, isAt, linkAt, natAt, natOr, bitAt, atLeast, atMost}
+use Rattle.format.specs.Encodings.{encodingOf}
+use Rattle.records.specs.Rules.{sizeAt, typedAt}
+use Rattle.records.specs.Opening.{tooLong, cdrRight, opening}
+use Rattle.records.specs.Attributes.{elementSize, aedrRight, aedrRule}
+use Rattle.records.specs.Index.{usedAt, entryOf, vvrRule}
+use Rattle.records.specs.declared.index.Entry.{Entry}
+use Rattle.variables.specs.Limit.{capped}
+use Rattle.variables.specs.Vdr.{layoutOf, valueBytes, padBytes, recordBytes, spread, vdrFields, variableOf}
+use Rattle.variables.specs.Place.{elementPlace, indicesRight, rowFits, placed, placeOf}
+use Rattle.variables.specs.declared.vdr.Layout.{Layout}
+use Rattle.variables.specs.declared.vdr.Variable.{Variable}
+use Rattle.variables.specs.declared.place.Place.the-variants.{At, Wrong}
+use Rattle.values.specs.declared.value.Answer.{Answer}
+use Rattle.ways.specs.Lists.{opened, landsOn, meets, kindAmong, headPlace, entriesPlace, variableWay, entryWay}
+use Rattle.ways.specs.Indexes.{entryCovers, indexMet, recordPlace, recordThere, recordRead, recordWay}
+use Rattle.ways.specs.declared.lists.Wanted.the-variants.{Number}
+use Rattle.ways.specs.declared.lists.Way.{Way}
+use Rattle.ways.specs.declared.lists.Way.the-variants.{Found, Stopped}
+use Rattle.ways.specs.declared.indexes.Values.{Values}
+use Rattle.ways.specs.declared.indexes.Values.the-variants.{Record, Refused as NoRecord}
+use Rattle.answers.specs.Answers.{encodingAt, rowMajority, elementThere, elementRead, atPlace, inRecord, inValues, inVariable, valueOn, valueRead, entryOn, entryRead, padIn, padOn, padRead}
+use Rattle.answers.specs.declared.Read.the-variants.{Refused}
+use Rattle.demands.specs.Acceptance.{Slot, firstOf, lastOf, namedBy}
+use Rattle.promised_reads.specs.Reading.{nthRecord, Met, CoveredBy, ValueShown, EntryShown, PadShown, ValuesShown, padRight, vaxFloat}
+use Rattle.variables.proofs.Capped.{capped-small}
+use Rattle.variables.proofs.Bound.{place-below}
+use Rattle.variables.proofs.Right.{right, fields-right, variable-is, place-is}
+use Rattle.demands.proofs.Opened.{opening-reads}
+use Rattle.demands.proofs.Records.{judged-reads}
+use Rattle.demands.proofs.VariableFacts.{z-layout, r-layout, exact-size}
+use Rattle.demands.proofs.Nested.{entryIs, entry-is, entry-reads}
+use Rattle.ways.proofs.Kept.{both, Lies, lands-lies, meets-parts, variable-kept, entry-kept}
+use Rattle.ways.proofs.Sought.{nth, first-met, listed-met, Finds, ToVariable, variable-found, ToEntry, entry-found}
+use Rattle.ways.proofs.Chains.{ToRecord, Leads, record-found}
+use Rattle.answers.proofs.Telling.{Tells, given-plain, element-below, element-tells}
+
+pub nth-same : (f : List ℕ) (p n : ℕ) → nth f p n ≡ nthRecord f p n
+nth-same f p zero = refl
+nth-same f p (suc n) = nth-same f (linkAt f p + 8) n
+
+pub list-met : (f : List ℕ) (t p n o : ℕ) → nth f p n ≡ o → ((h : ℕ) → h ≤ n → meets f t (nth f p h) ≡ true) → Met f t p n o
+list-met f t p n o e g = record { place = sym (nth-same f p n) ∙ e; rules = λ h l. ap (meets f t) (sym (nth-same f p h)) ∙ g h l }
+
+module _ (f : List ℕ) where
+  -- ---- the encoding of a file that opens
+  pub ordered : opened f ≡ true → 1 ≤ encodingOf (encodingAt f) .order
+  unfolding opened cdrRight
+  ordered e =
+      let a = both (not (tooLong f)) (eqb (opening f) 0) e in
+      let o = opening-reads f (eqb-true (opening f) 0 (a .1)) in
+      let order = leb 1 (encodingOf (natAt f 28) .order) in
+      let before = typedAt f 8 (pos 1) && eqb (sizeAt f 8) 304 && isAt f 20 (pos 2) in
+      leb-true 1 (encodingOf (natAt f 28) .order) (both before order (both (before && order) (ltb (bigAt f 32 4) 4) (o .cdr) .0) .1)
+
+  -- ---- the values of a record
+  -- the record of number r of the VDR at v, of a given size, begins at an offset
+  pub record Located (v bytes r at : ℕ) : Type 0 where
+    pub slot : Slot
+    pub place : ℕ
+    pub chained : nthRecord f (v + 20) place ≡ slot .vxr
+    pub rules : (h : ℕ) → h ≤ place → indexMet f (nthRecord f (v + 20) h) ≡ true
+    pub used : slot .entry < usedAt f (slot .vxr)
+    pub covered : CoveredBy f r slot
+    pub lies : Lies f 7 (namedBy f slot)
+    pub size : sizeAt f (namedBy f slot) ≡ 8 + (lastOf f slot - firstOf f slot + 1) * bytes
+    pub is : at ≡ namedBy f slot + 8 + (r - firstOf f slot) * bytes
+
+  pub locate : (v bytes : ℕ) (r : ℤ) (at : ℕ) → ToRecord f v bytes r at → Located v bytes (recordRead f v r) at
+  unfolding vvrRule
+  locate v bytes r at t =
+      let c = t .chained in
+      let s : Slot = record { vxr = c .vxr; entry = c .used .entry } in
+      let right : entryOf f (s .vxr) (s .entry) (c .used .floor) .fault ≡ 0 = ap (λ (e : Entry). e .fault) (c .used .is) ∙ c .used .right in
+      let parts = entry-reads f s (c .used .floor) right in
+      let e : t .entry ≡ entryIs f s = sym (c .used .is) ∙ entry-is f s (c .used .floor) (parts .0) (parts .1) (parts .2) in
+      let covers = subst (λ (e : Entry). entryCovers e (recordRead f v r) ≡ true) e (c .used .covers) in
+      let range = both (leb (firstOf f s) (recordRead f v r)) (leb (recordRead f v r) (lastOf f s)) covers in
+      let lands = subst (λ (e : Entry). landsOn f 7 (e .link) ≡ true) e (t .lands) in
+      let rule = subst (λ (e : Entry). vvrRule f (e .link) (e .last - e .first + 1) bytes ≡ 0) e (t .rule) in
+      let size = judged-reads f (namedBy f s) 8 (eqb (sizeAt f (namedBy f s)) (8 + (lastOf f s - firstOf f s + 1) * bytes)) rule .1 in
+      record {
+        slot = s;
+        place = c .place;
+        chained = sym (nth-same f (v + 20) (c .place)) ∙ c .on;
+        rules = λ h l. ap (indexMet f) (sym (nth-same f (v + 20) h)) ∙ c .met h l;
+        used = omega (arith, c .used .before);
+        covered = record {
+          first = leb-true (firstOf f s) (recordRead f v r) (range .0);
+          last = leb-true (recordRead f v r) (lastOf f s) (range .1);
+        };
+        lies = lands-lies f 7 (namedBy f s) lands;
+        size = eqb-true (sizeAt f (namedBy f s)) (8 + (lastOf f s - firstOf f s + 1) * bytes) size;
+        is = sym (subst (λ (e : Entry). recordPlace e (recordRead f v r) bytes ≡ at) e (t .is));
+      }
+
+-- an element in its value, the value in its record, the record in the values
+element-in : (o first r last bytes value size many p n x : ℕ) → first ≤ r → r ≤ last → p < many → x < n → value ≡ n * size → bytes ≡ value * many
+    → o + 8 + (r - first) * bytes + p * value + x * size + size ≤ o + (8 + (last - first + 1) * bytes)
+element-in o first r last bytes value size many p n x h l i j ev eb =
+    let a : suc (r - first) * bytes ≤ (last - first + 1) * bytes = mul-le-mul-right bytes (omega arith) in
+    let b : suc p * value ≤ many * value = mul-le-mul-right value i in
+    let c : suc x * size ≤ n * size = mul-le-mul-right size j in
+    omega (arith, a, b, c, suc-mul (r - first) bytes, suc-mul p value, suc-mul x size, mul-comm value many)
+
+value-is : (f : List ℕ) (o : ℕ) → valueBytes f o ≡ natAt f (o + 48) * elementSize f (o + 12)
+unfolding valueBytes
+value-is f o = refl
+
+record-is : (f : List ℕ) (o : ℕ) (l : Layout) → recordBytes f o l ≡ valueBytes f o * spread f (l .count) (l .sizes) (l .variances)
+unfolding recordBytes
+record-is f o l = refl
+
+-- a data type has a size
+vdr-sized : (f : List ℕ) (o : ℕ) → vdrFields f o ≡ true → 1 ≤ elementSize f (o + 12)
+unfolding vdrFields
+vdr-sized f o e =
+    let a = leb 1 (elementSize f (o + 12)) in
+    let b = atLeast f (o + 16) (negsuc 0) in
+    let c = ltb (bigAt f (o + 28) 4) 8 in
+    let d = atLeast f (o + 32) (pos 0) in
+    let g = atMost f (o + 32) (pos 2) in
+    let h = atLeast f (o + 48) (pos 1) in
+    let i = isAt f (o + 12) (pos 51) || isAt f (o + 12) (pos 52) || isAt f (o + 48) (pos 1) in
+    let p = both (a && b && c && d && g) h (both (a && b && c && d && g && h) i e .0) .0 in
+    let q = both (a && b) c (both (a && b && c) d (both (a && b && c && d) g p .0) .0) .0 in
+    leb-true 1 (elementSize f (o + 12)) (both a b q .0)
+
+-- ---- A VALUE OF A VARIABLE: N is a fact of every number that a refusal gives
+module _ (f : List ℕ) (k n r : ℤ) (is : List ℤ) (x : ℤ) (N : ℕ → Type 0) where
+  abbrev Shown : Answer → Type 0
+  Shown = ValueShown f k n r is x
+
+  module _ (v : ℕ) (found : ToVariable f k n v) where
+    abbrev l : Layout
+    l = layoutOf f (kindAmong 3 8 k) v
+
+    abbrev many : ℕ
+    many = spread f (l .count) (l .sizes) (l .variances)
+
+    abbrev place : ℕ
+    place = elementPlace f l (rowMajority f) is
+
+    fault : variableOf f (kindAmong 3 8 k) v .fault ≡ 0
+    fault = variable-kept f v (eqZ k (pos 3)) (meets-parts f (kindAmong 3 8 k) v (listed-met f (kindAmong 3 8 k) n v (found .listed)) .1) .1
+
+    indices : placed f l is ≡ true → indicesRight f (l .sizes) is (l .count) ≡ true
+    unfolding placed
+    indices e =
+        both (eqb (length is) (l .count) && rowFits f (l .sizes) (l .count) && rowFits f (l .variances) (l .count)) (indicesRight f (l .sizes) is (l .count)) e .1
+
+    in-place : (at : ℕ) → recordThere f v r ≡ true → Located f v (recordBytes f v l) (recordRead f v r) at → placed f l is ≡ true
+        → (elementThere f (v + 48) x ≡ false → N 18) → (elementThere f (v + 48) x ≡ true → vaxFloat f (v + 12) ≡ true → N 19)
+        → Tells Shown N (elementRead f (at + place * valueBytes f v) (v + 12) (v + 48) x)
+    in-place at there loc ok eighteen nineteen =
+        element-tells f (at + place * valueBytes f v) (v + 12) (v + 48) x Shown N eighteen nineteen
+        (vdr-sized f v (fields-right f (kindAmong 3 8 k) v fault)) (ordered f (found .opens))
+        (λ h. let b = inside h in omega (arith, b, loc .is, loc .size, loc .lies .inside))
+        (λ a h i d.
+        let b = inside h in
+        let q : a .offset ≡ namedBy f (loc .slot) + 8 + (recordRead f v r - firstOf f (loc .slot)) * recordBytes f v l + place * valueBytes f v + natOr 0 x * elementSize f (v + 12)
+        = i ∙ ap (λ (at : ℕ). at + place * valueBytes f v + natOr 0 x * elementSize f (v + 12)) (loc .is) in
+        record {
+          kind = found .kind;
+          number = found .listed .least;
+          vdr = v;
+          variable = list-met f (kindAmong 3 8 k) (headPlace f (kindAmong 3 8 k)) (natOr 0 n) v (found .listed .is) (found .listed .met);
+          there = there;
+          slot = loc .slot;
+          place = loc .place;
+          chained = loc .chained;
+          rules = loc .rules;
+          used = loc .used;
+          covered = loc .covered;
+          typed = loc .lies .typed;
+          size = loc .size;
+          indices = ok;
+          element = h;
+          offset = q;
+          inside = record { begins = omega (arith, q); ends = omega (arith, q, b, loc .size) };
+          decoded = d;
+        })
+      where
+        inside : elementThere f (v + 48) x ≡ true
+            → namedBy f (loc .slot) + 8 + (recordRead f v r - firstOf f (loc .slot)) * recordBytes f v l + place * valueBytes f v + natOr 0 x * elementSize f (v + 12) + elementSize f (v + 12)
+            ≤ namedBy f (loc .slot) + (8 + (lastOf f (loc .slot) - firstOf f (loc .slot) + 1) * recordBytes f v l)
+        inside h =
+            element-in (namedBy f (loc .slot)) (firstOf f (loc .slot)) (recordRead f v r) (lastOf f (loc .slot)) (recordBytes f v l) (valueBytes f v) (elementSize f (v + 12)) many place (natAt f (v + 48)) (natOr 0 x)
+            (loc .covered .first) (loc .covered .last) (place-below f l (rowMajority f) is (indices ok)) (element-below f (v + 48) x h) (value-is f v) (record-is f v l)
+
+    small : indicesRight f (l .sizes) is (l .count) ≡ true → valueBytes f v ≤ 2147483648
+    small h =
+        let p = place-below f l (rowMajority f) is h in
+        let a : suc 0 * valueBytes f v ≤ many * valueBytes f v = mul-le-mul-right (valueBytes f v) (omega (arith, p)) in
+        let b = right f (kindAmong 3 8 k) v fault .bytes in
+        omega (arith, a, b, record-is f v l, mul-comm (valueBytes f v) many)
+
+    in-record : (at : ℕ) → recordThere f v r ≡ true → Located f v (recordBytes f v l) (recordRead f v r) at
+        → ((placed f l is && elementThere f (v + 48) x) ≡ false → N 18)
+        → ((placed f l is && elementThere f (v + 48) x) ≡ true → vaxFloat f (v + 12) ≡ true → N 19)
+        → Tells Shown N (inRecord f v (variableOf f (kindAmong 3 8 k) v) at is x)
+    unfolding inRecord placeOf
+    in-record at there loc eighteen nineteen = rw (variable-is f (kindAmong 3 8 k) v fault) (go (placed f l is) refl)
+      where
+        go : (b : Bool) → placed f l is ≡ b
+            → Tells Shown N (atPlace f v (capped (valueBytes f v)) at x (cond b (At (capped place)) Wrong))
+        go true e = rw (place-is f (kindAmong 3 8 k) v fault (rowMajority f) is (indices e), capped-small (valueBytes f v) (small (indices e))) (in-place at there loc e (λ h. eighteen (rw (e, h))) (λ h. nineteen (rw (e, h))))
+        go false e = eighteen (rw e)
+
+    bytes-are : variableOf f (kindAmong 3 8 k) v .bytes ≡ recordBytes f v l
+    bytes-are =
+        ap (λ (u : Variable). u .bytes) (variable-is f (kindAmong 3 8 k) v fault)
+        ∙ capped-small (recordBytes f v l) (omega (arith, right f (kindAmong 3 8 k) v fault .bytes))
+
+    in-variable : (left : ℕ)
+        → ((m : ℕ) → recordWay f v (variableOf f (kindAmong 3 8 k) v .bytes) r left ≡ NoRecord m → N m)
+        → ((at : ℕ) → recordWay f v (variableOf f (kindAmong 3 8 k) v .bytes) r left ≡ Record at
+        → (placed f l is && elementThere f (v + 48) x) ≡ false → N 18)
+        → ((at : ℕ) → recordWay f v (variableOf f (kindAmong 3 8 k) v .bytes) r left ≡ Record at
+        → (placed f l is && elementThere f (v + 48) x) ≡ true → vaxFloat f (v + 12) ≡ true → N 19)
+        → Tells Shown N (inVariable f v left (variableOf f (kindAmong 3 8 k) v) r is x)
+    unfolding inVariable
+    in-variable left refused eighteen nineteen = go (recordWay f v (variableOf f (kindAmong 3 8 k) v .bytes) r left) refl (record-found f v (variableOf f (kindAmong 3 8 k) v .bytes) r left)
+      where
+        go : (s : Values) → recordWay f v (variableOf f (kindAmong 3 8 k) v .bytes) r left ≡ s
+            → Leads (ToRecord f v (variableOf f (kindAmong 3 8 k) v .bytes) r) s
+            → Tells Shown N (inValues f v (variableOf f (kindAmong 3 8 k) v) is x s)
+        go (Record at) e t =
+            in-record at (t .there)
+            (subst (λ (b : ℕ). Located f v b (recordRead f v r) at) bytes-are (locate f v (variableOf f (kindAmong 3 8 k) v .bytes) r at t))
+            (eighteen at e) (nineteen at e)
+        go (NoRecord m) e t = refused m e
+
+  pub value-tells : ((m : ℕ) → variableWay f k n ≡ Stopped m → N m)
+      → ((v left m : ℕ) → variableWay f k n ≡ Found v left → recordWay f v (variableOf f (kindAmong 3 8 k) v .bytes) r left ≡ NoRecord m → N m)
+      → ((v left at : ℕ) → variableWay f k n ≡ Found v left → recordWay f v (variableOf f (kindAmong 3 8 k) v .bytes) r left ≡ Record at
+      → (placed f (layoutOf f (kindAmong 3 8 k) v) is && elementThere f (v + 48) x) ≡ false → N 18)
+      → ((v left at : ℕ) → variableWay f k n ≡ Found v left → recordWay f v (variableOf f (kindAmong 3 8 k) v .bytes) r left ≡ Record at
+      → (placed f (layoutOf f (kindAmong 3 8 k) v) is && elementThere f (v + 48) x) ≡ true → vaxFloat f (v + 12) ≡ true → N 19)
+      → Tells Shown N (valueRead f k n r is x)
+  unfolding valueRead
+  value-tells stopped refused eighteen nineteen = go (variableWay f k n) refl (variable-found f k n)
+    where
+      go : (w : Way) → variableWay f k n ≡ w → Finds (ToVariable f k n) w → Tells Shown N (valueOn f (kindAmong 3 8 k) r is x w)
+      go (Found v left) e t = in-variable v t left (λ m. refused v left m e) (λ at. eighteen v left at e) (λ at. nineteen v left at e)
+      go (Stopped m) e t = stopped m e
+
+-- ---- AN ENTRY'S VALUE
+aedr-parts : (f : List ℕ) (e : ℕ) → aedrRight f e ≡ true → (1 ≤ elementSize f (e + 16)) × (sizeAt f e ≡ 48 + natAt f (e + 24) * elementSize f (e + 16))
+unfolding aedrRight
+aedr-parts f e h =
+    let a = leb 1 (elementSize f (e + 16)) in
+    let b = atLeast f (e + 20) (pos 0) in
+    let c = atLeast f (e + 24) (pos 1) in
+    let p = both (a && b && c) (eqb (sizeAt f e) (48 + natAt f (e + 24) * elementSize f (e + 16))) h in (
+      leb-true 1 (elementSize f (e + 16)) (both a b (both (a && b) c (p .0) .0) .0),
+      eqb-true (sizeAt f e) (48 + natAt f (e + 24) * elementSize f (e + 16)) (p .1),
+    )
+
+module _ (f : List ℕ) (b k n x : ℤ) (Fact : Answer → Type 0) (N : ℕ → Type 0) where
+  in-entry : (e : ℕ) → ToEntry f b k (Number n) e
+      → ((a : Answer) → EntryShown f b k n x a → elementThere f (e + 24) x ≡ true → vaxFloat f (e + 16) ≡ false → Fact a)
+      → (elementThere f (e + 24) x ≡ false → N 18) → (elementThere f (e + 24) x ≡ true → vaxFloat f (e + 16) ≡ true → N 19)
+      → Tells Fact N (elementRead f (e + 48) (e + 16) (e + 24) x)
+  unfolding aedrRule
+  in-entry e t fact eighteen nineteen =
+      element-tells f (e + 48) (e + 16) (e + 24) x Fact N eighteen nineteen (parts .0) (ordered f (t .opens))
+      (λ h. let i = inside h in omega (arith, i, met .0 .inside))
+      (λ a h i d.
+      let j = inside h in
+      fact a (record {
+        kind = t .kind;
+        number = t .attribute .least;
+        adr = t .adr;
+        attribute = list-met f 4 (headPlace f 4) (natOr 0 b) (t .adr) (t .attribute .is) (t .attribute .met);
+        aedr = e;
+        place = t .entry .place;
+        entry = list-met f (kindAmong 5 9 k) (t .adr + entriesPlace (kindAmong 5 9 k)) (t .entry .place) e (t .entry .is) (t .entry .met);
+        first = t .entry .wanted;
+        earlier = λ g l.
+            ap (λ (o : ℕ). isAt f (o + 20) n) (sym (nth-same f (t .adr + entriesPlace (kindAmong 5 9 k)) g)) ∙ t .entry .earlier g l;
+        element = h;
+        offset = i;
+        inside = record { begins = omega (arith, i); ends = omega (arith, i, j) };
+        decoded = d;
+      }) h (given-plain f (a .offset) (natAt f (e + 16)) (encodingAt f) a d))
+    where
+      met : Lies f (kindAmong 5 9 k) e × (aedrRule f e ≡ 0)
+      met = let m = meets-parts f (kindAmong 5 9 k) e (first-met f (kindAmong 5 9 k) (Number n) (t .adr + entriesPlace (kindAmong 5 9 k)) 0 e (t .entry)) in (m .0, entry-kept f e (eqZ k (pos 5)) (m .1))
+
+      parts : (1 ≤ elementSize f (e + 16)) × (sizeAt f e ≡ 48 + natAt f (e + 24) * elementSize f (e + 16))
+      parts = aedr-parts f e (judged-reads f e 48 (aedrRight f e) (met .1) .1)
+
+      inside : elementThere f (e + 24) x ≡ true → e + 48 + natOr 0 x * elementSize f (e + 16) + elementSize f (e + 16) ≤ e + sizeAt f e
+      inside h =
+          let a : suc (natOr 0 x) * elementSize f (e + 16) ≤ natAt f (e + 24) * elementSize f (e + 16) = mul-le-mul-right (elementSize f (e + 16)) (element-below f (e + 24) x h) in
+          omega (arith, a, parts .1, suc-mul (natOr 0 x) (elementSize f (e + 16)))
+
+  pub entry-tells : ((m : ℕ) → entryWay f b k (Number n) ≡ Stopped m → N m)
+      → ((e left : ℕ) → entryWay f b k (Number n) ≡ Found e left → (a : Answer) → EntryShown f b k n x a
+      → elementThere f (e + 24) x ≡ true → vaxFloat f (e + 16) ≡ false → Fact a)
+      → ((e left : ℕ) → entryWay f b k (Number n) ≡ Found e left → elementThere f (e + 24) x ≡ false → N 18)
+      → ((e left : ℕ) → entryWay f b k (Number n) ≡ Found e left → elementThere f (e + 24) x ≡ true → vaxFloat f (e + 16) ≡ true → N 19)
+      → Tells Fact N (entryRead f b k n x)
+  unfolding entryRead
+  entry-tells stopped fact eighteen nineteen = go (entryWay f b k (Number n)) refl (entry-found f b k (Number n))
+    where
+      go : (w : Way) → entryWay f b k (Number n) ≡ w → Finds (ToEntry f b k (Number n)) w → Tells Fact N (entryOn f x w)
+      go (Found e left) q t = in-entry e t (fact e left q) (eighteen e left q) (nineteen e left q)
+      go (Stopped m) q t = stopped m q
+
+-- ---- A PAD VALUE
+pad-is : (f : List ℕ) (o : ℕ) → bitAt f (o + 28) 2 ≡ true → padBytes f o ≡ valueBytes f o
+unfolding padBytes
+pad-is f o e = rw e
+
+-- it stands behind the variances
+pad-behind : (f : List ℕ) (k o : ℕ) → o + 128 ≤ layoutOf f k o .variances + 4 * layoutOf f k o .count
+pad-behind f k o = go (eqb k 8) refl
+  where
+    go : (b : Bool) → eqb k 8 ≡ b → o + 128 ≤ layoutOf f k o .variances + 4 * layoutOf f k o .count
+    go true e = omega (arith, z-layout f k o e .2)
+    go false e = omega (arith, r-layout f k o e .2)
+
+module _ (f : List ℕ) (k n x : ℤ) (Fact : Answer → Type 0) (N : ℕ → Type 0) where
+  in-pad : (v : ℕ) → ToVariable f k n v → ((a : Answer) → PadShown f k n x a → padRight f v x ≡ true → vaxFloat f (v + 12) ≡ false → Fact a)
+      → (padRight f v x ≡ false → N 18)
+      → (padRight f v x ≡ true → vaxFloat f (v + 12) ≡ true → N 19)
+      → Tells Fact N (padIn f v (variableOf f (kindAmong 3 8 k) v) x)
+  unfolding padIn
+  in-pad v t fact eighteen nineteen = rw (variable-is f (kindAmong 3 8 k) v fault) (go (bitAt f (v + 28) 2) refl)
+    where
+      met : Lies f (kindAmong 3 8 k) v
+      met = meets-parts f (kindAmong 3 8 k) v (listed-met f (kindAmong 3 8 k) n v (t .listed)) .0
+
+      fault : variableOf f (kindAmong 3 8 k) v .fault ≡ 0
+      fault = variable-kept f v (eqZ k (pos 3)) (meets-parts f (kindAmong 3 8 k) v (listed-met f (kindAmong 3 8 k) n v (t .listed)) .1) .1
+
+      inside : elementThere f (v + 48) x ≡ true → natOr 0 x * elementSize f (v + 12) + elementSize f (v + 12) ≤ valueBytes f v
+      inside h =
+          let a : suc (natOr 0 x) * elementSize f (v + 12) ≤ natAt f (v + 48) * elementSize f (v + 12) = mul-le-mul-right (elementSize f (v + 12)) (element-below f (v + 48) x h) in
+          omega (arith, a, value-is f v, suc-mul (natOr 0 x) (elementSize f (v + 12)))
+
+      ends : bitAt f (v + 28) 2 ≡ true
+          → v + sizeAt f v ≡ layoutOf f (kindAmong 3 8 k) v .variances + 4 * layoutOf f (kindAmong 3 8 k) v .count + valueBytes f v
+      ends e = omega (arith, exact-size f (kindAmong 3 8 k) v (right f (kindAmong 3 8 k) v fault .exact), pad-is f v e)
+
+      go : (c : Bool) → bitAt f (v + 28) 2 ≡ c
+          → Tells Fact N
+          (cond c (elementRead f (layoutOf f (kindAmong 3 8 k) v .variances + 4 * layoutOf f (kindAmong 3 8 k) v .count) (v + 12) (v + 48) x) (Refused 18))
+      go true e =
+          element-tells f (layoutOf f (kindAmong 3 8 k) v .variances + 4 * layoutOf f (kindAmong 3 8 k) v .count) (v + 12) (v + 48) x Fact N
+          (λ h. eighteen (rw (e, h))) (λ h. nineteen (rw (e, h)))
+          (vdr-sized f v (fields-right f (kindAmong 3 8 k) v fault)) (ordered f (t .opens))
+          (λ h. omega (arith, inside h, ends e, met .inside))
+          (λ a h i d. fact a (record {
+            kind = t .kind;
+            number = t .listed .least;
+            vdr = v;
+            variable = list-met f (kindAmong 3 8 k) (headPlace f (kindAmong 3 8 k)) (natOr 0 n) v (t .listed .is) (t .listed .met);
+            pad = e;
+            element = h;
+            offset = omega (arith, i, ends e);
+            inside = record { begins = omega (arith, i, pad-behind f (kindAmong 3 8 k) v); ends = omega (arith, i, ends e, inside h) };
+            decoded = d;
+          }) (rw (e, h)) (given-plain f (a .offset) (natAt f (v + 12)) (encodingAt f) a d))
+      go false e = eighteen (rw e)
+
+  pub pad-tells : ((m : ℕ) → variableWay f k n ≡ Stopped m → N m)
+      → ((v left : ℕ) → variableWay f k n ≡ Found v left → (a : Answer) → PadShown f k n x a → padRight f v x ≡ true → vaxFloat f (v + 12) ≡ false → Fact a)
+      → ((v left : ℕ) → variableWay f k n ≡ Found v left → padRight f v x ≡ false → N 18)
+      → ((v left : ℕ) → variableWay f k n ≡ Found v left → padRight f v x ≡ true → vaxFloat f (v + 12) ≡ true → N 19)
+      → Tells Fact N (padRead f k n x)
+  unfolding padRead
+  pad-tells stopped fact eighteen nineteen = go (variableWay f k n) refl (variable-found f k n)
+    where
+      go : (w : Way) → variableWay f k n ≡ w → Finds (ToVariable f k n) w → Tells Fact N (padOn f (kindAmong 3 8 k) x w)
+      go (Found v left) q t = in-pad v t (fact v left q) (eighteen v left q) (nineteen v left q)
+      go (Stopped m) q t = stopped m q
+
+-- THE THEOREM
+pub values-shown : ValuesShown
+values-shown f = record {
+  value = λ k n r is x a e.
+      subst (Tells (ValueShown f k n r is x) (λ m. Unit {0})) e (value-tells f k n r is x (λ m. Unit {0}) (λ m q. tt) (λ v left m q h. tt) (λ v left at q h g. tt) (λ v left at q h g w. tt));
+  entry = λ b k n x a e. subst (Tells (EntryShown f b k n x) (λ m. Unit {0})) e (entry-tells f b k n x (EntryShown f b k n x) (λ m. Unit {0}) (λ m q. tt) (λ e left q a w h v. w) (λ e left q h. tt) (λ e left q h g. tt));
+  pad = λ k n x a e. subst (Tells (PadShown f k n x) (λ m. Unit {0})) e (pad-tells f k n x (PadShown f k n x) (λ m. Unit {0}) (λ m q. tt) (λ v left q a w h g. w) (λ v left q h. tt) (λ v left q h g. tt));
+}

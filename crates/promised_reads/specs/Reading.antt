@@ -1,0 +1,332 @@
+-- WHAT THE READER SHOWS: statements about its definitions, of every file, and of every file that the plain run accepts.
+-- Document 01, "Values" and "Numbers that come back". Assumes nothing.
+use mathlib.Core.Path.{_≡_}
+use mathlib.Core.Logic.{_≢_, _↔_, _⊎_}
+use mathlib.Core.Bool.{Bool, true, false, cond, _&&_}
+use mathlib.Core.List.{List}
+use Prim.Native.Nat.{ℕ, zero, suc, _+_, _-_, _*_, _≤_, _<_}
+use lib.ListN.{length}
+use lib.IntN.{ℤ, pos}
+use lib.Signed.{leZ, ltZ}
+use Rattle.format.specs.Fields.{fieldAt, eqZ, isAt, atLeast, natAt, natOr, linkAt, bitAt}
+use Rattle.format.specs.Types.{typeOf}
+use Rattle.format.specs.Encodings.{encodingOf}
+use Rattle.values.specs.Values.{isVax, decodedOf}
+use Rattle.values.specs.declared.value.Answer.{Answer}
+use Rattle.values.specs.declared.value.Decoded.the-variants.{Given}
+use Rattle.records.specs.Rules.{sizeAt, typedAt}
+use Rattle.records.specs.Opening.{gdrAt}
+use Rattle.records.specs.Attributes.{elementSize}
+use Rattle.records.specs.Index.{usedAt}
+use Rattle.variables.specs.Vdr.{layoutOf, valueBytes, recordBytes}
+use Rattle.variables.specs.Place.{elementPlace, placed}
+use Rattle.checker.specs.declared.state.Stage.the-variants.{Done}
+use Rattle.demands.specs.Acceptance.{_∈_, Each, Linked, Slot, usedEntries, firstOf, lastOf, namedBy, IndexRight}
+use Rattle.demands.specs.Demands.{endStage}
+use Rattle.ways.specs.Lists.{meets, headPlace, entriesPlace, ofKinds, kindAmong, variableWay, entryWay}
+use Rattle.ways.specs.Indexes.{recordVaries, recordThere, recordRead, indexMet}
+use Rattle.ways.specs.declared.lists.Wanted.{Wanted}
+use Rattle.ways.specs.declared.lists.Wanted.the-variants.{Number}
+use Rattle.ways.specs.declared.lists.Way.the-variants.{Found}
+use Rattle.answers.specs.Answers.{numberOf, encodingAt, rowMajority, elementThere, valueRead, entryRead, padRead}
+use Rattle.answers.specs.declared.Read.{Read}
+use Rattle.answers.specs.declared.Read.the-variants.{Value, Refused}
+use Rattle.descriptors.specs.Descriptors.{fieldNumber, nameNumber, variableField, attributeField, entryField, dimensionSize, variableSize, variableVariance, variableName, attributeName, fileField}
+
+-- the plain run over the file f accepts, from fresh, with some marks at least as long
+abbrev pub PlainAccepts : List ℕ → Type 0
+PlainAccepts f = (m : List ℕ) × (length f ≤ length m) × (endStage f m ≡ Done 0)
+
+-- ---- THE VALUE SHOWN, of every file, accepted or not
+
+-- "the list from its head to the wanted place": the n-th record, from 0, of the list whose head link stands at p
+abbrev pub nthRecord : List ℕ → ℕ → ℕ → ℕ
+nthRecord f p zero = linkAt f p
+nthRecord f p (suc n) = nthRecord f (linkAt f p + 8) n
+
+-- the record of type t at o was met as the n-th of the list whose head link stands at p
+pub record Met (f : List ℕ) (t p n o : ℕ) : Type 0 where
+  pub place : nthRecord f p n ≡ o
+  -- "Each record met must meet its Records rule and lie inside the file, each link land at 8 or above on the right type"
+  pub rules : (h : ℕ) → h ≤ n → meets f t (nthRecord f p h) ≡ true
+
+-- "The index entry whose First..Last covers it"
+pub record CoveredBy (f : List ℕ) (r : ℕ) (s : Slot) : Type 0 where
+  pub first : firstOf f s ≤ r
+  pub last : r ≤ lastOf f s
+
+-- n bytes from an offset lie in the record at o, behind its first h bytes
+pub record LiesIn (f : List ℕ) (o h offset n : ℕ) : Type 0 where
+  pub begins : o + h ≤ offset
+  pub ends : offset + n ≤ o + sizeAt f o
+
+-- what is shown for element x of the value at the indices `is` in record r of the variable of kind k and number n
+pub record ValueShown (f : List ℕ) (k n r : ℤ) (is : List ℤ) (x : ℤ) (a : Answer) : Type 0 where
+  -- "kinds are record types 3, 8"; "a place below 0, is 15"
+  pub kind : ofKinds 3 8 k ≡ true
+  pub number : leZ (pos 0) n ≡ true
+  -- the VDR, of that kind and number
+  pub vdr : ℕ
+  pub variable : Met f (kindAmong 3 8 k) (headPlace f (kindAmong 3 8 k)) (natOr 0 n) vdr
+  -- "A record number from 0 to MaxRec is looked up; with record variance clear any number from 0 reads record 0"
+  pub there : recordThere f vdr r ≡ true
+  -- "the index chain to the covering entry": entry `slot .entry` of the VXR `slot .vxr`, a used one, and the VXR one of the chain
+  pub slot : Slot
+  pub place : ℕ
+  pub chained : nthRecord f (vdr + 20) place ≡ slot .vxr
+  pub rules : (h : ℕ) → h ≤ place → indexMet f (nthRecord f (vdr + 20) h) ≡ true
+  pub used : slot .entry < usedAt f (slot .vxr)
+  pub covered : CoveredBy f (recordRead f vdr r) slot
+  -- "then the VVR"; "VVR (7). Size 8 + (Last - First + 1) × record bytes"
+  pub typed : typedAt f (namedBy f slot) (pos 7) ≡ true
+  pub size : sizeAt f (namedBy f slot) ≡ 8 + (lastOf f slot - firstOf f slot + 1) * recordBytes f vdr (layoutOf f (kindAmong 3 8 k) vdr)
+  -- "dimension index or element out of range, or wrong number of indices" is 18
+  pub indices : placed f (layoutOf f (kindAmong 3 8 k) vdr) is ≡ true
+  pub element : elementThere f (vdr + 48) x ≡ true
+  -- where layout and majority put it: in the record, in the place by majority, in the value
+  pub offset :
+      a .offset
+      ≡ namedBy f slot + 8
+      + (recordRead f vdr r - firstOf f slot) * recordBytes f vdr (layoutOf f (kindAmong 3 8 k) vdr)
+      + elementPlace f (layoutOf f (kindAmong 3 8 k) vdr) (rowMajority f) is * valueBytes f vdr
+      + natOr 0 x * elementSize f (vdr + 12)
+  pub inside : LiesIn f (namedBy f slot) 8 (a .offset) (elementSize f (vdr + 12))
+  -- what data type and encoding make of the bytes there
+  pub decoded : decodedOf f (a .offset) (natAt f (vdr + 12)) (encodingAt f) ≡ Given a
+
+-- what is shown for element x of the entry of number n, of kind k, of attribute b
+pub record EntryShown (f : List ℕ) (b k n x : ℤ) (a : Answer) : Type 0 where
+  -- "kinds are record types .. 5, 9"; "a place below 0, is 15"
+  pub kind : ofKinds 5 9 k ≡ true
+  pub number : leZ (pos 0) b ≡ true
+  pub adr : ℕ
+  pub attribute : Met f 4 (headPlace f 4) (natOr 0 b) adr
+  -- "for an entry, the ADR's list to the first of that number": the entry is one of that number, none before it is
+  pub aedr : ℕ
+  pub place : ℕ
+  pub entry : Met f (kindAmong 5 9 k) (adr + entriesPlace (kindAmong 5 9 k)) place aedr
+  pub first : isAt f (aedr + 20) n ≡ true
+  pub earlier : (h : ℕ) → h < place → isAt f (nthRecord f (adr + entriesPlace (kindAmong 5 9 k)) h + 20) n ≡ false
+  -- "data type 16, .. elements 24 .., value from 48"
+  pub element : elementThere f (aedr + 24) x ≡ true
+  pub offset : a .offset ≡ aedr + 48 + natOr 0 x * elementSize f (aedr + 16)
+  pub inside : LiesIn f aedr 48 (a .offset) (elementSize f (aedr + 16))
+  pub decoded : decodedOf f (a .offset) (natAt f (aedr + 16)) (encodingAt f) ≡ Given a
+
+-- what is shown for element x of the pad value of the variable of kind k and number n
+pub record PadShown (f : List ℕ) (k n x : ℤ) (a : Answer) : Type 0 where
+  pub kind : ofKinds 3 8 k ≡ true
+  pub number : leZ (pos 0) n ≡ true
+  pub vdr : ℕ
+  pub variable : Met f (kindAmong 3 8 k) (headPlace f (kindAmong 3 8 k)) (natOr 0 n) vdr
+  -- "Pad value last if bit 1 is set": it ends with the VDR
+  pub pad : bitAt f (vdr + 28) 2 ≡ true
+  pub element : elementThere f (vdr + 48) x ≡ true
+  pub offset : a .offset + valueBytes f vdr ≡ vdr + sizeAt f vdr + natOr 0 x * elementSize f (vdr + 12)
+  pub inside : LiesIn f vdr 128 (a .offset) (elementSize f (vdr + 12))
+  pub decoded : decodedOf f (a .offset) (natAt f (vdr + 12)) (encodingAt f) ≡ Given a
+
+-- every value given is the one shown so
+pub record ShowsRight (f : List ℕ) : Type 0 where
+  pub value : (k n r : ℤ) (is : List ℤ) (x : ℤ) (a : Answer) → valueRead f k n r is x ≡ Value a → ValueShown f k n r is x a
+  pub entry : (b k n x : ℤ) (a : Answer) → entryRead f b k n x ≡ Value a → EntryShown f b k n x a
+  pub pad : (k n x : ℤ) (a : Answer) → padRead f k n x ≡ Value a → PadShown f k n x a
+
+abbrev pub ValuesShown : Type 0
+ValuesShown = (f : List ℕ) → ShowsRight f
+
+-- ---- NEVER 20: "On an accepted file it never gives 20"
+
+pub record NeverTwenty (f : List ℕ) : Type 0 where
+  pub value : (k n r : ℤ) (is : List ℤ) (x : ℤ) → numberOf (valueRead f k n r is x) ≢ 20
+  pub entry : (b k n x : ℤ) → numberOf (entryRead f b k n x) ≢ 20
+  pub pad : (k n x : ℤ) → numberOf (padRead f k n x) ≢ 20
+  pub ofVariable : (k n : ℤ) (p : ℕ) → fieldNumber (variableField f k n p) ≢ 20
+  pub ofAttribute : (n : ℤ) (p : ℕ) → fieldNumber (attributeField f n p) ≢ 20
+  pub ofEntry : (b k : ℤ) (w : Wanted) (p : ℕ) → fieldNumber (entryField f b k w p) ≢ 20
+  pub ofDimension : (d : ℤ) → fieldNumber (dimensionSize f d) ≢ 20
+  pub ofSize : (k n d : ℤ) → fieldNumber (variableSize f k n d) ≢ 20
+  pub ofVariance : (k n d : ℤ) → fieldNumber (variableVariance f k n d) ≢ 20
+  pub variableNamed : (k n : ℤ) → nameNumber (variableName f k n) ≢ 20
+  pub attributeNamed : (n : ℤ) → nameNumber (attributeName f n) ≢ 20
+  pub ofFile : (what : ℕ) → fieldNumber (fileField f what) ≢ 20
+
+abbrev pub Never20 : Type 0
+Never20 = (f : List ℕ) → PlainAccepts f → NeverTwenty f
+
+-- ---- WHAT IS THERE, in an accepted file
+
+-- a place from 0 on, below the count that stands at p
+abbrev pub placeThere : List ℕ → ℕ → ℤ → Bool
+placeThere f p n = leZ (pos 0) n && ltZ n (fieldAt f p)
+
+-- "kinds are record types 3, 8"; GDR: "NrVars 24, .. NzVars 40"
+abbrev pub variableThere : List ℕ → ℤ → ℤ → Bool
+variableThere f k n = ofKinds 3 8 k && placeThere f (gdrAt f + cond (eqZ k (pos 3)) 24 40) n
+
+-- "kinds are record types .. 5, 9"; GDR: "NumAttr 28"
+abbrev pub attributeThere : List ℕ → ℤ → ℤ → Bool
+attributeThere f b k = ofKinds 5 9 k && placeThere f (gdrAt f + 28) b
+
+-- a float of the data type whose number stands at t, in encoding 3, 14 or 15
+abbrev pub vaxFloat : List ℕ → ℕ → Bool
+vaxFloat f t = isVax (typeOf (natAt f t) .kind) (encodingOf (encodingAt f) .float)
+
+-- a pad value, and an element of it that is there
+abbrev pub padRight : List ℕ → ℕ → ℤ → Bool
+padRight f v x = bitAt f (v + 28) 2 && elementThere f (v + 48) x
+
+-- as many indices as dimensions, each right, and an element that is there
+abbrev pub questionRight : List ℕ → ℕ → ℕ → List ℤ → ℤ → Bool
+questionRight f t v is x = placed f (layoutOf f t v) is && elementThere f (v + 48) x
+
+-- ---- COVERED ONCE, and every number exactly where it is due
+
+-- the VDR at v, of kind k and number n, has the index vxrs: the number that comes back, for every record, indices and element
+pub record NumbersExact (f : List ℕ) (k n : ℤ) (v : ℕ) (vxrs : List ℕ) : Type 0 where
+  -- "A record number from 0 to MaxRec is looked up": any other is 16
+  pub missing : (r : ℤ) (is : List ℤ) (x : ℤ) → (numberOf (valueRead f k n r is x) ≡ 16) ↔ (recordThere f v r ≡ false)
+  -- "The index entry whose First..Last covers it is used, or 17 exactly if no used entry does"
+  pub gap : (r : ℤ) → recordThere f v r ≡ true → (is : List ℤ) (x : ℤ)
+      → (numberOf (valueRead f k n r is x) ≡ 17) ↔ ((s : Slot) → s ∈ usedEntries f vxrs → CoveredBy f (recordRead f v r) s → ⊥)
+  -- 18: "dimension index or element out of range, or wrong number of indices"
+  pub wrong : (r : ℤ) → recordThere f v r ≡ true → (s : Slot) → s ∈ usedEntries f vxrs → CoveredBy f (recordRead f v r) s → (is : List ℤ) (x : ℤ)
+      → (numberOf (valueRead f k n r is x) ≡ 18) ↔ (questionRight f (kindAmong 3 8 k) v is x ≡ false)
+  -- 19: "float in encoding 3, 14 or 15"
+  pub float : (r : ℤ) → recordThere f v r ≡ true → (s : Slot) → s ∈ usedEntries f vxrs → CoveredBy f (recordRead f v r) s → (is : List ℤ) (x : ℤ)
+      → (numberOf (valueRead f k n r is x) ≡ 19) ↔ ((questionRight f (kindAmong 3 8 k) v is x && vaxFloat f (v + 12)) ≡ true)
+
+-- the index of the VDR at v, of kind k and number n
+pub record CoversOnce (f : List ℕ) (k n : ℤ) (v : ℕ) : Type 0 where
+  -- its chain, which keeps the rules of acceptance
+  pub vxrs : List ℕ
+  pub index : IndexRight f (kindAmong 3 8 k) v vxrs
+  -- no two of its used entries cover the same record number
+  pub once : (r : ℕ) (s t : Slot) → s ∈ usedEntries f vxrs → t ∈ usedEntries f vxrs → CoveredBy f r s → CoveredBy f r t → s ≡ t
+  pub numbers : NumbersExact f k n v vxrs
+
+abbrev pub CoveredOnce : Type 0
+CoveredOnce = (f : List ℕ) → PlainAccepts f → (k n : ℤ) (v left : ℕ) → variableWay f k n ≡ Found v left → CoversOnce f k n v
+
+-- 15: "no such variable or attribute"
+pub record NoSuch (f : List ℕ) : Type 0 where
+  pub value : (k n r : ℤ) (is : List ℤ) (x : ℤ) → (numberOf (valueRead f k n r is x) ≡ 15) ↔ (variableThere f k n ≡ false)
+  pub entry : (b k n x : ℤ) → (numberOf (entryRead f b k n x) ≡ 15) ↔ (attributeThere f b k ≡ false)
+  pub pad : (k n x : ℤ) → (numberOf (padRead f k n x) ≡ 15) ↔ (variableThere f k n ≡ false)
+
+abbrev pub Fifteen : Type 0
+Fifteen = (f : List ℕ) → PlainAccepts f → NoSuch f
+
+-- the entries of type t of the ADR at a are those listed, and none has the number n
+pub record NoEntry (f : List ℕ) (a t : ℕ) (n : ℤ) : Type 0 where
+  pub entries : List ℕ
+  pub linked : Linked f (λ e. e) (a + entriesPlace t) entries
+  pub none : Each entries (λ earlier e. isAt f (e + 20) n ≡ false)
+
+-- 16 of an entry: "no such .. entry number"
+abbrev pub NoEntryNumber : Type 0
+NoEntryNumber = (f : List ℕ) → PlainAccepts f → (b k n x : ℤ)
+    → (numberOf (entryRead f b k n x) ≡ 16)
+    ↔ ((attributeThere f b k ≡ true) × (a : ℕ) × Met f 4 (headPlace f 4) (natOr 0 b) a × NoEntry f a (kindAmong 5 9 k) n)
+
+-- of every file: 18 and 19 of an entry that was found at e, and of the pad value of a VDR that was found at v
+pub record ElementsExact (f : List ℕ) : Type 0 where
+  pub entryWrong : (b k n x : ℤ) (e left : ℕ) → entryWay f b k (Number n) ≡ Found e left
+      → (numberOf (entryRead f b k n x) ≡ 18) ↔ (elementThere f (e + 24) x ≡ false)
+  pub entryFloat : (b k n x : ℤ) (e left : ℕ) → entryWay f b k (Number n) ≡ Found e left
+      → (numberOf (entryRead f b k n x) ≡ 19) ↔ ((elementThere f (e + 24) x && vaxFloat f (e + 16)) ≡ true)
+  -- "pad value as elements (18 if there is none)"
+  pub padWrong : (k n x : ℤ) (v left : ℕ) → variableWay f k n ≡ Found v left → (numberOf (padRead f k n x) ≡ 18) ↔ (padRight f v x ≡ false)
+  pub padFloat : (k n x : ℤ) (v left : ℕ) → variableWay f k n ≡ Found v left
+      → (numberOf (padRead f k n x) ≡ 19) ↔ ((padRight f v x && vaxFloat f (v + 12)) ≡ true)
+
+abbrev pub ElementsRefused : Type 0
+ElementsRefused = (f : List ℕ) → ElementsExact f
+
+-- the record numbers that are there, and which record is read: with record variance set those from 0 to MaxRec, each itself; with it
+-- clear all from 0, if MaxRec is not -1, and record 0
+pub record LooksUp (f : List ℕ) (v : ℕ) (r : ℤ) : Type 0 where
+  pub varying : recordVaries f v ≡ true
+      → (recordThere f v r ≡ (leZ (pos 0) r && leZ r (fieldAt f (v + 16)))) × (recordRead f v r ≡ natOr 0 r)
+  pub fixed : recordVaries f v ≡ false → (recordThere f v r ≡ (leZ (pos 0) r && atLeast f (v + 16) (pos 0))) × (recordRead f v r ≡ 0)
+
+abbrev pub RecordsThere : Type 0
+RecordsThere = (f : List ℕ) (v : ℕ) (r : ℤ) → LooksUp f v r
+
+-- ---- WHY A VALUE IS REFUSED, in an accepted file
+
+-- the chain of VXRs of the VDR at v is vxrs, and none of its used entries covers r
+pub record InGap (f : List ℕ) (v r : ℕ) : Type 0 where
+  pub vxrs : List ℕ
+  pub linked : Linked f (λ x. x) (v + 20) vxrs
+  pub none : (s : Slot) → s ∈ usedEntries f vxrs → CoveredBy f r s → ⊥
+
+-- and one covers r
+pub record InRange (f : List ℕ) (v r : ℕ) : Type 0 where
+  pub vxrs : List ℕ
+  pub linked : Linked f (λ x. x) (v + 20) vxrs
+  pub slot : Slot
+  pub used : slot ∈ usedEntries f vxrs
+  pub covers : CoveredBy f r slot
+
+-- of the variable whose VDR is at v, of kind t
+abbrev pub RecordRefused : List ℕ → ℕ → ℕ → ℤ → List ℤ → ℤ → ℕ → Type 0
+RecordRefused f t v r is x m =
+    -- 16: "no such record .. number"
+    ((m ≡ 16) × (recordThere f v r ≡ false))
+    -- 17: "record number in a gap of the index"
+    ⊎ (((m ≡ 17) × (recordThere f v r ≡ true) × InGap f v (recordRead f v r))
+    -- 18: "dimension index or element out of range, or wrong number of indices"
+    ⊎ (((m ≡ 18) × (recordThere f v r ≡ true) × InRange f v (recordRead f v r) × (questionRight f t v is x ≡ false))
+    -- 19: "float in encoding 3, 14 or 15"
+    ⊎ ((m ≡ 19) × (recordThere f v r ≡ true) × InRange f v (recordRead f v r) × (questionRight f t v is x ≡ true)
+    × (vaxFloat f (v + 12) ≡ true))))
+
+abbrev pub ValueRefused : List ℕ → ℤ → ℤ → ℤ → List ℤ → ℤ → ℕ → Type 0
+ValueRefused f k n r is x m =
+    -- 15: "no such variable"
+    ((m ≡ 15) × (variableThere f k n ≡ false))
+    ⊎ ((variableThere f k n ≡ true) × (v : ℕ) × Met f (kindAmong 3 8 k) (headPlace f (kindAmong 3 8 k)) (natOr 0 n) v
+    × RecordRefused f (kindAmong 3 8 k) v r is x m)
+
+abbrev pub PadRefused : List ℕ → ℤ → ℤ → ℤ → ℕ → Type 0
+PadRefused f k n x m =
+    -- 15: "no such variable"
+    ((m ≡ 15) × (variableThere f k n ≡ false))
+    ⊎ ((variableThere f k n ≡ true) × (v : ℕ) × Met f (kindAmong 3 8 k) (headPlace f (kindAmong 3 8 k)) (natOr 0 n) v
+    -- "pad value as elements (18 if there is none)"; 18: "element out of range"
+    × (((m ≡ 18) × (padRight f v x ≡ false))
+    -- 19: "float in encoding 3, 14 or 15"
+    ⊎ ((m ≡ 19) × (padRight f v x ≡ true) × (vaxFloat f (v + 12) ≡ true))))
+
+abbrev pub EntryRefused : List ℕ → ℤ → ℤ → ℤ → ℤ → ℕ → Type 0
+EntryRefused f b k n x m =
+    -- 15: "no such .. attribute"
+    ((m ≡ 15) × (attributeThere f b k ≡ false))
+    ⊎ ((attributeThere f b k ≡ true) × (a : ℕ) × Met f 4 (headPlace f 4) (natOr 0 b) a
+    -- 16: "no such .. entry number"
+    × (((m ≡ 16) × NoEntry f a (kindAmong 5 9 k) n)
+    ⊎ ((e : ℕ) × (place : ℕ) × Met f (kindAmong 5 9 k) (a + entriesPlace (kindAmong 5 9 k)) place e × (isAt f (e + 20) n ≡ true)
+    -- 18: "element out of range"
+    × (((m ≡ 18) × (elementThere f (e + 24) x ≡ false))
+    -- 19: "float in encoding 3, 14 or 15"
+    ⊎ ((m ≡ 19) × (elementThere f (e + 24) x ≡ true) × (vaxFloat f (e + 16) ≡ true))))))
+
+-- ---- DEMAND 2, its second half: "From an accepted file the reader gives the value that layout and encoding give, or the named refusal"
+
+-- a value that is shown so, or a refusal of that meaning
+abbrev pub GivenOrRefused : (Answer → Type 0) → (ℕ → Type 0) → Read → Type 0
+GivenOrRefused Shown Why (Value a) = Shown a
+GivenOrRefused Shown Why (Refused v) = Why v
+
+pub record ReadsRight (f : List ℕ) : Type 0 where
+  pub value : (k n r : ℤ) (is : List ℤ) (x : ℤ) → GivenOrRefused (ValueShown f k n r is x) (ValueRefused f k n r is x) (valueRead f k n r is x)
+  pub entry : (b k n x : ℤ) → GivenOrRefused (EntryShown f b k n x) (EntryRefused f b k n x) (entryRead f b k n x)
+  pub pad : (k n x : ℤ) → GivenOrRefused (PadShown f k n x) (PadRefused f k n x) (padRead f k n x)
+
+abbrev pub Demand2Values : Type 0
+Demand2Values = (f : List ℕ) → PlainAccepts f → ReadsRight f
+
+-- ---- SAME QUESTION, SAME ANSWER: an answer depends on the file's bytes and the question alone
+abbrev pub SameAnswers : Type 0
+SameAnswers = (f g : List ℕ) → f ≡ g → (k n r : ℤ) (is : List ℤ) (x : ℤ) → valueRead f k n r is x ≡ valueRead g k n r is x
