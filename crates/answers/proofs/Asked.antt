@@ -9,7 +9,8 @@ use Rattle.ways.specs.Lists.{kindAmong, variableWay, entryWay}
 use Rattle.ways.specs.declared.lists.Wanted.{Wanted}
 use Rattle.ways.specs.declared.lists.Wanted.the-variants.{Number}
 use Rattle.ways.specs.declared.lists.Way.the-variants.{Found, Stopped}
-use Rattle.ways.proofs.Found.{Finds, Met, variable-finds, entry-finds, variable-inside, entry-inside}
+use Rattle.ways.proofs.Sought.{Finds}
+use Rattle.ways.proofs.Found.{Met, variable-finds, entry-finds, variable-inside, entry-inside}
 use Rattle.answers.specs.declared.Read.the-variants.{Refused}
 use Rattle.answers.specs.Answers.{elementRead, inVariable, valueRead, entryRead, padIn, padRead}
 use Rattle.answers.specs.Bounds.{Inside}

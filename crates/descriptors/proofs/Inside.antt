@@ -14,7 +14,8 @@ use Rattle.ways.specs.Lists.{kindAmong, meets, variableWay, attributeWay, entry
 use Rattle.ways.specs.declared.lists.Wanted.{Wanted}
 use Rattle.ways.specs.declared.lists.Way.{Way}
 use Rattle.ways.specs.declared.lists.Way.the-variants.{Found, Stopped}
-use Rattle.ways.proofs.Found.{Finds, Met, variable-finds, attribute-finds, entry-finds, attribute-inside, entry-inside, variable-kept, variable-inside}
+use Rattle.ways.proofs.Sought.{Finds}
+use Rattle.ways.proofs.Found.{Met, variable-finds, attribute-finds, entry-finds, attribute-inside, entry-inside, variable-right, variable-inside}
 use Rattle.descriptors.specs.declared.Field.the-variants.{Refused}
 use Rattle.descriptors.specs.Descriptors.{rowField, variableSize, variableVariance}
 use Rattle.descriptors.specs.Bounds.{fieldBytes, Holds}
@@ -34,7 +35,7 @@ module _ (f : List ℕ) where
     where
       go : (b : Bool) → eqZ k (pos 3) ≡ b → o + fieldBytes (kindAmong 3 8 k) ≤ length f
       go true e = rw e (variable-inside f o k m)
-      go false e = rw e (counted f o (right f 8 o (rw e at (variable-kept f o k m)) .sizes))
+      go false e = rw e (counted f o (right f 8 o (rw e at (variable-right f o k m)) .sizes))
 
   entry-bytes : (k : ℤ) (o : ℕ) → meets f (kindAmong 5 9 k) o ≡ true → o + fieldBytes (kindAmong 5 9 k) ≤ length f
   entry-bytes k o m = go (eqZ k (pos 5)) refl
