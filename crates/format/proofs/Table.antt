@@ -1,6 +1,6 @@
 -- A table that holds f k at each place k below its length, and tables of numbered rows. Assumes nothing.
 use mathlib.Core.Path.{_≡_, refl}
-use mathlib.Core.Bool.{Bool, true, false, cond, _&&_}
+use mathlib.Core.Bool.{Bool, true, false, cond, _&&_, _||_}
 use mathlib.Core.List.{List, [], _∷_}
 use Prim.Native.Nat.{ℕ, zero, suc, _<_, _≤_}
 use native.Mathlib.Omega.{arith}
@@ -55,3 +55,21 @@ lookup-passes t other (p ∷ ps) x o h =
 pub type-small : (t : ℕ) → typeOf t .size ≤ 8
 unfolding typeOf
 type-small t = leb→le (typeOf t .size) 8 (lookup-passes (λ (d : DataType). leb (d .size) 8) (takes 0 signed) types t tt tt)
+
+pick-size : (b : Bool) (n k : ℕ) (d : DataType) → cond b (takes n k) d .size ≡ cond b n (d .size)
+pick-size true n k d = refl
+pick-size false n k d = refl
+
+or-cond : (a b : Bool) (x y : ℕ) → cond (a || b) x y ≡ cond a x (cond b x y)
+or-cond true b x y = refl
+or-cond false b x y = refl
+
+-- sizes by groups of data types, in the order of the rows
+abbrev pub sizeBy : ℕ → ℕ
+sizeBy t =
+    cond (eqb t 1 || eqb t 11 || eqb t 41 || eqb t 51 || eqb t 52) 1
+    (cond (eqb t 2 || eqb t 12) 2 (cond (eqb t 4 || eqb t 14 || eqb t 21 || eqb t 44) 4 (cond (eqb t 22 || eqb t 31 || eqb t 45) 8 0)))
+
+pub size-by : (t : ℕ) → typeOf t .size ≡ sizeBy t
+unfolding typeOf
+size-by t = simp (pick-size, or-cond)

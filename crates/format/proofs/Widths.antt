@@ -1,14 +1,14 @@
 -- Numbers of n bytes, once for every n. Assumes nothing.
 use mathlib.Core.Path.{_≡_, refl, ap, _∙_}
 use mathlib.Core.List.{List, [], _∷_, _++_}
-use Prim.Native.Nat.{ℕ, suc, _+_, _-_, _*_, _^_, _≤_, _<_}
+use Prim.Native.Nat.{ℕ, suc, _+_, _-_, _*_, _/_, _%_, _^_, _≤_, _<_}
 use native.Mathlib.Nat.{add-zero, pow-suc, pow-le-pow-right}
 use native.Mathlib.Numerals.{add-one}
 use native.Mathlib.Omega.{arith}
 use lib.Dec.{lit<}
 use lib.ListN.{length, getD, take, drop, length-drop}
 use lib.Seq.{take-suc, drop-cons, getD-drop}
-use Rattle.format.specs.Bytes.{bigFrom, bigAt, littleOf, littleAt}
+use Rattle.format.specs.Bytes.{bigFrom, bigAt, littleOf, littleAt, Four, swappedOf}
 
 pub grow : (i : ℕ) → 256 ^ (i + 1) ≡ 256 ^ i * 256
 grow i = rw add-one (pow-suc 256 i)
@@ -56,3 +56,39 @@ big-four s at h =
     let c = big-more s at 2 (omega arith) in
     let d = big-more s at 3 (omega arith) in
     omega arith
+
+-- the same bytes, the first the least significant
+pub little-four : (s : List ℕ) (at : ℕ)
+    → at + 4 ≤ length s
+    → littleAt s at 4 ≡ ((getD s (at + 3) 0 * 256 + getD s (at + 2) 0) * 256 + getD s (at + 1) 0) * 256 + getD s at 0
+unfolding littleAt
+little-four s at h =
+    let none : littleAt s (at + 4) 0 ≡ 0 = refl in
+    let d = little-more s at 4 4 (omega arith) (omega arith) (omega arith) in
+    let c = little-more s at 3 4 (omega arith) (omega arith) (omega arith) in
+    let b = little-more s at 2 4 (omega arith) (omega arith) (omega arith) in
+    let a = rw add-zero at (little-more s at 1 4 (omega arith) (omega arith) (omega arith)) in
+    omega arith
+
+-- the four bytes of a number, from the least significant on
+module _ (a b c d : ℕ) (ha : a < 256) (hb : b < 256) (hc : c < 256) (hd : d < 256) where
+  last : (((d * 256 + c) * 256 + b) * 256 + a) % 256 ≡ a
+  last = omega (arith, ha)
+
+  third : (((d * 256 + c) * 256 + b) * 256 + a) / 256 % 256 ≡ b
+  third = let q : (((d * 256 + c) * 256 + b) * 256 + a) / 256 ≡ (d * 256 + c) * 256 + b = omega (arith, ha) in rw q (omega (arith, hb))
+
+  second : (((d * 256 + c) * 256 + b) * 256 + a) / 65536 % 256 ≡ c
+  second = let q : (((d * 256 + c) * 256 + b) * 256 + a) / 65536 ≡ d * 256 + c = omega (arith, ha, hb) in rw q (omega (arith, hc))
+
+  first : (((d * 256 + c) * 256 + b) * 256 + a) / 16777216 ≡ d
+  first = omega (arith, ha, hb, hc)
+
+  swap-bytes : swappedOf (((d * 256 + c) * 256 + b) * 256 + a) ≡ ((a * 256 + b) * 256 + c) * 256 + d
+  swap-bytes = rw (last, third, second, first)
+
+-- either order from the other
+pub swap-four : (s : List ℕ) (at : ℕ) → at + 4 ≤ length s → Four s at → swappedOf (littleAt s at 4) ≡ bigAt s at 4
+swap-four s at h b =
+    rw (little-four s at h, big-four s at h)
+    (swap-bytes (getD s at 0) (getD s (at + 1) 0) (getD s (at + 2) 0) (getD s (at + 3) 0) (b .first) (b .second) (b .third) (b .fourth))

@@ -1,5 +1,6 @@
 // Data types: element size and kind of value.
 ghost use mathlib.Core.Path.{_≡_};
+ghost use Prim.Native.Nat.{_≤_};
 ghost use Rattle.format.specs.Types.{typeOf};
 
 // The bytes of one element, 0 for a number that is no data type; and the kind of its value:
@@ -75,4 +76,23 @@ pub fn type_of(t: u32) -> DataType
     } else {
         DataType { size: 0, kind: 0 }
     }
+}
+
+// The bytes of one element of a data type, 0 for a number that is no data type. It is the size of `type_of`, without the table.
+pub fn size_of(t: u32) -> u32
+    ensures { λ r. ⌜ (r ≡ typeOf t .size) × (r ≤ 8) ⌝ }
+{
+    if (t == 1) | (t == 11) | (t == 41) | (t == 51) | (t == 52) {
+        return 1;
+    }
+    if (t == 2) | (t == 12) {
+        return 2;
+    }
+    if (t == 4) | (t == 14) | (t == 21) | (t == 44) {
+        return 4;
+    }
+    if (t == 22) | (t == 31) | (t == 45) {
+        return 8;
+    }
+    0
 }

@@ -3,7 +3,7 @@ ghost use mathlib.Core.Path.{_≡_};
 ghost use Prim.Native.Nat.{_+_, _*_, _≤_, _<_};
 ghost use lib.ListN.{length};
 ghost use Rattle.variables.specs.Limit.{capped};
-ghost use Rattle.variables.specs.Vdr.{carriedOf, vdrFields, headOf, countPlace, countRight, layoutOf, layoutFits, valueBytes, factorOf, sizeExact, dimensionsRight, recordBytes, vdrFault, dimensioned, variableOf};
+ghost use Rattle.variables.specs.Vdr.{carriedOf, vdrFields, headOf, countPlace, countRight, layoutOf, layoutFits, valueBytes, factorOf, sizeExact, dimensionsRight, spread, vdrFault, dimensioned, variableOf};
 use crate::limit;
 use format::bytes;
 use format::fields;
@@ -119,14 +119,14 @@ fn value_bytes(f: &[u8], o: usize) -> u64
 }
 
 // The size of a VDR is that of its fields, dimensions and pad value.
-fn size_exact(f: &[u8], o: usize, l: Layout) -> bool
-    requires { ⌜ (o + 128 ≤ length (now f)) × (o < 4294967296) × layoutFits l ⌝ }
+fn size_exact(f: &[u8], o: usize, l: Layout, value: u64) -> bool
+    requires { ⌜ (o + 128 ≤ length (now f)) × (o < 4294967296) × layoutFits l × (value ≡ valueBytes (now f) o) × (value ≤ 17179869184) ⌝ }
     ensures { λ r. ⌜ r ≡ sizeExact (now (f .entry)) o l ⌝ }
 {
     let dimensions = l.variances as u64 + 4 * (l.count as u64);
     let size = o as u64 + fields::nat_at(f, o) as u64;
     if fields::bit(f, o + 28, 2) {
-        return size == dimensions + value_bytes(f, o);
+        return size == dimensions + value;
     }
     size == dimensions
 }
@@ -154,11 +154,11 @@ fn factor(f: &[u8], p: usize, q: usize) -> u64
 }
 
 // The bytes of a record, and 2,147,483,648 for every larger number.
-fn record_bytes(f: &[u8], o: usize, l: Layout) -> u64
-    requires { ⌜ (o + 128 ≤ length (now f)) × (l .sizes + 4 * l .count ≤ length (now f)) × (l .variances + 4 * l .count ≤ length (now f)) ⌝ }
-    ensures { λ r. ⌜ (r ≡ capped (recordBytes (now (f .entry)) o l)) × (r ≤ 2147483648) ⌝ }
+fn record_bytes(f: &[u8], l: Layout, value: u64) -> u64
+    requires { ⌜ (l .sizes + 4 * l .count ≤ length (now f)) × (l .variances + 4 * l .count ≤ length (now f)) ⌝ }
+    ensures { λ r. ⌜ (r ≡ capped (value * spread (now (f .entry)) (l .count) (l .sizes) (l .variances))) × (r ≤ 2147483648) ⌝ }
 {
-    let mut acc = limit::cap(value_bytes(f, o));
+    let mut acc = limit::cap(value);
     let mut p = l.sizes;
     let mut q = l.variances;
     let mut left = l.count;
@@ -194,7 +194,8 @@ fn dimensioned_vdr(f: &[u8], o: usize, l: Layout) -> Variable
 {
     let end = fields::end(f);
     let n = l.count;
-    if !size_exact(f, o, l) {
+    let value = value_bytes(f, o);
+    if !size_exact(f, o, l, value) {
         return faulty(10);
     }
     if end < l.sizes + 4 * n {
@@ -206,14 +207,14 @@ fn dimensioned_vdr(f: &[u8], o: usize, l: Layout) -> Variable
     if !dimensions_right(f, l) {
         return faulty(10);
     }
-    let bytes = record_bytes(f, o, l);
+    let bytes = record_bytes(f, l, value);
     if 2147483647 < bytes {
         return faulty(10);
     }
     Variable {
         fault: 0,
         dimensions: l,
-        value: limit::cap(value_bytes(f, o)),
+        value: limit::cap(value),
         bytes,
     }
 }

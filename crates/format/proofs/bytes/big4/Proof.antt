@@ -1,86 +1,30 @@
+use mathlib.Core.Path.{_∙_, ap}
+use Prim.Native.Nat.{ℕ}
 use native.Mathlib.Omega.{arith}
-use Rattle.format.proofs.Widths.{big-four}
+use Rattle.format.specs.Bytes.{swappedOf}
+use Rattle.format.proofs.Widths.{swap-four}
 use borrow.Author.Needs.{needs}
 use Rattle.format.proofs.bytes.big4.Statement.{statement}
 use Rattle.format.proofs.bytes.big4.Tie as tie
+use Rattle.format.proofs.bytes.big4.Reads as reads
+use Rattle.format.proofs.bytes.big4.Lts as lts
+use Rattle.format.proofs.bytes.little4.Reads as little4-reads
+use Rattle.format.proofs.bytes.swapped.Reads as swapped-reads
 
-shared-slice-read-wide : tie.Need-shared-slice-read-wide
-shared-slice-read-wide c = search needs
+-- src/bytes.rt:39:13
+little4-requires : tie.Need-little4-requires
+little4-requires c κs = search needs
 
-wide-requires : tie.Need-wide-requires
-wide-requires c κs = search needs
+-- src/bytes.rt:39:5
+swapped-requires : tie.Need-swapped-requires
+swapped-requires c κs = search needs
 
-add-wide : tie.Need-add-wide
-add-wide c = search needs
-
-shared-slice-read-wide-2 : tie.Need-shared-slice-read-wide-2
-shared-slice-read-wide-2 c = search needs
-
-wide-requires-2 : tie.Need-wide-requires-2
-wide-requires-2 c κs = search needs
-
-add-wide-2 : tie.Need-add-wide-2
-add-wide-2 c = search needs
-
-shared-slice-read-wide-3 : tie.Need-shared-slice-read-wide-3
-shared-slice-read-wide-3 c = search needs
-
-wide-requires-3 : tie.Need-wide-requires-3
-wide-requires-3 c κs = search needs
-
-add-wide-3 : tie.Need-add-wide-3
-add-wide-3 c = search needs
-
-shared-slice-read-wide-4 : tie.Need-shared-slice-read-wide-4
-shared-slice-read-wide-4 c = search needs
-
-wide-requires-4 : tie.Need-wide-requires-4
-wide-requires-4 c κs = search needs
-
-mul-result : tie.Need-mul-result
-mul-result c = search needs
-
-add-result : tie.Need-add-result
-add-result c = search needs
-
-mul-result-2 : tie.Need-mul-result-2
-mul-result-2 c = search needs
-
-add-result-2 : tie.Need-add-result-2
-add-result-2 c = search needs
-
-mul-result-3 : tie.Need-mul-result-3
-mul-result-3 c = search needs
-
-add-result-3 : tie.Need-add-result-3
-add-result-3 c = search needs
-
-cast-result : tie.Need-cast-result
-cast-result c = search needs
-
+-- src/bytes.rt:35:1
 returns : tie.Need-returns
-returns c = let a = c .before .before .before .before .before .before .before .before .before .args in omega (arith, big-four (a .s .now) (a .at) (omega arith))
+returns c =
+    let a = c .before .before .before .args in
+    let l = c .before .little4 .ensures in
+    c .swapped .ensures ∙ ap (λ (n : ℕ). swappedOf n) (l .0) ∙ swap-four (a .s .now) (a .at) (omega arith) (l .1)
 
 pub big4-spec : {M : Type 1} → statement M
-big4-spec =
-    tie.close
-    (tie.spec
-    shared-slice-read-wide
-    wide-requires
-    add-wide
-    shared-slice-read-wide-2
-    wide-requires-2
-    add-wide-2
-    shared-slice-read-wide-3
-    wide-requires-3
-    add-wide-3
-    shared-slice-read-wide-4
-    wide-requires-4
-    mul-result
-    add-result
-    mul-result-2
-    add-result-2
-    mul-result-3
-    add-result-3
-    cast-result
-    returns)
+big4-spec = tie.close (tie.spec little4-requires swapped-requires returns)

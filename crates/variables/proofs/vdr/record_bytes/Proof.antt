@@ -1,5 +1,5 @@
 use mathlib.Core.Path.{_≡_, sym, _∙_}
-use Rattle.variables.specs.Vdr.{spread, recordBytes}
+use Rattle.variables.specs.Vdr.{spread}
 use Rattle.variables.proofs.Capped.{within, spread-more, spread-none, capped-times}
 use native.Mathlib.Omega.{arith}
 use Prim.Native.Nat.{_+_, _*_, _≤_}
@@ -10,13 +10,10 @@ use Rattle.variables.proofs.vdr.record_bytes.Statement.{statement}
 use Rattle.variables.proofs.vdr.record_bytes.Tie as tie
 
 abbrev Inv-loop : tie.InvT-loop
-Inv-loop f o acc₀ p₀ q₀ left₀ acc p q left = (p + 4 * left ≤ length f) × (q + 4 * left ≤ length f) × (acc ≤ 2147483648) × (capped (acc * spread f left p q) ≡ capped (acc₀ * spread f left₀ p₀ q₀))
+Inv-loop f value acc₀ p₀ q₀ left₀ acc p q left = (p + 4 * left ≤ length f) × (q + 4 * left ≤ length f) × (acc ≤ 2147483648) × (capped (acc * spread f left p q) ≡ capped (acc₀ * spread f left₀ p₀ q₀))
 
 abbrev μ-loop : tie.MeasureT-loop
-μ-loop f o acc₀ p₀ q₀ left₀ acc p q left = left
-
-value-bytes-requires : tie.Need-value-bytes-requires Inv-loop μ-loop
-value-bytes-requires c κs = search needs
+μ-loop f value acc₀ p₀ q₀ left₀ acc p q left = left
 
 cap-requires : tie.Need-cap-requires Inv-loop μ-loop
 cap-requires c κs = search needs
@@ -50,16 +47,15 @@ loop-less c = search needs
 
 loop-again : tie.Need-loop-again Inv-loop μ-loop
 loop-again c =
-    let a = c .before .before .before .before .before .before .before .args in
+    let a = c .before .before .before .before .before .before .args in
     let l = c .before .before .before .loop in
     (omega arith, omega arith, c .cap2 .ensures .1, rw (c .cap2 .ensures .0, c .before .factor .ensures .0) (spread-more (a .f .now) (l .left) (l .p) (l .q) (l .acc) (c .before .before .loop-test .taken) ∙ l .inv .3))
 
 returns : tie.Need-returns Inv-loop μ-loop
-unfolding recordBytes
 returns c =
-    let a = c .before .before .before .before .before .args in
+    let a = c .before .before .before .before .args in
     let l = c .before .loop in
-    let start = rw (c .before .before .cap .ensures .0, c .before .before .before .value-bytes .ensures .0) at (l .inv .3) in
+    let start = rw (c .before .before .cap .ensures .0) at (l .inv .3) in
     (sym (spread-none (a .f .now) (l .left) (l .p) (l .q) (l .acc) (l .inv .2) (c .loop-test .left)) ∙ start ∙ capped-times _ _, l .inv .2)
 
 pub record-bytes-spec : {M : Type 1} → statement M
@@ -68,7 +64,6 @@ record-bytes-spec =
     (tie.spec
     Inv-loop
     μ-loop
-    value-bytes-requires
     cap-requires
     loop-holds
     factor-requires

@@ -25,15 +25,12 @@ add-bit c = search needs
 bit-requires : tie.Need-bit-requires
 bit-requires c κs = search needs
 
-value-bytes-requires : tie.Need-value-bytes-requires
-value-bytes-requires c κs = search needs
-
 add-result : tie.Need-add-result
 add-result c = search needs
 
 returns : tie.Need-returns
 unfolding sizeExact padBytes
-returns c = simp (c .before .if1 .taken, ← c .before .before .bit .ensures, ← c .value-bytes .ensures .0, ← c .before .before .before .nat-at .ensures .0)
+returns c = simp (c .if1 .taken, ← c .before .bit .ensures, ← c .before .before .before .before .pre .3, ← c .before .before .nat-at .ensures .0)
 
 returns-2 : tie.Need-returns-2
 unfolding sizeExact padBytes
@@ -50,7 +47,6 @@ size-exact-spec =
     add-size
     add-bit
     bit-requires
-    value-bytes-requires
     add-result
     returns
     returns-2)
