@@ -284,7 +284,7 @@ module _ (f : List ℕ) where
   unfolding otherFile
   noted-own n m h = rw (eq-eqb n (length f) (h .0), le-ltb (length m) n (omega arith)) (and-false (not (eqb n 0)))
 
-  sound-own : (n : ℕ) (m : List ℕ) (s : Stage) → SoundBy (Own f) f n m s → Own f n m
+  pub sound-own : (n : ℕ) (m : List ℕ) (s : Stage) → SoundBy (Own f) f n m s → Own f n m
   unfolding otherFile
   sound-own n m Fresh h = rw h
   sound-own n m (Sweep o) h = noted-own n m (h .0)

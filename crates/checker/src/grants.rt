@@ -1,35 +1,12 @@
 // Grants of steps on a saved state, as C calls them.
 ghost use mathlib.Core.Path.{_≡_};
-ghost use Prim.Native.Nat.{_≤_};
-ghost use lib.ListN.{length};
-ghost use mathlib.Core.Bool.{false};
-ghost use Rattle.checker.specs.Step.{conf, finished, answerOf, runOf};
-ghost use Rattle.checker.specs.Ready.{VerdictFits, Loaded};
+ghost use Rattle.checker.specs.Step.{answerOf};
+ghost use Rattle.checker.specs.Ready.{VerdictFits};
 ghost use Rattle.checker.specs.Grant.{granted, otherFile, grantOf, begun, beginOf};
-ghost use Rattle.checker.specs.Ran.{ranOf};
 use crate::saved;
 use crate::state::Stage;
 use crate::state::State;
-use crate::steps;
-
-// Where a run stands, and how many steps it made.
-struct Ran {
-    state: State,
-    made: u64,
-}
-
-// A check is finished.
-fn is_finished(g: Stage) -> bool
-    ensures { λ r. ⌜ r ≡ finished g ⌝ }
-{
-    match g {
-        Stage::Fresh => false,
-        Stage::Sweep { at: _ } => false,
-        Stage::Walking { walk: _ } => false,
-        Stage::Done { verdict: _ } => true,
-        Stage::Strange => false,
-    }
-}
+use crate::stretches;
 
 // -1 for a check that is not finished, or its verdict.
 fn answer(g: Stage) -> i32
@@ -43,24 +20,6 @@ fn answer(g: Stage) -> i32
         Stage::Done { verdict } => verdict as i32,
         Stage::Strange => -1,
     }
-}
-
-// Up to n steps.
-fn run(f: &[u8], m: &mut [u8], s: State, n: u64) -> Ran
-    requires { ⌜ Loaded (s .length) (s .stage) × (otherFile (now f) (now m) (s .length) ≡ false) ⌝ }
-    ensures { λ r. ⌜ ranOf r (now (m .exit)) ≡ runOf (now (f .entry)) (conf s (now (m .entry))) n ⌝ }
-{
-    let mut t = s;
-    let mut k: u64 = 0;
-    while k < n {
-        let g = t.stage;
-        if is_finished(g) {
-            return Ran { state: t, made: k };
-        }
-        t = steps::step(f, m, t);
-        k += 1;
-    }
-    Ran { state: t, made: k }
 }
 
 // The file's length is not the noted one, or the marks are shorter than it.
@@ -105,7 +64,7 @@ pub extern "C" fn tlz_check_grant(
     }
     let s = saved::load_state(state);
     let g = s.stage;
-    if is_finished(g) {
+    if stretches::is_finished(g) {
         return answer(g);
     }
     if grant == 0 {
@@ -114,7 +73,7 @@ pub extern "C" fn tlz_check_grant(
     if other_file(file, marks, s.length) {
         return 21;
     }
-    let ran = run(file, marks, s, grant);
+    let ran = stretches::run(file, marks, s, grant);
     let t = ran.state;
     saved::save_state(state, t);
     *steps = ran.made;

@@ -172,7 +172,7 @@ fn record_bytes(f: &[u8], l: Layout, value: u64) -> u64
 }
 
 // A VDR that breaks a rule.
-fn faulty(v: u32) -> Variable
+pub fn faulty(v: u32) -> Variable
     ensures { λ r. ⌜ r ≡ vdrFault v ⌝ }
 {
     Variable {

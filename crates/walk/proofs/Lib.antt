@@ -1,3 +1,4 @@
 pub mod Firsts
 pub mod Entered
 pub mod Closed
+pub mod Kept

@@ -1,3 +1,4 @@
 pub mod Numbers
 pub mod Walk
 pub mod Bounds
+pub mod Known

@@ -3,6 +3,7 @@ ghost use mathlib.Core.Path.{_≡_};
 ghost use mathlib.Core.Bool.{true};
 ghost use Prim.Native.Nat.{_+_, _-_, _≤_, _<_};
 ghost use lib.ListN.{length};
+ghost use Rattle.variables.specs.Vdr.{variableOf};
 ghost use Rattle.walk.specs.Walk.{chainTally, chainOver, entered, covers, valuesNumber, vxrTaken, entryRefused, turnOf};
 ghost use Rattle.walk.specs.declared.places.Walk.the-variants.{Chain, Entry as AtEntry};
 use crate::links;
@@ -12,7 +13,6 @@ use crate::places::Walk;
 use format::fields;
 use records::index;
 use records::index::Entry;
-use variables::vdr;
 use variables::vdr::Variable;
 
 // 11 unless VXRtail is the last VXR, then 12 unless MaxRec is -1 or covered.
@@ -137,14 +137,14 @@ fn entry_refused(e: Entry, typed: u32, late: u32) -> Turn
     }
 }
 
-// An entry of an index record.
-pub fn entry_turn(f: &[u8], u: Var, x: u32, i: u32, floor: u32, covered: bool) -> Turn
-    requires { ⌜ (x < 2147483648) × (i < 2147483648) ⌝ }
+// An entry of an index record, of the variable v.
+pub fn entry_turn(f: &[u8], u: Var, v: Variable, x: u32, i: u32, floor: u32, covered: bool) -> Turn
+    requires { ⌜ (v ≡ variableOf (now f) (u .kind) (u .vdr)) × (x < 2147483648) × (i < 2147483648) ⌝ }
     ensures { λ r. ⌜ r ≡ turnOf (now (f .entry)) (AtEntry u x i floor covered) ⌝ }
 {
     let e = index::entry_at(f, x, i, floor);
     let typed = links::type_number(f, e.link, 7);
-    let late = values_number(f, vdr::variable_at(f, u.kind, u.vdr), e);
+    let late = values_number(f, v, e);
     if e.fault != 0 {
         return entry_refused(e, typed, late);
     }

@@ -2,15 +2,17 @@
 ghost use mathlib.Core.Path.{_≡_};
 ghost use Rattle.walk.specs.Walk.{turnOf};
 ghost use Rattle.walk.specs.Bounds.{Within};
+ghost use Rattle.walk.specs.Known.{Looked};
 use crate::attrs;
 use crate::index;
 use crate::places::Turn;
 use crate::places::Walk;
 use crate::vars;
+use variables::vdr::Variable;
 
-// What the next link of the walk says.
-pub fn turn(f: &[u8], w: Walk) -> Turn
-    requires { ⌜ Within w ⌝ }
+// What the next link of the walk says, with the variable that was looked at.
+pub fn turn(f: &[u8], w: Walk, v: Variable) -> Turn
+    requires { ⌜ Within w × Looked (now f) v w ⌝ }
     ensures { λ r. ⌜ r ≡ turnOf (now (f .entry)) w ⌝ }
 {
     match w {
@@ -20,7 +22,7 @@ pub fn turn(f: &[u8], w: Walk) -> Turn
             link,
             count,
             greatest,
-        } => vars::vars_turn(f, kind, link, count, greatest),
+        } => vars::vars_turn(f, v, kind, link, count, greatest),
         Walk::Chain {
             var,
             link,
@@ -34,7 +36,7 @@ pub fn turn(f: &[u8], w: Walk) -> Turn
             entry,
             floor,
             covered,
-        } => index::entry_turn(f, var, vxr, entry, floor, covered),
+        } => index::entry_turn(f, var, v, vxr, entry, floor, covered),
         Walk::Attrs { link, count } => attrs::attrs_turn(f, link, count),
         Walk::Entries {
             kind,

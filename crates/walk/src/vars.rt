@@ -2,6 +2,8 @@
 ghost use mathlib.Core.Path.{_≡_};
 ghost use Prim.Native.Nat.{_+_, _≤_, _<_};
 ghost use lib.ListN.{length};
+ghost use Rattle.format.specs.Fields.{endOf, linkAt};
+ghost use Rattle.variables.specs.Vdr.{variableOf};
 ghost use Rattle.walk.specs.Walk.{varsTally, afterVars, varNumber, intoIndex, varsOver, varTaken, turnOf, Gdr};
 ghost use Rattle.walk.specs.declared.places.Walk.the-variants.{Start, Vars};
 use crate::attrs;
@@ -11,6 +13,7 @@ use crate::places::Var;
 use crate::places::Walk;
 use format::fields;
 use variables::vdr;
+use variables::vdr::Variable;
 
 // The CDR's link to the GDR.
 pub fn start_turn(f: &[u8]) -> Turn
@@ -82,28 +85,28 @@ fn vars_over(f: &[u8], kind: u32, count: u32, greatest: u32) -> Turn
     }
 }
 
-// 14, 10, 11 in this order, or 0: compressed values, the VDR's rule, its Num.
-fn var_number(f: &[u8], kind: u32, count: u32, o: u32) -> u32
+// 14, 10, 11 in this order, or 0: compressed values, the VDR's rule, its Num. The VDR at o is v.
+fn var_number(f: &[u8], kind: u32, v: Variable, count: u32, o: u32) -> u32
+    requires { ⌜ v ≡ variableOf (now f) kind o ⌝ }
     ensures { λ r. ⌜ (r ≡ varNumber (now (f .entry)) kind count o) × (r ≡ 0 → o + 128 ≤ length (now (f .entry))) ⌝ }
 {
     let carried = vdr::carried(f, o);
     if carried != 0 {
         return carried;
     }
-    let v = vdr::variable_at(f, kind, o);
     if v.fault != 0 {
         return v.fault;
     }
     links::unless_passed(11, fields::is_nat(f, o as usize + 52, count))
 }
 
-// A link to a VDR of a kind.
-fn var_taken(f: &[u8], kind: u32, count: u32, greatest: u32, o: u32) -> Turn
-    requires { ⌜ o < 2147483648 ⌝ }
+// A link to a VDR of a kind, which is v.
+fn var_taken(f: &[u8], kind: u32, v: Variable, count: u32, greatest: u32, o: u32) -> Turn
+    requires { ⌜ (v ≡ variableOf (now f) kind o) × (o < 2147483648) ⌝ }
     ensures { λ r. ⌜ r ≡ varTaken (now (f .entry)) kind count greatest o ⌝ }
 {
     let typed = links::type_number(f, o, kind);
-    let late = var_number(f, kind, count, o);
+    let late = var_number(f, kind, v, count, o);
     if late != 0 {
         return links::refused(o, typed, late);
     }
@@ -127,8 +130,9 @@ fn var_taken(f: &[u8], kind: u32, count: u32, greatest: u32, o: u32) -> Turn
     }
 }
 
-// A link of the list of variables of a kind.
-pub fn vars_turn(f: &[u8], kind: u32, link: u32, count: u32, greatest: u32) -> Turn
+// A link of the list of variables of a kind; the VDR that it leads to is v.
+pub fn vars_turn(f: &[u8], v: Variable, kind: u32, link: u32, count: u32, greatest: u32) -> Turn
+    requires { ⌜ (link + 4 ≤ endOf (now f) → v ≡ variableOf (now f) kind (linkAt (now f) link)) ⌝ }
     ensures { λ r. ⌜ r ≡ turnOf (now (f .entry)) (Vars kind link count greatest) ⌝ }
 {
     let p = link as usize;
@@ -139,5 +143,5 @@ pub fn vars_turn(f: &[u8], kind: u32, link: u32, count: u32, greatest: u32) -> T
     if o == 0 {
         return vars_over(f, kind, count, greatest);
     }
-    var_taken(f, kind, count, greatest, o)
+    var_taken(f, kind, v, count, greatest, o)
 }

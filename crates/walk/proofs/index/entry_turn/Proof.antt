@@ -16,45 +16,44 @@ entry-at-requires c κs = search needs
 type-number-requires : tie.Need-type-number-requires
 type-number-requires c κs = search needs
 
-variable-at-requires : tie.Need-variable-at-requires
-variable-at-requires c κs = search needs
-
 values-number-requires : tie.Need-values-number-requires
 values-number-requires c κs =
-    let a = c .before .before .before .before .args in
-    let e = c .before .before .entry-at in
-    (rw (c .variable-at .ensures) (bytes-small (a .f .now) (a .u .kind) (a .u .vdr)), e .ensures .1 .order, e .ensures .1 .small)
+    let a = c .before .before .before in
+    let e = c .before .entry-at in
+    (rw (a .pre .0) (bytes-small (a .args .f .now) (a .args .u .kind) (a .args .u .vdr)), e .ensures .1 .order, e .ensures .1 .small)
 
 entry-refused-requires : tie.Need-entry-refused-requires
 entry-refused-requires c κs = search needs
 
 returns : tie.Need-returns
 returns c =
-    let a = c .before .before .before .before .before .before .before .before .args in
-    let e = c .before .before .before .before .before .before .entry-at in
+    let a = c .before .before .before .before .before .before .before in
+    let e = c .before .before .before .before .before .entry-at in
+    let t = c .before .before .before .before .type-number in
     let n = c .before .before .before .values-number in
     c .entry-refused .ensures
-    ∙ early-refused (a .f .now) (a .u) (a .x) (a .i) (a .floor) (a .covered) (e .result) (c .before .before .before .before .before .type-number .result) (n .result) (e .ensures .0) (c .before .before .before .before .before .type-number .ensures)
-    (n .ensures .0 ∙ ap (λ (v : Variable). valuesNumber (a .f .now) v (e .result)) (c .before .before .before .before .variable-at .ensures)) (c .before .if1 .taken)
+    ∙ early-refused (a .args .f .now) (a .args .u) (a .args .x) (a .args .i) (a .args .floor) (a .args .covered) (e .result) (t .result) (n .result) (e .ensures .0) (t .ensures)
+    (n .ensures .0 ∙ ap (λ (v : Variable). valuesNumber (a .args .f .now) v (e .result)) (a .pre .0)) (c .before .if1 .taken)
 
 entry-refused-requires-2 : tie.Need-entry-refused-requires-2
 entry-refused-requires-2 c κs = search needs
 
 returns-2 : tie.Need-returns-2
 returns-2 c =
-    let a = c .before .before .before .before .before .before .before .before .before .args in
-    let e = c .before .before .before .before .before .before .before .entry-at in
+    let a = c .before .before .before .before .before .before .before .before in
+    let e = c .before .before .before .before .before .before .entry-at in
+    let t = c .before .before .before .before .before .type-number in
     let n = c .before .before .before .before .values-number in
     c .entry-refused2 .ensures
-    ∙ late-refused (a .f .now) (a .u) (a .x) (a .i) (a .floor) (a .covered) (e .result) (c .before .before .before .before .before .before .type-number .result) (n .result) (e .ensures .0) (c .before .before .before .before .before .before .type-number .ensures)
-    (n .ensures .0 ∙ ap (λ (v : Variable). valuesNumber (a .f .now) v (e .result)) (c .before .before .before .before .before .variable-at .ensures)) (c .before .before .if1 .left) (c .before .if2 .taken)
+    ∙ late-refused (a .args .f .now) (a .args .u) (a .args .x) (a .args .i) (a .args .floor) (a .args .covered) (e .result) (t .result) (n .result) (e .ensures .0) (t .ensures)
+    (n .ensures .0 ∙ ap (λ (v : Variable). valuesNumber (a .args .f .now) v (e .result)) (a .pre .0)) (c .before .before .if1 .left) (c .before .if2 .taken)
 
 is-covered-requires : tie.Need-is-covered-requires
 is-covered-requires c κs =
-    let a = c .before .before .before .before .before .before .before .before .args in
-    let v = ap (λ (w : Variable). w .fault) (c .before .before .before .before .variable-at .ensures) in
+    let a = c .before .before .before .before .before .before .before in
+    let v = ap (λ (w : Variable). w .fault) (a .pre .0) in
     let z = c .before .before .before .values-number .ensures .1 (c .if2 .left) in
-    let h = vdr-inside (a .f .now) (a .u .kind) (a .u .vdr) (sym v ∙ z) in
+    let h = vdr-inside (a .args .f .now) (a .args .u .kind) (a .args .u .vdr) (sym v ∙ z) in
     omega (arith, h)
 
 add-enter : tie.Need-add-enter
@@ -65,19 +64,21 @@ add-enter-2 c = search needs
 
 enter-requires : tie.Need-enter-requires
 enter-requires c κs =
-    let a = c .before .before .before .before .before .before .before .before .before .before in
-    let e = c .before .before .before .before .before .before .before .before .entry-at in
-    (e .ensures .1 .inside (c .before .before .before .if1 .left), a .pre .0)
+    let a = c .before .before .before .before .before .before .before .before .before in
+    let e = c .before .before .before .before .before .before .before .entry-at in
+    (e .ensures .1 .inside (c .before .before .before .if1 .left), a .pre .1)
 
 returns-3 : tie.Need-returns-3
 returns-3 c =
-    let a = c .before .before .before .before .before .before .before .before .before .before .before .args in
-    let e = c .before .before .before .before .before .before .before .before .before .entry-at in
+    let a = c .before .before .before .before .before .before .before .before .before .before in
+    let e = c .before .before .before .before .before .before .before .before .entry-at in
+    let t = c .before .before .before .before .before .before .before .type-number in
     let n = c .before .before .before .before .before .before .values-number in
-    let t = c .before .before .before .before .before .before .before .before .type-number in
-    goes-on (a .f .now) (a .u) (a .x) (a .i) (a .floor) (a .covered) (e .result) (t .result) (n .result) (e .ensures .0) (t .ensures)
-    (n .ensures .0 ∙ ap (λ (v : Variable). valuesNumber (a .f .now) v (e .result)) (c .before .before .before .before .before .before .before .variable-at .ensures)) (c .before .before .before .before .if1 .left) (c .before .before .before .if2 .left)
-    (c .enter .result) (c .enter .ensures ∙ ap (λ (b : Bool). entered (a .f .now) (a .u) (a .x) (a .i + 1) (e .result .last + 1) (a .covered || b)) (c .before .before .is-covered .ensures))
+    goes-on (a .args .f .now) (a .args .u) (a .args .x) (a .args .i) (a .args .floor) (a .args .covered) (e .result) (t .result) (n .result) (e .ensures .0) (t .ensures)
+    (n .ensures .0 ∙ ap (λ (v : Variable). valuesNumber (a .args .f .now) v (e .result)) (a .pre .0)) (c .before .before .before .before .if1 .left) (c .before .before .before .if2 .left)
+    (c .enter .result)
+    (c .enter .ensures
+    ∙ ap (λ (b : Bool). entered (a .args .f .now) (a .args .u) (a .args .x) (a .args .i + 1) (e .result .last + 1) (a .args .covered || b)) (c .before .before .is-covered .ensures))
 
 pub entry-turn-spec : {M : Type 1} → statement M
 entry-turn-spec =
@@ -85,7 +86,6 @@ entry-turn-spec =
     (tie.spec
     entry-at-requires
     type-number-requires
-    variable-at-requires
     values-number-requires
     entry-refused-requires
     returns

@@ -15,19 +15,22 @@ enum-known-w : tie.Need-enum-known-w
 enum-known-w c = search needs
 
 vars-turn-requires : tie.Need-vars-turn-requires
-vars-turn-requires c κs = search needs
+vars-turn-requires c κs = rw (c .before .w .given .1) at (c .before .before .before .before .pre .1)
 
 enum-known-w-2 : tie.Need-enum-known-w-2
 enum-known-w-2 c = search needs
 
 chain-turn-requires : tie.Need-chain-turn-requires
-chain-turn-requires c κs = let s = (rw (c .before .w2 .given .1) at (c .before .before .before .before .pre)) .small in omega arith
+chain-turn-requires c κs = let s = (rw (c .before .w2 .given .1) at (c .before .before .before .before .pre .0)) .small in omega arith
 
 enum-known-w-3 : tie.Need-enum-known-w-3
 enum-known-w-3 c = search needs
 
 entry-turn-requires : tie.Need-entry-turn-requires
-entry-turn-requires c κs = let s = (rw (c .before .w3 .given .1) at (c .before .before .before .before .pre)) .small in omega arith
+entry-turn-requires c κs =
+    let p = c .before .before .before .before .pre in
+    let s = (rw (c .before .w3 .given .1) at (p .0)) .small in
+    (rw (c .before .w3 .given .1) at (p .1), omega arith, omega arith)
 
 enum-known-w-4 : tie.Need-enum-known-w-4
 enum-known-w-4 c = search needs
@@ -39,7 +42,7 @@ enum-known-w-5 : tie.Need-enum-known-w-5
 enum-known-w-5 c = search needs
 
 entries-turn-requires : tie.Need-entries-turn-requires
-entries-turn-requires c κs = let s = (rw (c .before .w5 .given .1) at (c .before .before .before .before .pre)) .small in omega arith
+entries-turn-requires c κs = let s = (rw (c .before .w5 .given .1) at (c .before .before .before .before .pre .0)) .small in omega arith
 
 enum-known-w-6 : tie.Need-enum-known-w-6
 enum-known-w-6 c = search needs

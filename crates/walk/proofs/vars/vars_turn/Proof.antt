@@ -1,3 +1,7 @@
+use mathlib.Core.Path.{_≡_}
+use Prim.Native.Nat.{_+_, _≤_}
+use native.Mathlib.Omega.{arith}
+use Rattle.format.specs.Fields.{endOf}
 use borrow.Author.Tests.{lt-ltb, le-ltb, lt-leb, le-leb, eq-eqb, ne-eqb}
 use Rattle.walk.specs.Walk.{turnOf, followed}
 use borrow.Author.Needs.{needs}
@@ -25,7 +29,11 @@ unfolding turnOf followed
 returns-2 c = simp (c .vars-over .ensures, eq-eqb _ _ (c .before .if2 .taken), ← c .before .before .link-at .ensures .0, le-ltb _ _ (c .before .before .before .if1 .left), le-leb _ _ (c .before .before .before .if1 .left), ← c .before .before .before .before .end .ensures .0)
 
 var-taken-requires : tie.Need-var-taken-requires
-var-taken-requires c κs = search needs
+var-taken-requires c κs =
+    let a = c .before .before .before .before .before in
+    let l = c .before .link-at in
+    let inside : a .args .link + 4 ≤ endOf (a .args .f .now) = omega (arith, c .before .before .before .end .ensures .0) in
+    (rw (l .ensures .0) (a .pre inside), l .ensures .1)
 
 returns-3 : tie.Need-returns-3
 unfolding turnOf followed

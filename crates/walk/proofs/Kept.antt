@@ -1,0 +1,82 @@
+-- What is known of the variable that the walk is at stays known. Assumes nothing.
+use mathlib.Core.Path.{_≡_, refl}
+use mathlib.Core.Bool.{Bool, true, false, cond, _&&_, _||_}
+use mathlib.Core.List.{List}
+use Prim.Native.Nat.{ℕ, _+_, max}
+use lib.Dec.{ltb, leb, eqb}
+use borrow.Author.Tests.{ltb-false}
+use Rattle.format.specs.Fields.{endOf, afterAt, linkAt}
+use Rattle.records.specs.Opening.{gdrAt}
+use Rattle.records.specs.Index.{usedAt, entryOf}
+use Rattle.variables.specs.declared.vdr.Variable.{Variable}
+use Rattle.walk.specs.Walk.{followed, gdrThere, takes, afterVars, intoIndex, varTaken, varsOver, entered, covers, entriesTally, afterEntries, entryTaken, turnOf}
+use Rattle.walk.specs.declared.places.Var.{Var}
+use Rattle.walk.specs.declared.places.Walk as W
+use Rattle.walk.specs.declared.places.Walk.the-variants.{Start, Vars, Chain, Entry, Attrs, Entries, Unused}
+use Rattle.walk.specs.declared.places.Turn as T
+use Rattle.walk.specs.declared.places.Turn.the-variants.{Over, End, Take}
+use Rattle.walk.specs.Known.{Known, Looked}
+use Rattle.walk.proofs.Closed.{cond-keeps, link-keeps}
+
+module _ (f : List ℕ) (v : Variable) where
+  abbrev pub NextKnown : T.Turn → Type 0
+  NextKnown (Over n w) = Known f v w
+  NextKnown (End n) = Unit {0}
+  NextKnown (Take early t typed late w) = Known f v w
+
+  pub record TurnKnown (t : T.Turn) : Type 0 where
+    pub next-known : NextKnown t
+
+  -- a place of the walk, with the variable
+  record At (w : W.Walk) : Type 0 where
+    at : Known f v w
+
+  over-known : {n : ℕ} (w : W.Walk) → At w → TurnKnown (Over n w)
+  over-known w h = record { next-known = h .at }
+
+  end-known : {n : ℕ} → TurnKnown (End n)
+  end-known = record { next-known = tt }
+
+  takes-known : {early o typed late : ℕ} (w : W.Walk) → At w → TurnKnown (takes early o typed late w)
+  takes-known {early} {o} {typed} {late} w h =
+      record { next-known = cond-keeps At (eqb early 0 && eqb late 0) h (record { at = tt }) .at }
+
+  entered-known : (u : Var) (x i floor : ℕ) (c : Bool) → At (Chain u (x + 8) x floor c) → At (entered f u x i floor c)
+  entered-known u x i floor c h = cond-keeps At (ltb i (usedAt f x)) (record { at = h .at }) h
+
+  none : {w : W.Walk} → Known f v w → At w
+  none h = record { at = h }
+
+  -- the step of a link that was looked at leads to a place whose variable is known
+  pub known-turn : (w : W.Walk) → Looked f v w → TurnKnown (turnOf f w)
+  unfolding turnOf followed
+  known-turn Start h = cond-keeps TurnKnown (leb 20 (endOf f)) (takes-known (Vars 3 (gdrAt f + 8) 0 0) (none tt)) end-known
+  known-turn (Vars k p n greatest) h = go (ltb (endOf f) (p + 4)) refl
+    where
+      go : (b : Bool) → ltb (endOf f) (p + 4) ≡ b
+          → TurnKnown (cond b (End 20) (cond (eqb (linkAt f p) 0) (varsOver f k n greatest) (varTaken f k n greatest (linkAt f p))))
+      go true e = end-known
+      go false e =
+          cond-keeps TurnKnown (eqb (linkAt f p) 0)
+          (cond-keeps TurnKnown (gdrThere f)
+          (over-known (afterVars f k) (cond-keeps At (eqb k 8) (none tt) (none tt))) end-known)
+          (takes-known (intoIndex f k n greatest (linkAt f p)) (none (h (ltb-false (endOf f) (p + 4) e))))
+  known-turn (Chain u p x floor c) h =
+      link-keeps f TurnKnown p end-known
+      (cond-keeps TurnKnown (ltb (endOf f) (u .vdr + 28)) end-known
+      (over-known (Vars (u .kind) (u .vdr + 8) (u .place + 1) (u .greatest)) (none tt)))
+      (takes-known (entered f u (linkAt f p) 0 floor c) (entered-known u (linkAt f p) 0 floor c (none h)))
+  known-turn (Entry u x i floor c) h =
+      let e = entryOf f x i floor in
+      let d = c || covers f (u .vdr) e in
+      takes-known (entered f u x (i + 1) (e .last + 1) d) (entered-known u x (i + 1) (e .last + 1) d (none h))
+  known-turn (Attrs p n) h =
+      link-keeps f TurnKnown p end-known
+      (cond-keeps TurnKnown (gdrThere f) (over-known (Unused (gdrAt f + 44) 0) (none tt)) end-known)
+      (takes-known (Entries 5 (linkAt f p) n (linkAt f p + 12) 0 0) (none tt))
+  known-turn (Entries k a n p e greatest) h =
+      cond-keeps TurnKnown (ltb (endOf f) (a + 48) || ltb 2147483646 e) end-known
+      (link-keeps f TurnKnown p end-known
+      (over-known (afterEntries k a n) (cond-keeps At (eqb k 9) (none tt) (none tt)))
+      (takes-known (Entries k a n (linkAt f p + 8) (e + 1) (max (afterAt f (linkAt f p + 20)) greatest)) (none tt)))
+  known-turn (Unused p b) h = link-keeps f TurnKnown p end-known end-known (takes-known (Unused (linkAt f p + 8) (linkAt f p)) (none tt))
