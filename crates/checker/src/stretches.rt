@@ -43,13 +43,13 @@ fn sweep_stretch(f: &[u8], m: &mut [u8], s: State, from: u32, n: u64) -> Ran
     loop {
         t = steps::sweep(f, m, t.length, at);
         k += 1;
-        if k == n {
-            return Ran { state: t, made: k };
-        }
         let g = t.stage;
         let Stage::Sweep { at: next } = g else {
             return Ran { state: t, made: k };
         };
+        if k == n {
+            return Ran { state: t, made: k };
+        }
         at = next;
     }
 }
@@ -67,13 +67,13 @@ fn walk_stretch(f: &[u8], m: &mut [u8], s: State, from: Walk, n: u64) -> Ran
         v = known::looked(f, w, v);
         t = steps::walk_on(f, m, t.length, w, v);
         k += 1;
-        if k == n {
-            return Ran { state: t, made: k };
-        }
         let g = t.stage;
         let Stage::Walking { walk: next } = g else {
             return Ran { state: t, made: k };
         };
+        if k == n {
+            return Ran { state: t, made: k };
+        }
         w = next;
     }
 }

@@ -38,6 +38,9 @@ walk-on-requires c κs =
 add-k : tie.Need-add-k Inv-loop μ-loop
 add-k c = search needs
 
+enum-known-g : tie.Need-enum-known-g Inv-loop μ-loop
+enum-known-g c = search needs
+
 same-length : tie.Need-same-length Inv-loop μ-loop
 same-length c = search needs
 
@@ -47,21 +50,18 @@ returns c =
     let a = c .before .before .before .before .before .before .before .before .before .before .args in
     let d = c .before .before .before .walk-on in
     let more = once-of (a .f .now) (conf (a .s) (a .m .now)) (l .k) (l .t) (l .m) (l .inv .4) (Walking (l .w)) (l .inv .2) refl (d .result) _ (d .ensures) in
-    (more, omega arith, omega (arith, c .if1 .taken))
-
-enum-known-g : tie.Need-enum-known-g Inv-loop μ-loop
-enum-known-g c = search needs
+    (more, omega arith, omega (arith, l .inv .0))
 
 same-length-2 : tie.Need-same-length-2 Inv-loop μ-loop
 same-length-2 c = search needs
 
 returns-2 : tie.Need-returns-2 Inv-loop μ-loop
 returns-2 c =
-    let l = c .before .before .before .before .before .before .before .loop in
-    let a = c .before .before .before .before .before .before .before .before .before .before .before .args in
-    let d = c .before .before .before .before .walk-on in
+    let l = c .before .before .before .before .before .before .before .before .before .loop in
+    let a = c .before .before .before .before .before .before .before .before .before .before .before .before .before .args in
+    let d = c .before .before .before .before .before .before .walk-on in
     let more = once-of (a .f .now) (conf (a .s) (a .m .now)) (l .k) (l .t) (l .m) (l .inv .4) (Walking (l .w)) (l .inv .2) refl (d .result) _ (d .ensures) in
-    (more, omega arith, omega (arith, l .inv .0))
+    (more, omega arith, omega (arith, c .if1 .taken))
 
 loop-less : tie.Need-loop-less Inv-loop μ-loop
 loop-less c = search needs
@@ -72,11 +72,12 @@ loop-again c =
     let a = c .before .before .before .before .before .before .before .before .before .before .before .before .before .args in
     let d = c .before .before .before .before .before .before .walk-on in
     let more = once-of (a .f .now) (conf (a .s) (a .m .now)) (l .k) (l .t) (l .m) (l .inv .4) (Walking (l .w)) (l .inv .2) refl (d .result) _ (d .ensures) in
-    let k = c .before .before .before .before .before .before .before .before .looked in (
-      omega (arith, l .inv .0, c .before .before .before .if1 .left),
+    let k = c .before .before .before .before .before .before .before .before .looked in
+    let g = c .before .before .g .given .1 in (
+      omega (arith, l .inv .0, c .if1 .left),
       search needs,
-      c .before .g .given .1,
-      known-step (a .f .now) (k .result) (l .m) (l .t .length) (l .w) (k .ensures) (d .result) _ (d .ensures) _ (c .before .g .given .1),
+      g,
+      known-step (a .f .now) (k .result) (l .m) (l .t .length) (l .w) (k .ensures) (d .result) _ (d .ensures) _ g,
       more,
     )
 
@@ -91,9 +92,9 @@ walk-stretch-spec =
     looked-requires
     walk-on-requires
     add-k
+    enum-known-g
     same-length
     returns
-    enum-known-g
     same-length-2
     returns-2
     loop-less
