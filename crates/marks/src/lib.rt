@@ -56,7 +56,7 @@ fn is_unclaimed(f: &[u8], m: &[u8], o: usize) -> bool
     requires { ⌜ (length (now f) ≤ length (now m)) × (o + 8 ≤ length (now f)) ⌝ }
     ensures { λ r. ⌜ r ≡ unclaimedAt (now (f .entry)) (now (m .entry)) o ⌝ }
 {
-    (o != 8) & !fields::is(f, o + 4, -1) & (m[o] != 2)
+    (m[o] != 2) & (o != 8) & !fields::is(f, o + 4, -1)
 }
 
 // The record at an offset has 8 bytes or more and ends in the file.

@@ -2,6 +2,7 @@
 ghost use mathlib.Core.Path.{_≡_};
 ghost use Prim.Native.Nat.{_+_, _*_, _≤_, _<_};
 ghost use lib.ListN.{length};
+ghost use Rattle.records.specs.Attributes.{elementSize};
 ghost use Rattle.variables.specs.Limit.{capped};
 ghost use Rattle.variables.specs.Vdr.{carriedOf, vdrFields, headOf, countPlace, countRight, layoutOf, layoutFits, valueBytes, factorOf, sizeExact, dimensionsRight, spread, vdrFault, dimensioned, variableOf};
 use crate::limit;
@@ -46,13 +47,13 @@ pub fn carried(f: &[u8], at: u32) -> u32
     0
 }
 
-// The fields of a VDR but those of its dimensions.
-fn vdr_fields(f: &[u8], o: usize) -> bool
-    requires { ⌜ o + 128 ≤ length (now f) ⌝ }
+// The fields of a VDR but those of its dimensions. Its elements have element bytes.
+fn vdr_fields(f: &[u8], o: usize, element: u32) -> bool
+    requires { ⌜ (o + 128 ≤ length (now f)) × (element ≡ elementSize (now f) (o + 12)) ⌝ }
     ensures { λ r. ⌜ r ≡ vdrFields (now (f .entry)) o ⌝ }
 {
     let single = fields::is(f, o + 12, 51) | fields::is(f, o + 12, 52) | fields::is(f, o + 48, 1);
-    (1 <= attributes::element_size(f, o + 12))
+    (1 <= element)
         & fields::at_least(f, o + 16, -1)
         & (bytes::big4(f, o + 28) < 8)
         & fields::at_least(f, o + 32, 0)
@@ -109,13 +110,13 @@ fn dimensions_at(f: &[u8], kind: u32, o: usize, p: usize) -> Layout
     }
 }
 
-// The bytes of one value.
-fn value_bytes(f: &[u8], o: usize) -> u64
-    requires { ⌜ o + 128 ≤ length (now f) ⌝ }
+// The bytes of one value, of elements of element bytes.
+fn value_bytes(f: &[u8], o: usize, element: u32) -> u64
+    requires { ⌜ (o + 128 ≤ length (now f)) × (element ≡ elementSize (now f) (o + 12)) × (element ≤ 8) ⌝ }
     ensures { λ r. ⌜ (r ≡ valueBytes (now (f .entry)) o) × (r ≤ 17179869184) ⌝ }
 {
     let elements = fields::nat_at(f, o + 48) as u64;
-    elements * attributes::element_size(f, o + 12) as u64
+    elements * element as u64
 }
 
 // The size of a VDR is that of its fields, dimensions and pad value.
@@ -187,14 +188,14 @@ pub fn faulty(v: u32) -> Variable
     }
 }
 
-// A VDR whose fields are right, with its dimensions.
-fn dimensioned_vdr(f: &[u8], o: usize, l: Layout) -> Variable
-    requires { ⌜ (o + 128 ≤ length (now f)) × (o < 4294967296) × layoutFits l ⌝ }
+// A VDR whose fields are right, with its dimensions. Its elements have element bytes.
+fn dimensioned_vdr(f: &[u8], o: usize, l: Layout, element: u32) -> Variable
+    requires { ⌜ (o + 128 ≤ length (now f)) × (o < 4294967296) × layoutFits l × (element ≡ elementSize (now f) (o + 12)) × (element ≤ 8) ⌝ }
     ensures { λ r. ⌜ r ≡ dimensioned (now (f .entry)) o l ⌝ }
 {
     let end = fields::end(f);
     let n = l.count;
-    let value = value_bytes(f, o);
+    let value = value_bytes(f, o, element);
     if !size_exact(f, o, l, value) {
         return faulty(10);
     }
@@ -228,7 +229,8 @@ pub fn variable_at(f: &[u8], kind: u32, at: u32) -> Variable
     if reached != 0 {
         return faulty(reached);
     }
-    if !vdr_fields(f, o) {
+    let element = attributes::element_size(f, o + 12);
+    if !vdr_fields(f, o, element) {
         return faulty(10);
     }
     let p = count_place(f, kind, o);
@@ -238,5 +240,5 @@ pub fn variable_at(f: &[u8], kind: u32, at: u32) -> Variable
     if !count_right(f, p) {
         return faulty(10);
     }
-    dimensioned_vdr(f, o, dimensions_at(f, kind, o, p))
+    dimensioned_vdr(f, o, dimensions_at(f, kind, o, p), element)
 }

@@ -15,27 +15,20 @@ nat-at-requires c κs = search needs
 cast-elements : tie.Need-cast-elements
 cast-elements c = search needs
 
-add-element-size : tie.Need-add-element-size
-add-element-size c = search needs
-
-element-size-requires : tie.Need-element-size-requires
-element-size-requires c κs = search needs
-
-cast-result : tie.Need-cast-result
-cast-result c = search needs
-
 mul-result : tie.Need-mul-result
 mul-result c =
-    let n = c .before .nat-at in
+    let n = c .nat-at in
+    let p = c .before .before .pre in
     let k : n .result ≤ 2147483648 = omega (arith, n .ensures .1) in
-    omega (arith, mul-le-mul {n₂ = 2147483648} {m₂ = 8} k (c .element-size .ensures .1))
+    omega (arith, mul-le-mul {n₂ = 2147483648} {m₂ = 8} k (p .2))
 
 returns : tie.Need-returns
 unfolding valueBytes
 returns c =
-    let n = c .before .nat-at in
+    let n = c .nat-at in
+    let p = c .before .before .pre in
     let k : n .result ≤ 2147483648 = omega (arith, n .ensures .1) in
-    (rw (n .ensures .0, c .element-size .ensures .0), omega (arith, mul-le-mul {n₂ = 2147483648} {m₂ = 8} k (c .element-size .ensures .1)))
+    (rw (n .ensures .0, p .1), omega (arith, mul-le-mul {n₂ = 2147483648} {m₂ = 8} k (p .2)))
 
 pub value-bytes-spec : {M : Type 1} → statement M
 value-bytes-spec =
@@ -44,8 +37,5 @@ value-bytes-spec =
     add-nat-at
     nat-at-requires
     cast-elements
-    add-element-size
-    element-size-requires
-    cast-result
     mul-result
     returns)

@@ -21,12 +21,6 @@ add-is-3 c = search needs
 is-requires-3 : tie.Need-is-requires-3
 is-requires-3 c κs = search needs
 
-add-element-size : tie.Need-add-element-size
-add-element-size c = search needs
-
-element-size-requires : tie.Need-element-size-requires
-element-size-requires c κs = search needs
-
 add-at-least : tie.Need-add-at-least
 add-at-least c = search needs
 
@@ -59,7 +53,7 @@ at-least-requires-3 c κs = search needs
 
 returns : tie.Need-returns
 unfolding vdrFields
-returns c = simp (← c .at-least3 .ensures, ← c .before .at-most .ensures, ← c .before .before .at-least2 .ensures, ← c .before .before .before .big4 .ensures, ← c .before .before .before .before .at-least .ensures, ← c .before .before .before .before .before .element-size .ensures .0, ← c .before .before .before .before .before .before .is3 .ensures, ← c .before .before .before .before .before .before .before .is2 .ensures, ← c .before .before .before .before .before .before .before .before .is .ensures)
+returns c = simp (← c .at-least3 .ensures, ← c .before .at-most .ensures, ← c .before .before .at-least2 .ensures, ← c .before .before .before .big4 .ensures, ← c .before .before .before .before .at-least .ensures, ← c .before .before .before .before .before .is3 .ensures, ← c .before .before .before .before .before .before .is2 .ensures, ← c .before .before .before .before .before .before .before .is .ensures, ← c .before .before .before .before .before .before .before .before .before .pre .1)
 
 pub vdr-fields-spec : {M : Type 1} → statement M
 vdr-fields-spec =
@@ -71,8 +65,6 @@ vdr-fields-spec =
     is-requires-2
     add-is-3
     is-requires-3
-    add-element-size
-    element-size-requires
     add-at-least
     at-least-requires
     add-big4
