@@ -75,6 +75,7 @@ fileA = fileOf 372 0 0 0 []
 unfoldable pub fileB : List ℕ
 fileB = []
 
+-- A cut by a byte, and eof with it
 unfoldable pub fileC : List ℕ
 fileC = take 371 (fileOf 371 0 0 0 [])
 
