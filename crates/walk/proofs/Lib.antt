@@ -2,3 +2,4 @@ pub mod Firsts
 pub mod Entered
 pub mod Closed
 pub mod Kept
+pub mod Leads

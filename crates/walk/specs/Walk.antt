@@ -18,6 +18,8 @@ use Rattle.walk.specs.Numbers.{first, unless}
 use Rattle.walk.specs.declared.places.Var.{Var}
 use Rattle.walk.specs.declared.places.Walk as W
 use Rattle.walk.specs.declared.places.Walk.the-variants.{Start, Vars, Chain, Entry as AtEntry, Attrs, Entries, Unused}
+use Rattle.walk.specs.declared.places.Link as L
+use Rattle.walk.specs.declared.places.Link.the-variants.{Past, Zero, To}
 use Rattle.walk.specs.declared.places.Turn as T
 use Rattle.walk.specs.declared.places.Turn.the-variants.{Over, End, Take}
 
@@ -35,6 +37,10 @@ refusedBy o typed late = Take 0 o typed late Start
 -- the link that stands at p: 20 if the file ends before it; "A zero link ends a list"
 unfoldable pub followed : List ℕ → ℕ → T.Turn → (ℕ → T.Turn) → T.Turn
 followed f p zero taken = cond (ltb (endOf f) (p + 4)) (End 20) (cond (eqb (linkAt f p) 0) zero (taken (linkAt f p)))
+
+-- where that link leads
+unfoldable pub leadsTo : List ℕ → ℕ → L.Link
+leadsTo f p = cond (ltb (endOf f) (p + 4)) Past (cond (eqb (linkAt f p) 0) Zero (To (linkAt f p)))
 
 -- the GDR's fields lie in the file, and the CDR's link to it
 unfoldable pub gdrThere : List ℕ → Bool

@@ -7,6 +7,7 @@ ghost use Rattle.variables.specs.Vdr.{variableOf};
 ghost use Rattle.walk.specs.Walk.{chainTally, chainOver, entered, covers, valuesNumber, vxrTaken, entryRefused, turnOf};
 ghost use Rattle.walk.specs.declared.places.Walk.the-variants.{Chain, Entry as AtEntry};
 use crate::links;
+use crate::places::Link;
 use crate::places::Turn;
 use crate::places::Var;
 use crate::places::Walk;
@@ -93,15 +94,12 @@ pub fn chain_turn(f: &[u8], u: Var, link: u32, before: u32, floor: u32, covered:
     requires { ⌜ (u .vdr < 2147483648) × (u .place < 2147483648) ⌝ }
     ensures { λ r. ⌜ r ≡ turnOf (now (f .entry)) (Chain u link before floor covered) ⌝ }
 {
-    let p = link as usize;
-    if fields::end(f) < p + 4 {
-        return Turn::End { number: 20 };
+    let l = links::link_from(f, link);
+    match l {
+        Link::Past => Turn::End { number: 20 },
+        Link::Zero => chain_over(f, u, before, covered),
+        Link::To { at } => vxr_taken(f, u, floor, covered, at),
     }
-    let o = fields::link_at(f, p);
-    if o == 0 {
-        return chain_over(f, u, before, covered);
-    }
-    vxr_taken(f, u, floor, covered, o)
 }
 
 // MaxRec of the VDR at v lies in an entry's range.

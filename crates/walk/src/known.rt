@@ -9,7 +9,7 @@ use format::fields;
 use variables::vdr;
 use variables::vdr::Variable;
 
-// The variable whose index is walked.
+// The variable whose index is walked. Elsewhere there is none, and the answer is a VDR that breaks a rule.
 pub fn known(f: &[u8], w: Walk) -> Variable
     ensures { λ r. ⌜ Known (now (f .entry)) r w ⌝ }
 {

@@ -58,6 +58,16 @@ pub enum Walk {
     },
 }
 
+// Where a link leads.
+pub enum Link {
+    // The file ends before it.
+    Past,
+    // It is zero.
+    Zero,
+    // To an offset.
+    To { at: u32 },
+}
+
 // What a step of the walk finds, whatever the marks say. Numbers are refusals, 0 for none.
 pub enum Turn {
     // A zero link that ends a list: the number, and where the walk goes on.
