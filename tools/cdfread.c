@@ -21,8 +21,8 @@ static const char help[] =
     "  --help         this text\n"
     "  --version      the version\n"
     "\n"
-    "Exit status: 0 all that was asked for was shown; 1 something was refused, which is said in its place; 2 the file cannot be\n"
-    "read, or the command line is wrong.\n";
+    "Exit status: 0 all that was asked for was shown; 1 something was refused or not looked at, which is said in its place; 2 the\n"
+    "file cannot be read, or the command line is wrong.\n";
 
 static const struct program program = { "cdfread", help, READ };
 
@@ -174,7 +174,7 @@ int main(int count, char **words)
         console_complain(words[first], "cannot be read", why);
         return 2;
     }
-    struct source source = { input.bytes, input.length, options.json, 0, false };
+    struct source source = { .file = input.bytes, .length = input.length, .json = options.json };
     if (first + 1 < count)
         list_values(&source, count - first - 1, words + first + 1);
     else
@@ -182,5 +182,5 @@ int main(int count, char **words)
     if (source.vax && !source.json)
         print_refusal(&source, TLZ_FLOAT_NOT_CARRIED);
     input_free(&input);
-    return console_trouble() ? 2 : source.refused != 0 || source.vax;
+    return console_trouble() ? 2 : source.refused != 0 || source.vax || source.cut;
 }

@@ -13,6 +13,7 @@ struct source {
     bool json;
     int32_t refused; /* the first refusal other than of a VAX float, or 0 */
     bool vax;        /* a VAX float was refused */
+    bool cut;        /* something was not looked at */
 };
 
 /* Keeps a refusal's number, the first one; gives true if there is one. */

@@ -187,6 +187,9 @@ static int32_t look_up(const struct source *source, const struct variable *varia
     return answer == TLZ_FLOAT_NOT_CARRIED ? 0 : answer;
 }
 
+/* A gap is looked at record by record; behind one of so many the records are not shown unless they are named. */
+enum { LONGEST_GAP = 2000000 };
+
 /* A run of records that cannot be shown: a gap, or a refusal. */
 static void print_none(struct source *source, int64_t first, int64_t last, int32_t answer)
 {
@@ -202,6 +205,15 @@ static void print_none(struct source *source, int64_t first, int64_t last, int32
         printf("%" PRId64 ": gap\n", first);
     else
         printf("%" PRId64 "..%" PRId64 ": gap\n", first, last);
+}
+
+/* Records that are not looked at, behind a long gap. */
+static void print_rest(struct source *source, int64_t first, int64_t last)
+{
+    source->cut = true;
+    printf(source->json ? "{\"first\": %" PRId64 ", \"last\": %" PRId64 ", \"words\": \"not looked at\"}\n"
+                        : "%" PRId64 "..%" PRId64 ": not looked at, name the records to see them\n",
+           first, last);
 }
 
 /* A record that is there. */
@@ -226,6 +238,16 @@ void variable_record(struct source *source, const struct variable *variable, int
         print_none(source, record, record, answer);
 }
 
+/* The last record of the gap that begins at a record, or that where looking on would take too long. */
+static int64_t gap_end(const struct source *source, const struct variable *variable, int64_t record, int64_t last)
+{
+    int64_t end = last - record > LONGEST_GAP ? record + LONGEST_GAP : last;
+
+    while (record < end && look_up(source, variable, record + 1) == TLZ_RECORD_IN_GAP)
+        record++;
+    return record;
+}
+
 void variable_records(struct source *source, const struct variable *variable)
 {
     bool vary = (variable->flags & TLZ_FLAG_RECORD_VARIANCE) != 0;
@@ -234,11 +256,16 @@ void variable_records(struct source *source, const struct variable *variable)
     for (int64_t record = 0; record <= last && source->refused == 0; record++) {
         int64_t first = record;
         int32_t answer = look_up(source, variable, record);
-        while (answer == TLZ_RECORD_IN_GAP && record < last && look_up(source, variable, record + 1) == TLZ_RECORD_IN_GAP)
-            record++;
-        if (answer == 0)
+        if (answer == 0) {
             print_record(source, variable, record);
-        else
-            print_none(source, first, record, answer);
+            continue;
+        }
+        if (answer == TLZ_RECORD_IN_GAP)
+            record = gap_end(source, variable, record, last);
+        print_none(source, first, record, answer);
+        if (record - first == LONGEST_GAP && record < last) {
+            print_rest(source, record + 1, last);
+            return;
+        }
     }
 }
