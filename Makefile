@@ -1,6 +1,6 @@
 # Tlepozaluh. `make run`: the tools on a good file and on rings, then the worked examples. `make test`: the gate.
-# `make lib`: the static libraries for C. `make tools`: the programs. `make bench`: the check's speed against the same check in
-# plain C. `make install`: header, libraries, programs and manual pages below PREFIX, with DESTDIR before it.
+# `make lib`: the static libraries for C. `make tools`: the programs. `make bench`: the speed of check and reader against the
+# same in plain C. `make install`: header, libraries, programs and manual pages below PREFIX, with DESTDIR before it.
 .PHONY: run examples test lib tools bench install clean build/tlepozaluh.pc build/tlepozaluh_read.pc
 
 VERSION = 0.1.0
@@ -61,9 +61,10 @@ build/cdf%: tools/cdf%.c $(SHARED) $(HEADERS) build/libtlepozaluh.a
 build/cdfread: tools/cdfread.c $(READING) $(HEADERS) build/libtlepozaluh_read.a
 	$(CC) $(CFLAGS) -DVERSION='"$(VERSION)"' -Iinclude -Itools -o $@ $< $(READING) build/libtlepozaluh_read.a -lm
 
-build/bench: bench/bench.c bench/check.c bench/check.h include/tlepozaluh.h $(CHECKER)
-	mkdir -p build
-	$(CC) $(CFLAGS) -Iinclude -o $@ bench/bench.c bench/check.c $(CHECKER)
+BENCH = $(addprefix bench/,bench.c check.c files.c read.c)
+
+build/bench: $(BENCH) $(wildcard bench/*.h) include/tlepozaluh.h build/libtlepozaluh.a
+	$(CC) $(CFLAGS) -Iinclude -o $@ $(BENCH) build/libtlepozaluh.a
 
 bench: build/bench
 	build/bench
