@@ -91,7 +91,8 @@ static void timed(const char *name, struct file file)
 }
 
 /* Asks both readers for one value; 0 if they agree in answer, kind, bits and offset. */
-static int value_differs(const struct file *file, int64_t kind, int64_t number, int64_t record, size_t dimensions, int64_t element)
+static int value_differs(const struct file *file, int64_t kind, int64_t number, int64_t record, size_t dimensions,
+                         int64_t element)
 {
     static const int64_t indices[4] = { 0, 1, 0, 1 };
     uint64_t ours[3] = { 7, 7, 7 }, other[3] = { 7, 7, 7 };
@@ -197,7 +198,7 @@ static void timed_reads(const char *name, struct file file, size_t n, int repeat
         other[i] = now() - b;
     }
     double p = median(ours, repeats), c = median(other, repeats);
-    printf("%-42s %10zu reads  proved %9.3f ms  C %9.3f ms                     proved/C %.2f\n", name, n, 1e3 * p, 1e3 * c, p / c);
+    printf("%-42s %10zu reads  proved %9.3f ms  C %9.3f ms  %17s  proved/C %.2f\n", name, n, 1e3 * p, 1e3 * c, "", p / c);
     free(file.bytes);
 }
 

@@ -14,15 +14,15 @@
 static const char help[] =
     "Usage: cdfread [OPTION].. FILE\n"
     "       cdfread [OPTION].. FILE r|z NUMBER [RECORD]..\n"
-    "Shows what a CDF file holds (single file, uncompressed, versions 2.6 and 2.7): its variables, attributes and entries; or the\n"
-    "values of an rVariable or zVariable, of the records that are named or of all. The file is read and not checked.\n"
+    "Shows what a CDF file holds (single file, uncompressed, versions 2.6 and 2.7): its variables, attributes and entries;\n"
+    "or the values of an rVariable or zVariable, of the records that are named or of all. The file is read, not checked.\n"
     "\n"
     "  --json         JSON: one object for a file, one a record for values\n"
     "  --help         this text\n"
     "  --version      the version\n"
     "\n"
-    "Exit status: 0 all that was asked for was shown; 1 something was refused or not looked at, which is said in its place; 2 the\n"
-    "file cannot be read, or the command line is wrong.\n";
+    "Exit status: 0 all that was asked for was shown; 1 something was refused or not looked at, which is said in its place;\n"
+    "2 the file cannot be read, or the command line is wrong.\n";
 
 static const struct program program = { "cdfread", help, READ };
 
@@ -88,8 +88,8 @@ static void print_said(const struct source *source, const struct said *said)
 {
     const char *majority = said->majority == 1 ? "row" : "column";
     const char *format =
-        source->json ? "{\"majority\": \"%s\", \"encoding\": %" PRId32 ", \"encoding_name\": \"%s\", \"r_variable_count\": %" PRId32
-                       ", \"z_variable_count\": %" PRId32 ", \"attribute_count\": %" PRId32 ", \"r_dimensions\": ["
+        source->json ? "{\"majority\": \"%s\", \"encoding\": %" PRId32 ", \"encoding_name\": \"%s\", "
+                       "\"r_variable_count\": %" PRId32 ", \"z_variable_count\": %" PRId32 ", \"attribute_count\": %" PRId32 ", \"r_dimensions\": ["
                      : "majority    %s\nencoding    %" PRId32 " (%s)\nrVariables  %" PRId32 "\nzVariables  %" PRId32
                        "\nattributes  %" PRId32 "\nrDimensions";
 

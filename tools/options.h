@@ -25,8 +25,8 @@ struct program {
 };
 
 /*
- * Reads the options and begins the window, if the program checks. Gives the place of the first word that is none. Help and version are printed
- * and end the program with 0; a word that cannot be read ends it with 2.
+ * Reads the options and begins the window, if the program checks. Gives the place of the first word that is none. Help and
+ * version are printed and end the program with 0; a word that cannot be read ends it with 2.
  */
 int options_read(int count, char **words, const struct program *program, struct options *options);
 

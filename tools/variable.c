@@ -198,7 +198,8 @@ static void print_none(struct source *source, int64_t first, int64_t last, int32
     if (source->json && answer == TLZ_RECORD_IN_GAP)
         printf("{\"first\": %" PRId64 ", \"last\": %" PRId64 ", \"gap\": true}\n", first, last);
     else if (source->json)
-        printf("{\"record\": %" PRId64 ", \"refused\": %" PRId32 ", \"words\": \"%s\"}\n", first, answer, words_of_refusal(answer));
+        printf("{\"record\": %" PRId64 ", \"refused\": %" PRId32 ", \"words\": \"%s\"}\n", first, answer,
+               words_of_refusal(answer));
     else if (answer != TLZ_RECORD_IN_GAP)
         printf("%" PRId64 ": refused %" PRId32 ": %s\n", first, answer, words_of_refusal(answer));
     else if (first == last)

@@ -38,14 +38,15 @@ static const struct meaning meanings[] = {
 };
 
 static const struct meaning types[] = {
-    { 1, "CDF_INT1" },   { 2, "CDF_INT2" },   { 4, "CDF_INT4" },   { 11, "CDF_UINT1" }, { 12, "CDF_UINT2" },
-    { 14, "CDF_UINT4" }, { 21, "CDF_REAL4" }, { 22, "CDF_REAL8" }, { 31, "CDF_EPOCH" }, { 41, "CDF_BYTE" },
-    { 44, "CDF_FLOAT" }, { 45, "CDF_DOUBLE" }, { 51, "CDF_CHAR" }, { 52, "CDF_UCHAR" },
+    { 1, "CDF_INT1" },   { 2, "CDF_INT2" },    { 4, "CDF_INT4" },   { 11, "CDF_UINT1" }, { 12, "CDF_UINT2" },
+    { 14, "CDF_UINT4" }, { 21, "CDF_REAL4" },  { 22, "CDF_REAL8" }, { 31, "CDF_EPOCH" }, { 41, "CDF_BYTE" },
+    { 44, "CDF_FLOAT" }, { 45, "CDF_DOUBLE" }, { 51, "CDF_CHAR" },  { 52, "CDF_UCHAR" },
 };
 
 static const struct meaning encodings[] = {
-    { 1, "NETWORK" }, { 2, "SUN" },  { 3, "VAX" },  { 4, "DECSTATION" }, { 5, "SGi" },        { 6, "IBMPC" },      { 7, "IBMRS" },
-    { 9, "MAC" },     { 11, "HP" },  { 12, "NeXT" }, { 13, "ALPHAOSF1" }, { 14, "ALPHAVMSd" }, { 15, "ALPHAVMSg" }, { 16, "ALPHAVMSi" },
+    { 1, "NETWORK" },    { 2, "SUN" },        { 3, "VAX" },        { 4, "DECSTATION" }, { 5, "SGi" },
+    { 6, "IBMPC" },      { 7, "IBMRS" },      { 9, "MAC" },        { 11, "HP" },        { 12, "NeXT" },
+    { 13, "ALPHAOSF1" }, { 14, "ALPHAVMSd" }, { 15, "ALPHAVMSg" }, { 16, "ALPHAVMSi" },
 };
 
 /* The words of a number in a table, or others if it has none. */

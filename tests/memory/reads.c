@@ -1,7 +1,8 @@
 /*
- * reads ROUNDS FILE..: asks the reader with heap buffers of exactly the lengths that it is told, to be run under a memory checker.
- * Each file is asked as it is, damaged, and cut at any length; every call, with numbers that are there and that are not. Prints
- * how often each call was made and what came back; exits with 1 if an answer is wrong or a refusal changed a number.
+ * reads ROUNDS FILE..: asks the reader with heap buffers of exactly the lengths that it is told, to be run under a memory
+ * checker. Each file is asked as it is, damaged, and cut at any length; every call, with numbers that are there and that are
+ * not. Prints how many questions were put and what came back; exits with 1 if an answer is wrong, a refusal changed a number
+ * or a call was never made.
  */
 #include "tlepozaluh.h"
 
