@@ -1,27 +1,32 @@
 # Tlepozaluh. `make run`: the tools on a good file and on rings, then the worked examples. `make test`: the gate.
-# `make lib`: the static libraries for C. `make tools`: the programs. `make bench`: the check's speed against the same check in
-# plain C. `make install`: header, libraries, programs and manual pages below PREFIX, with DESTDIR before it.
-.PHONY: run examples test lib tools bench install clean build/tlepozaluh.pc
+# `make lib`: the static libraries for C. `make tools`: the programs. `make bench`: the speed of check and reader against the
+# same in plain C. `make install`: header, libraries, programs and manual pages below PREFIX, with DESTDIR before it.
+.PHONY: run examples test lib tools bench install clean build/tlepozaluh.pc build/tlepozaluh_read.pc
 
 VERSION = 0.1.0
 PREFIX = /usr/local
 DESTDIR =
 CFLAGS = -std=c11 -O2 -Wall -Wextra -Wpedantic
 
-# The archives that rt makes, one a crate with calls for C. libtlepozaluh.a has all of them; a library of one of them alone is a
-# further name in LIBRARIES, with a rule that copies its archive.
-LIBRARY = target/staticlib/libchecker.a
-ARCHIVES = $(LIBRARY)
-LIBRARIES = build/libtlepozaluh.a
+# The archives that rt makes, one a crate with calls for C. libtlepozaluh.a has both, libtlepozaluh_read.a the reader alone.
+CHECKER = target/staticlib/libchecker.a
+READER = target/staticlib/libreader.a
+ARCHIVES = $(CHECKER) $(READER)
+LIBRARIES = build/libtlepozaluh.a build/libtlepozaluh_read.a
+PACKAGES = build/tlepozaluh.pc build/tlepozaluh_read.pc
 
 # The programs, each tools/NAME.c, with what they share and their own parts; each has a manual page man/NAME.1.
-PROGRAMS = cdfcheck cdfnight
+# cdfread is made of the reader alone.
+PROGRAMS = cdfcheck cdfnight cdfread
 SHARED = $(addprefix tools/,console.c input.c job.c options.c print.c saved.c text.c window.c words.c)
+READING = $(addprefix tools/,attribute.c console.c input.c options.c text.c values.c variable.c window.c words.c)
 HEADERS = include/tlepozaluh.h $(wildcard tools/*.h)
 
 run: tools
 	build/cdfcheck samples/01_base_A.cdf samples/02_h_le.cdf
 	! build/cdfcheck samples/rings/ring_vdr_self.cdf samples/rings/ring_uir.cdf
+	build/cdfread samples/02_h_le.cdf
+	build/cdfread samples/02_h_le.cdf z 0
 	$(MAKE) examples
 
 examples:
@@ -41,6 +46,10 @@ build/libtlepozaluh.a: $(ARCHIVES)
 	rm -f $@
 	printf 'create $@\n$(foreach archive,$(ARCHIVES),addlib $(archive)\n)save\nend\n' | ar -M
 
+build/libtlepozaluh_read.a: $(READER)
+	mkdir -p build
+	cp $(READER) $@
+
 tools: $(addprefix build/,$(PROGRAMS))
 
 build/cdfnight: OWN = tools/listing.c
@@ -49,22 +58,26 @@ build/cdfnight: tools/listing.c
 build/cdf%: tools/cdf%.c $(SHARED) $(HEADERS) build/libtlepozaluh.a
 	$(CC) $(CFLAGS) -DVERSION='"$(VERSION)"' -Iinclude -Itools -o $@ $< $(OWN) $(SHARED) build/libtlepozaluh.a
 
-build/bench: bench/bench.c bench/check.c bench/check.h include/tlepozaluh.h $(LIBRARY)
-	mkdir -p build
-	$(CC) $(CFLAGS) -Iinclude -o $@ bench/bench.c bench/check.c $(LIBRARY)
+build/cdfread: tools/cdfread.c $(READING) $(HEADERS) build/libtlepozaluh_read.a
+	$(CC) $(CFLAGS) -DVERSION='"$(VERSION)"' -Iinclude -Itools -o $@ $< $(READING) build/libtlepozaluh_read.a -lm
+
+BENCH = $(addprefix bench/,bench.c check.c files.c read.c)
+
+build/bench: $(BENCH) $(wildcard bench/*.h) include/tlepozaluh.h build/libtlepozaluh.a
+	$(CC) $(CFLAGS) -Iinclude -o $@ $(BENCH) build/libtlepozaluh.a
 
 bench: build/bench
 	build/bench
 
-build/tlepozaluh.pc: tlepozaluh.pc.in
+$(PACKAGES): build/%.pc: %.pc.in
 	mkdir -p build
-	sed 's|@PREFIX@|$(PREFIX)|; s|@VERSION@|$(VERSION)|' tlepozaluh.pc.in >$@
+	sed 's|@PREFIX@|$(PREFIX)|; s|@VERSION@|$(VERSION)|' $< >$@
 
-install: lib tools build/tlepozaluh.pc
+install: lib tools $(PACKAGES)
 	install -d $(addprefix '$(DESTDIR)$(PREFIX)'/,include lib/pkgconfig bin share/man/man1)
 	install -m 644 include/tlepozaluh.h '$(DESTDIR)$(PREFIX)'/include
 	install -m 644 $(LIBRARIES) '$(DESTDIR)$(PREFIX)'/lib
-	install -m 644 build/tlepozaluh.pc '$(DESTDIR)$(PREFIX)'/lib/pkgconfig
+	install -m 644 $(PACKAGES) '$(DESTDIR)$(PREFIX)'/lib/pkgconfig
 	install -m 755 $(addprefix build/,$(PROGRAMS)) '$(DESTDIR)$(PREFIX)'/bin
 	install -m 644 $(PROGRAMS:%=man/%.1) '$(DESTDIR)$(PREFIX)'/share/man/man1
 

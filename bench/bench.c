@@ -1,12 +1,14 @@
 /*
- * Times the proved check against the same check in plain C, in one run and on the same buffers.
+ * Times the proved check and reader against the same in plain C, in one run and on the same buffers.
  *
- *     bench            builds three large files and prints median times and their ratio, proved / C
- *     bench FILE..     no times: compares verdict, steps and marks of the two on each file
+ *     bench            builds large files and prints median times and their ratio, proved / C; then how the time grows
+ *     bench FILE..     no times: compares verdict, steps and marks, and the answers to many reads, on each file
  */
 #define _POSIX_C_SOURCE 200809L
 
 #include "check.h"
+#include "files.h"
+#include "read.h"
 #include "tlepozaluh.h"
 
 #include <inttypes.h>
@@ -15,97 +17,7 @@
 #include <string.h>
 #include <time.h>
 
-enum { REPEATS = 15, BASE = 372, GDR = 312 };
-
-/* A file in the making. */
-struct file {
-    uint8_t *bytes;
-    size_t length;
-};
-
-static void put(struct file *file, size_t o, int64_t value)
-{
-    uint32_t n = (uint32_t)value;
-    for (int i = 0; i < 4; i++)
-        file->bytes[o + (size_t)i] = (uint8_t)(n >> (24 - 8 * i));
-}
-
-static void *allocated(size_t n)
-{
-    void *p = malloc(n + 1);
-    if (p == NULL) {
-        fprintf(stderr, "no memory\n");
-        exit(1);
-    }
-    memset(p, 0x55, n);
-    return p;
-}
-
-/* A file of this length with magics, CDR and GDR, and no lists. */
-static struct file base(size_t length)
-{
-    static const int32_t cdr[] = { 304, 1, GDR, 2, 0, 6, 3 };
-    struct file file = { allocated(length), length };
-    memset(file.bytes, 0, length);
-    put(&file, 0, 0xCDF26002);
-    put(&file, 4, 0x0000FFFF);
-    for (size_t i = 0; i < sizeof cdr / sizeof *cdr; i++)
-        put(&file, 8 + 4 * i, cdr[i]);
-    put(&file, GDR, 60);
-    put(&file, GDR + 4, 2);
-    put(&file, GDR + 20, (int64_t)length);
-    put(&file, GDR + 32, -1);
-    return file;
-}
-
-/* One unused record, on no list. */
-static struct file one_record(size_t size)
-{
-    struct file file = base(BASE + size);
-    put(&file, BASE, (int64_t)size);
-    put(&file, BASE + 4, -1);
-    return file;
-}
-
-/* n listed unused records of 16 bytes. */
-static struct file unused_records(size_t n)
-{
-    struct file file = base(BASE + 16 * n);
-    put(&file, GDR + 44, BASE);
-    for (size_t i = 0; i < n; i++) {
-        size_t o = BASE + 16 * i;
-        put(&file, o, 16);
-        put(&file, o + 4, -1);
-        put(&file, o + 8, i + 1 < n ? (int64_t)o + 16 : 0);
-        put(&file, o + 12, i > 0 ? (int64_t)o - 16 : 0);
-    }
-    return file;
-}
-
-/* A zVariable at o of one record of 4 bytes: its VDR, its VXR at 132 behind it, its VVR at 164. */
-static void put_variable(struct file *file, size_t o, size_t number, size_t next)
-{
-    int64_t vxr = (int64_t)o + 132, vvr = (int64_t)o + 164;
-    int64_t vdr_fields[] = { 132, 8, (int64_t)next, 4, 0, vxr, vxr, 1 };
-    int64_t vxr_fields[] = { 32, 6, 0, 1, 1, 0, 0, vvr, 12, 7 };
-    for (size_t i = 0; i < sizeof vdr_fields / sizeof *vdr_fields; i++)
-        put(file, o + 4 * i, vdr_fields[i]);
-    put(file, o + 48, 1);
-    put(file, o + 52, (int64_t)number);
-    for (size_t i = 0; i < sizeof vxr_fields / sizeof *vxr_fields; i++)
-        put(file, o + 132 + 4 * i, vxr_fields[i]);
-}
-
-/* n zVariables with one index entry each. */
-static struct file variables(size_t n)
-{
-    struct file file = base(BASE + 176 * n);
-    put(&file, GDR + 12, BASE);
-    put(&file, GDR + 40, (int64_t)n);
-    for (size_t i = 0; i < n; i++)
-        put_variable(&file, BASE + 176 * i, i, i + 1 < n ? BASE + 176 * (i + 1) : 0);
-    return file;
-}
+enum { REPEATS = 15 };
 
 static int32_t proved_check(const uint8_t *file, size_t file_len, uint8_t *marks, size_t marks_len, uint64_t *steps)
 {
@@ -145,10 +57,10 @@ static int by_size(const void *a, const void *b)
     return (x > y) - (x < y);
 }
 
-static double median(double *times)
+static double median(double *times, int count)
 {
-    qsort(times, REPEATS, sizeof *times, by_size);
-    return times[REPEATS / 2];
+    qsort(times, (size_t)count, sizeof *times, by_size);
+    return times[count / 2];
 }
 
 /* Times the two in turn on buffers that were written before, and a memset of the marks. */
@@ -171,14 +83,40 @@ static void timed(const char *name, struct file file)
         plain[i] = c - b;
         cleared[i] = d - c;
     }
-    double p = median(proved), c = median(plain), m = median(cleared);
+    double p = median(proved, REPEATS), c = median(plain, REPEATS), m = median(cleared, REPEATS);
     printf("%-42s %10" PRIu64 " steps  proved %9.3f ms  C %9.3f ms  memset %7.3f ms  proved/C %.2f\n", name, steps, 1e3 * p,
            1e3 * c, 1e3 * m, p / c);
     free(marks);
     free(file.bytes);
 }
 
-/* Compares the two on a file on disk; 0 if they agree. */
+/* Asks both readers for one value; 0 if they agree in answer, kind, bits and offset. */
+static int value_differs(const struct file *file, int64_t kind, int64_t number, int64_t record, size_t dimensions,
+                         int64_t element)
+{
+    static const int64_t indices[4] = { 0, 1, 0, 1 };
+    uint64_t ours[3] = { 7, 7, 7 }, other[3] = { 7, 7, 7 };
+    int32_t a = tlz_read_value(file->bytes, file->length, kind, number, record, indices, dimensions, element, &ours[0], &ours[1],
+                               &ours[2]);
+    int32_t b = plain_value(file->bytes, file->length, kind, number, record, indices, dimensions, element, &other[0], &other[1],
+                            &other[2]);
+    return a != b || memcmp(ours, other, sizeof ours) != 0;
+}
+
+/* How many of many questions the two readers answer otherwise. */
+static int values_differ(const struct file *file)
+{
+    int differ = 0;
+    for (int64_t kind = 2; kind < 10; kind++)
+        for (int64_t number = -1; number < 4; number++)
+            for (int64_t record = -1; record < 8; record++)
+                for (size_t dimensions = 0; dimensions < 4; dimensions++)
+                    for (int64_t element = -1; element < 2; element++)
+                        differ += value_differs(file, kind, number, record, dimensions, element);
+    return differ;
+}
+
+/* Compares checks and readers on a file on disk; 0 if they agree. */
 static int compared(const char *name)
 {
     FILE *in = fopen(name, "rb");
@@ -189,10 +127,100 @@ static int compared(const char *name)
     long length = ftell(in);
     rewind(in);
     struct file file = { allocated((size_t)length), (size_t)length };
-    int differ = fread(file.bytes, 1, file.length, in) != file.length || agreed(&file, name) < 0;
+    int differ = fread(file.bytes, 1, file.length, in) != file.length || agreed(&file, name) < 0 || values_differ(&file) != 0;
+    if (differ != 0)
+        fprintf(stderr, "%s: differs\n", name);
     fclose(in);
     free(file.bytes);
     return differ;
+}
+
+/* Reads the value of each record of the first variable, or of each variable; gives the sum of the bits. */
+typedef uint64_t read_all(const struct file *file, size_t n);
+
+static uint64_t proved_records(const struct file *file, size_t n)
+{
+    uint64_t sum = 0, kind = 0, bits = 0, offset = 0;
+    for (size_t i = 0; i < n; i++) {
+        if (tlz_read_value(file->bytes, file->length, 8, 0, (int64_t)i, &(int64_t){ 0 }, 0, 0, &kind, &bits, &offset) != 0)
+            exit(1);
+        sum += bits;
+    }
+    return sum;
+}
+
+static uint64_t plain_records(const struct file *file, size_t n)
+{
+    uint64_t sum = 0, kind = 0, bits = 0, offset = 0;
+    for (size_t i = 0; i < n; i++) {
+        if (plain_value(file->bytes, file->length, 8, 0, (int64_t)i, &(int64_t){ 0 }, 0, 0, &kind, &bits, &offset) != 0)
+            exit(1);
+        sum += bits;
+    }
+    return sum;
+}
+
+static uint64_t proved_variables(const struct file *file, size_t n)
+{
+    uint64_t sum = 0, kind = 0, bits = 0, offset = 0;
+    for (size_t i = 0; i < n; i++) {
+        if (tlz_read_value(file->bytes, file->length, 8, (int64_t)i, 0, &(int64_t){ 0 }, 0, 0, &kind, &bits, &offset) != 0)
+            exit(1);
+        sum += bits + offset;
+    }
+    return sum;
+}
+
+static uint64_t plain_variables(const struct file *file, size_t n)
+{
+    uint64_t sum = 0, kind = 0, bits = 0, offset = 0;
+    for (size_t i = 0; i < n; i++) {
+        if (plain_value(file->bytes, file->length, 8, (int64_t)i, 0, &(int64_t){ 0 }, 0, 0, &kind, &bits, &offset) != 0)
+            exit(1);
+        sum += bits + offset;
+    }
+    return sum;
+}
+
+/* Times two readers in turn, `repeats` times each. */
+static void timed_reads(const char *name, struct file file, size_t n, int repeats, read_all *proved, read_all *plain)
+{
+    double ours[REPEATS], other[REPEATS];
+    for (int i = 0; i < repeats; i++) {
+        double a = now();
+        uint64_t sum = proved(&file, n);
+        double b = now();
+        if (sum != plain(&file, n)) {
+            fprintf(stderr, "%s: sums differ\n", name);
+            exit(1);
+        }
+        ours[i] = b - a;
+        other[i] = now() - b;
+    }
+    double p = median(ours, repeats), c = median(other, repeats);
+    printf("%-42s %10zu reads  proved %9.3f ms  C %9.3f ms  %17s  proved/C %.2f\n", name, n, 1e3 * p, 1e3 * c, "", p / c);
+    free(file.bytes);
+}
+
+/* How the time of a whole check grows. */
+static void growth(void)
+{
+    printf("\nHow the check's time grows: one record of so many MB; so many listed unused records; so many zVariables\n");
+    for (size_t mb = 1; mb <= 64; mb *= 2) {
+        char name[60];
+        snprintf(name, sizeof name, "%zu MB", mb);
+        timed(name, one_record(mb << 20));
+    }
+    for (size_t n = 10000; n <= 1000000; n *= 10) {
+        char name[60];
+        snprintf(name, sizeof name, "%zu unused records", n);
+        timed(name, unused_records(n));
+    }
+    for (size_t n = 10000; n <= 1000000; n *= 10) {
+        char name[60];
+        snprintf(name, sizeof name, "%zu zVariables with an index entry", n);
+        timed(name, variables(n));
+    }
 }
 
 int main(int count, char **names)
@@ -207,5 +235,8 @@ int main(int count, char **names)
     timed("one record of 64 MB", one_record((size_t)64 << 20));
     timed("1,000,000 listed unused records", unused_records(1000000));
     timed("100,000 zVariables with an index entry", variables(100000));
+    timed_reads("every value of 1,000,000 records", records(1000000), 1000000, REPEATS, proved_records, plain_records);
+    timed_reads("one value of each of 20,000 zVariables", variables(20000), 20000, 1, proved_variables, plain_variables);
+    growth();
     return 0;
 }

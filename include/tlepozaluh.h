@@ -1,11 +1,13 @@
 /*
- * Tlepozaluh: a checker of CDF files (single file, uncompressed, versions 2.6 and 2.7).
+ * Tlepozaluh: a checker and a reader of CDF files (single file, uncompressed, versions 2.6 and 2.7).
  *
  * The check goes step by step. The caller lends the file's bytes, a buffer of marks and a saved state, and grants as many
- * steps as it likes; the check can be stopped after any grant and taken up again later. The library allocates nothing,
- * keeps nothing between calls and opens no file. Calls on different buffers may run at the same time.
+ * steps as it likes; the check can be stopped after any grant and taken up again later. The reader answers one question a
+ * call, from the file's bytes alone; it needs no check before it. The library allocates nothing, keeps nothing between
+ * calls and opens no file. Calls on different buffers may run at the same time.
  *
- * Link with libtlepozaluh.a. docs/INTERFACE.md has a worked program, docs/STATE.md describes the saved state.
+ * Link with libtlepozaluh.a, or with libtlepozaluh_read.a for the reader alone. docs/INTERFACE.md has worked programs,
+ * docs/STATE.md describes the saved state.
  */
 #ifndef TLEPOZALUH_H
 #define TLEPOZALUH_H
@@ -24,8 +26,8 @@ extern "C" {
 #define TLZ_LONGEST_FILE 2147483647
 
 /*
- * The numbers that come back. A finished check has one of 0 to 14, or 20. 15 to 19 are the reader's and never come from
- * the calls below.
+ * The numbers that come back. A finished check has one of 0 to 14, or 20. A call of the reader gives 0 or one of 15 to 20;
+ * of several refusals it gives the first in the order 20, 15, 16, 17, 18, 19.
  */
 #define TLZ_RUNNING (-1)           /* not finished: no verdict yet */
 #define TLZ_ACCEPTED 0             /* the whole file was checked and keeps every rule */
@@ -49,13 +51,16 @@ extern "C" {
 #define TLZ_OUT_OF_RANGE 18        /* reader: an index or element out of range, or a wrong number of indices */
 #define TLZ_FLOAT_NOT_CARRIED 19   /* reader: a floating-point value in encoding 3, 14 or 15 */
 #define TLZ_BAD_STATE 20           /* the state is not TLZ_STATE_LEN numbers, a number is out of its range, or the file */
-                                   /* ends before a field that the walk needs */
+                                   /* ends before a field that the walk needs; from the reader TLZ_BAD_WAY */
 #define TLZ_OTHER_FILE 21          /* the file's length is not the one noted at opening, or the marks are now shorter */
+
+/* The reader's 20: the file does not open, or the way to the answer breaks a rule. Never on a file that is accepted. */
+#define TLZ_BAD_WAY 20
 
 /*
  * Pointers. No pointer is null, also where a length is 0; each is valid for its length and aligned for its type. A buffer
- * of length 0 is not read or written. All buffers are the caller's before, during and after a call. A buffer that a call
- * may write (state, marks, *steps) overlaps no other buffer of that call.
+ * of length 0 is not read or written. All buffers are the caller's before, during and after a call. What a call may write
+ * (state, marks, *steps, the numbers that the reader sets) overlaps no other buffer or number of that call.
  */
 
 /*
@@ -122,6 +127,149 @@ int32_t tlz_check_begin(uint32_t *state, size_t state_len);
  */
 int32_t tlz_check_grant(const uint8_t *file, size_t file_len, uint8_t *marks, size_t marks_len, uint32_t *state,
                         size_t state_len, uint64_t grant, uint64_t *steps);
+
+/*
+ * ---- The reader
+ *
+ * A call gives 0 and sets the caller's numbers, or gives a refusal and leaves them as they were:
+ *
+ *   TLZ_NO_SUCH_OBJECT      15: the kind is none of those below, or there is no variable or attribute of that number
+ *   TLZ_NO_SUCH_RECORD      16: there is no such record, or no entry of that number or at that place
+ *   TLZ_RECORD_IN_GAP       17: the record number is not above MaxRec, but no used index entry covers it
+ *   TLZ_OUT_OF_RANGE        18: an index, element, dimension or field that is not there, a wrong number of indices, or no
+ *                           pad value
+ *   TLZ_FLOAT_NOT_CARRIED   19: a floating-point value in encoding 3, 14 or 15, whose floats are VAX floats
+ *   TLZ_BAD_WAY             20: the file does not open, a record or link on the way to the answer breaks a rule, or more
+ *                           than file_len / 8 records were met, as in a ring
+ *
+ * Only what lies on the way is judged: CDR and GDR, a list from its head to what is asked for, an index to the entry that
+ * covers the record. The rest of the file may be damaged. Every call ends, on every file; nothing outside the file is read
+ * and nothing is written but the caller's numbers. Each call goes the whole way again.
+ *
+ * Variables and attributes are asked for by their place in their list, from 0, which is their number in an accepted file;
+ * entries by their number, or by their place. Arguments have 64 bits so that none is cut before it is judged.
+ */
+
+/* Kinds of variables, and of entries of attributes. */
+#define TLZ_RVARIABLE 3 /* all rVariables have the dimensions of tlz_read_dimension */
+#define TLZ_ZVARIABLE 8 /* a zVariable has its own, of tlz_read_size */
+#define TLZ_GRENTRY 5   /* a gEntry, if the attribute's scope is global, or an rEntry: of the rVariable of its number */
+#define TLZ_ZENTRY 9    /* of the zVariable of its number */
+
+/* Kinds of values, with what `bits` holds. */
+#define TLZ_SIGNED 0    /* a signed number, sign-extended to 64 bits: take (int64_t)bits */
+#define TLZ_UNSIGNED 1  /* an unsigned number */
+#define TLZ_SINGLE 2    /* the 32 bits of a float, NaN's too */
+#define TLZ_DOUBLE 3    /* the 64 bits of a double, NaN's too */
+#define TLZ_CHARACTER 4 /* a character's code, 0 to 255 */
+
+/*
+ * An element of a variable's value.
+ *
+ *   file, file_len         the file's bytes, only read
+ *   kind, number           the variable: TLZ_RVARIABLE or TLZ_ZVARIABLE, and its place
+ *   record                 0 to MaxRec; where record variance is clear any number from 0 on reads record 0
+ *   indices, index_count   an index, from 0, for each dimension of the variable, in the file's order of dimensions; one of
+ *                          false variance must be in range too, and moves nothing. Majority is seen to.
+ *   element                0, or which character of a value of characters
+ *   value_kind, bits       set to the value's kind, TLZ_SIGNED to TLZ_CHARACTER, and to its bits
+ *   offset                 set to the file offset of the value's first byte
+ */
+int32_t tlz_read_value(const uint8_t *file, size_t file_len, int64_t kind, int64_t number, int64_t record,
+                       const int64_t *indices, size_t index_count, int64_t element, uint64_t *value_kind, uint64_t *bits,
+                       uint64_t *offset);
+
+/*
+ * An element of an attribute's entry: of the first of that number, if there are several (the values of the others cannot be
+ * asked for, their fields can). An entry of any data type may have several elements.
+ *
+ *   attribute    the attribute's place
+ *   kind         TLZ_GRENTRY or TLZ_ZENTRY
+ *   entry        the entry's number: a gEntry's own, or the variable's
+ *   element      from 0
+ *   value_kind, bits, offset   as those of tlz_read_value
+ */
+int32_t tlz_read_entry(const uint8_t *file, size_t file_len, int64_t attribute, int64_t kind, int64_t entry, int64_t element,
+                       uint64_t *value_kind, uint64_t *bits, uint64_t *offset);
+
+/* An element of a variable's pad value; TLZ_OUT_OF_RANGE if it has none. Its numbers are those of tlz_read_value. */
+int32_t tlz_read_pad(const uint8_t *file, size_t file_len, int64_t kind, int64_t number, int64_t element,
+                     uint64_t *value_kind, uint64_t *bits, uint64_t *offset);
+
+/* What the file says of itself: `what` of tlz_read_file. */
+#define TLZ_FILE_MAJORITY 0   /* 1 row: the last index runs fastest; 0 column: the first does */
+#define TLZ_FILE_ENCODING 1   /* 1 to 7, 9, 11 to 16 */
+#define TLZ_FILE_RVARIABLES 2 /* how many rVariables the GDR says there are */
+#define TLZ_FILE_ZVARIABLES 3 /* how many zVariables */
+#define TLZ_FILE_ATTRIBUTES 4 /* how many attributes */
+#define TLZ_FILE_DIMENSIONS 5 /* how many dimensions the rVariables have, 0 to 10 */
+
+/* Sets *field to what the file says of itself. The counts are not compared with the lists: that is the check's. */
+int32_t tlz_read_file(const uint8_t *file, size_t file_len, uint64_t what, int32_t *field);
+
+/* Sets *field to the size of a dimension of the rVariables, from 0. */
+int32_t tlz_read_dimension(const uint8_t *file, size_t file_len, int64_t dimension, int32_t *field);
+
+/* Fields of a variable: `at` of tlz_read_variable, their offsets in the VDR. */
+#define TLZ_VARIABLE_TYPE 12        /* the data type: 1, 2, 4, 11, 12, 14, 21, 22, 31, 41, 44, 45, 51 or 52 */
+#define TLZ_VARIABLE_MAXREC 16      /* the greatest record number, -1 if there is none */
+#define TLZ_VARIABLE_FLAGS 28       /* TLZ_FLAG_RECORD_VARIANCE, TLZ_FLAG_PAD */
+#define TLZ_VARIABLE_SPARSENESS 32  /* sRecords: 0 none, 1 gaps stand for the pad value, 2 for the previous record */
+#define TLZ_VARIABLE_ELEMENTS 48    /* elements of a value: 1, or the characters of types 51 and 52 */
+#define TLZ_VARIABLE_NUMBER 52      /* Num */
+#define TLZ_VARIABLE_DIMENSIONS 128 /* how many dimensions a zVariable has, 0 to 10; TLZ_OUT_OF_RANGE for an rVariable */
+
+/* Bits of TLZ_VARIABLE_FLAGS. */
+#define TLZ_FLAG_RECORD_VARIANCE 1
+#define TLZ_FLAG_PAD 2
+
+/* Sets *field to a field of a variable: kind and number as in tlz_read_value, `at` one of the TLZ_VARIABLE_ numbers. */
+int32_t tlz_read_variable(const uint8_t *file, size_t file_len, int64_t kind, int64_t number, uint64_t at, int32_t *field);
+
+/* Sets *field to the size of a zVariable's dimension, from 0; TLZ_OUT_OF_RANGE for an rVariable (tlz_read_dimension). */
+int32_t tlz_read_size(const uint8_t *file, size_t file_len, int64_t kind, int64_t number, int64_t dimension, int32_t *field);
+
+/* Sets *field to the variance of a variable's dimension, from 0: -1 if its values vary along it, else 0. */
+int32_t tlz_read_variance(const uint8_t *file, size_t file_len, int64_t kind, int64_t number, int64_t dimension,
+                          int32_t *field);
+
+/*
+ * Where a variable's name stands: *offset is set to the file offset of its first byte, *length to its bytes before the NUL,
+ * at most 64. It is no string: a name of 64 bytes has no NUL behind it.
+ */
+int32_t tlz_read_variable_name(const uint8_t *file, size_t file_len, int64_t kind, int64_t number, uint64_t *offset,
+                               uint64_t *length);
+
+/* Fields of an attribute: `at` of tlz_read_attribute, their offsets in the ADR. */
+#define TLZ_ATTRIBUTE_SCOPE 16      /* 1 global, 2 variable */
+#define TLZ_ATTRIBUTE_NUMBER 20     /* Num */
+#define TLZ_ATTRIBUTE_GR_ENTRIES 24 /* how many entries of kind TLZ_GRENTRY it says it has .. */
+#define TLZ_ATTRIBUTE_GR_MAXIMUM 28 /* .. and their greatest number, -1 if there is none */
+#define TLZ_ATTRIBUTE_Z_ENTRIES 40  /* the same of kind TLZ_ZENTRY */
+#define TLZ_ATTRIBUTE_Z_MAXIMUM 44
+
+/* Sets *field to a field of an attribute, by its place. */
+int32_t tlz_read_attribute(const uint8_t *file, size_t file_len, int64_t number, uint64_t at, int32_t *field);
+
+/* Where an attribute's name stands, as in tlz_read_variable_name. */
+int32_t tlz_read_attribute_name(const uint8_t *file, size_t file_len, int64_t number, uint64_t *offset, uint64_t *length);
+
+/* Fields of an entry: `at` of tlz_read_entry_field and tlz_read_entry_at, their offsets in the AEDR. */
+#define TLZ_ENTRY_ATTRIBUTE 12 /* Num: its attribute's */
+#define TLZ_ENTRY_TYPE 16      /* the data type, as TLZ_VARIABLE_TYPE */
+#define TLZ_ENTRY_NUMBER 20    /* the entry number, 0 or more */
+#define TLZ_ENTRY_ELEMENTS 24  /* how many elements it has, 1 or more */
+
+/* Sets *field to a field of the first entry of a number; attribute, kind and entry as in tlz_read_entry. */
+int32_t tlz_read_entry_field(const uint8_t *file, size_t file_len, int64_t attribute, int64_t kind, int64_t entry, uint64_t at,
+                             int32_t *field);
+
+/*
+ * Sets *field to a field of the entry at a place of its list, from 0; TLZ_NO_SUCH_RECORD behind the last one. So all entries
+ * can be listed, those of equal numbers too.
+ */
+int32_t tlz_read_entry_at(const uint8_t *file, size_t file_len, int64_t attribute, int64_t kind, uint64_t place, uint64_t at,
+                          int32_t *field);
 
 #ifdef __cplusplus
 }

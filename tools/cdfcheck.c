@@ -24,7 +24,7 @@ static const char help[] =
     "Exit status: 0 all files were checked to their end and accepted; 1 a file was refused; 2 a file could not be checked,\n"
     "or the command line is wrong; 3 a check is unfinished. Of several, 2 is given before 1 and 1 before 3.\n";
 
-static const struct program program = { "cdfcheck", help, false };
+static const struct program program = { "cdfcheck", help, CHECK };
 
 /* Checks a file as long as the window is open. */
 static void check(struct job *job, const struct options *options)

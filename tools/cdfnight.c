@@ -31,7 +31,7 @@ static const char help[] =
     "Exit status: 0 all files were checked to their end and accepted; 1 a file was refused; 2 a file could not be checked,\n"
     "there is none, or the command line is wrong; 3 a check is unfinished. Of several, 2 is given before 1 and 1 before 3.\n";
 
-static const struct program program = { "cdfnight", help, true };
+static const struct program program = { "cdfnight", help, NIGHT };
 
 /* The files of a night: those before `next` have been begun. */
 struct night {

@@ -97,6 +97,26 @@ static bool read_flag(int option, const struct program *program, struct options 
     }
 }
 
+/* The program has an option. */
+static bool has(const struct program *program, int option)
+{
+    if (option == JSON || option == HELP || option == VERSION_OF)
+        return true;
+    if (option == UNTIL || option == MEMORY)
+        return program->work == NIGHT;
+    return option != '?' && program->work != READ;
+}
+
+/* Begins the window that the options describe. */
+static void open_window(const struct options *options)
+{
+    window_begin();
+    if (options->seconds >= 0)
+        window_for(options->seconds);
+    if (options->hour >= 0)
+        window_until(options->hour, options->minute);
+}
+
 int options_read(int count, char **words, const struct program *program, struct options *options)
 {
     int option = 0;
@@ -107,17 +127,13 @@ int options_read(int count, char **words, const struct program *program, struct 
                                  .memory = UINT64_C(1) << 30 };
     opterr = 0;
     while ((option = getopt_long(count, words, "", known, NULL)) != -1) {
-        bool of_night = option == UNTIL || option == MEMORY;
-        if (option == '?' || (of_night && !program->night))
+        if (!has(program, option))
             options_fail(program, "cannot read this option, or it lacks its word", words[optind - 1]);
         if (!read_flag(option, program, options) && !read_value(option, optarg, options))
             options_fail(program, "an option cannot have this word", optarg);
     }
     options->manner.terminal = isatty(STDERR_FILENO) && !options->quiet;
-    window_begin();
-    if (options->seconds >= 0)
-        window_for(options->seconds);
-    if (options->hour >= 0)
-        window_until(options->hour, options->minute);
+    if (program->work != READ)
+        open_window(options);
     return optind;
 }

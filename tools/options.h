@@ -14,16 +14,19 @@ struct options {
     bool quiet;
 };
 
-/* A program: its name, its help, and whether it has the options of a night. */
+/* Which options a program has: those of a check, also those of a night, or --json, --help and --version alone. */
+enum work { CHECK, NIGHT, READ };
+
+/* A program: its name, its help, and its options. */
 struct program {
     const char *name;
     const char *help;
-    bool night;
+    enum work work;
 };
 
 /*
- * Reads the options and begins the window. Gives the place of the first word that is none. Help and version are printed
- * and end the program with 0; a word that cannot be read ends it with 2.
+ * Reads the options and begins the window, if the program checks. Gives the place of the first word that is none. Help and
+ * version are printed and end the program with 0; a word that cannot be read ends it with 2.
  */
 int options_read(int count, char **words, const struct program *program, struct options *options);
 

@@ -37,12 +37,46 @@ static const struct meaning meanings[] = {
     { TLZ_OTHER_FILE, "the file's length is not the one noted at opening" },
 };
 
+static const struct meaning types[] = {
+    { 1, "CDF_INT1" },   { 2, "CDF_INT2" },    { 4, "CDF_INT4" },   { 11, "CDF_UINT1" }, { 12, "CDF_UINT2" },
+    { 14, "CDF_UINT4" }, { 21, "CDF_REAL4" },  { 22, "CDF_REAL8" }, { 31, "CDF_EPOCH" }, { 41, "CDF_BYTE" },
+    { 44, "CDF_FLOAT" }, { 45, "CDF_DOUBLE" }, { 51, "CDF_CHAR" },  { 52, "CDF_UCHAR" },
+};
+
+static const struct meaning encodings[] = {
+    { 1, "NETWORK" },    { 2, "SUN" },        { 3, "VAX" },        { 4, "DECSTATION" }, { 5, "SGi" },
+    { 6, "IBMPC" },      { 7, "IBMRS" },      { 9, "MAC" },        { 11, "HP" },        { 12, "NeXT" },
+    { 13, "ALPHAOSF1" }, { 14, "ALPHAVMSd" }, { 15, "ALPHAVMSg" }, { 16, "ALPHAVMSi" },
+};
+
+/* The words of a number in a table, or others if it has none. */
+static const char *found(const struct meaning *table, size_t rows, int32_t number, const char *others)
+{
+    for (size_t i = 0; i < rows; i++)
+        if (table[i].number == number)
+            return table[i].words;
+    return others;
+}
+
 const char *words_of_number(int32_t number)
 {
-    for (size_t i = 0; i < sizeof meanings / sizeof *meanings; i++)
-        if (meanings[i].number == number)
-            return meanings[i].words;
-    return "a number that the table does not have";
+    return found(meanings, sizeof meanings / sizeof *meanings, number, "a number that the table does not have");
+}
+
+const char *words_of_refusal(int32_t number)
+{
+    return number == TLZ_BAD_WAY ? "no CDF file that can be read, or a record on the way breaks a rule (cdfcheck says more)"
+                                 : words_of_number(number);
+}
+
+const char *words_of_type(int32_t type)
+{
+    return found(types, sizeof types / sizeof *types, type, "no data type");
+}
+
+const char *words_of_encoding(int32_t encoding)
+{
+    return found(encodings, sizeof encodings / sizeof *encodings, encoding, "no encoding");
 }
 
 /* Places of a state. */

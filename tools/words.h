@@ -8,6 +8,15 @@
 /* The meaning of a number that comes back. */
 const char *words_of_number(int32_t number);
 
+/* The meaning of a number that the reader refuses with. */
+const char *words_of_refusal(int32_t number);
+
+/* A data type's name, by its number in the file. */
+const char *words_of_type(int32_t type);
+
+/* An encoding's name, by its number in the file. */
+const char *words_of_encoding(int32_t encoding);
+
 /* Where a check stands, by the numbers of its state (docs/STATE.md). */
 void words_of_state(const uint32_t *state, char *words, size_t room);
 

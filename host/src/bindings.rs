@@ -1,4 +1,4 @@
-//! The proved checker, called as C calls it (`include/tlepozaluh.h`).
+//! The proved checker and reader, called as C calls them (`include/tlepozaluh.h`).
 
 // The only place with unsafe code: a call of a C function cannot be written without it.
 #![allow(unsafe_code)]
@@ -22,6 +22,111 @@ mod c {
             state_len: usize,
             grant: u64,
             steps: *mut u64,
+        ) -> i32;
+        pub fn tlz_read_value(
+            file: *const u8,
+            file_len: usize,
+            kind: i64,
+            number: i64,
+            record: i64,
+            indices: *const i64,
+            index_count: usize,
+            element: i64,
+            value_kind: *mut u64,
+            bits: *mut u64,
+            offset: *mut u64,
+        ) -> i32;
+        pub fn tlz_read_entry(
+            file: *const u8,
+            file_len: usize,
+            attribute: i64,
+            kind: i64,
+            entry: i64,
+            element: i64,
+            value_kind: *mut u64,
+            bits: *mut u64,
+            offset: *mut u64,
+        ) -> i32;
+        pub fn tlz_read_pad(
+            file: *const u8,
+            file_len: usize,
+            kind: i64,
+            number: i64,
+            element: i64,
+            value_kind: *mut u64,
+            bits: *mut u64,
+            offset: *mut u64,
+        ) -> i32;
+        pub fn tlz_read_file(file: *const u8, file_len: usize, what: u64, field: *mut i32) -> i32;
+        pub fn tlz_read_dimension(
+            file: *const u8,
+            file_len: usize,
+            dimension: i64,
+            field: *mut i32,
+        ) -> i32;
+        pub fn tlz_read_variable(
+            file: *const u8,
+            file_len: usize,
+            kind: i64,
+            number: i64,
+            at: u64,
+            field: *mut i32,
+        ) -> i32;
+        pub fn tlz_read_size(
+            file: *const u8,
+            file_len: usize,
+            kind: i64,
+            number: i64,
+            dimension: i64,
+            field: *mut i32,
+        ) -> i32;
+        pub fn tlz_read_variance(
+            file: *const u8,
+            file_len: usize,
+            kind: i64,
+            number: i64,
+            dimension: i64,
+            field: *mut i32,
+        ) -> i32;
+        pub fn tlz_read_variable_name(
+            file: *const u8,
+            file_len: usize,
+            kind: i64,
+            number: i64,
+            offset: *mut u64,
+            length: *mut u64,
+        ) -> i32;
+        pub fn tlz_read_attribute(
+            file: *const u8,
+            file_len: usize,
+            number: i64,
+            at: u64,
+            field: *mut i32,
+        ) -> i32;
+        pub fn tlz_read_attribute_name(
+            file: *const u8,
+            file_len: usize,
+            number: i64,
+            offset: *mut u64,
+            length: *mut u64,
+        ) -> i32;
+        pub fn tlz_read_entry_field(
+            file: *const u8,
+            file_len: usize,
+            attribute: i64,
+            kind: i64,
+            entry: i64,
+            at: u64,
+            field: *mut i32,
+        ) -> i32;
+        pub fn tlz_read_entry_at(
+            file: *const u8,
+            file_len: usize,
+            attribute: i64,
+            kind: i64,
+            place: u64,
+            at: u64,
+            field: *mut i32,
         ) -> i32;
     }
 }
@@ -76,4 +181,164 @@ pub fn from_bytes(bytes: &[u8]) -> Option<State> {
         .filter_map(|four| four.try_into().ok().map(u32::from_le_bytes))
         .collect();
     numbers.try_into().ok().filter(|_| bytes.len() == 4 * STATE_LENGTH)
+}
+
+/// What stands in the caller's numbers before a read.
+const BEFORE: u64 = 0x5A5A_A5A5_0F0F_F0F1;
+
+/// A value: its kind, its bits and the file offset it was read from.
+#[derive(Clone, Copy, Debug, PartialEq, Eq)]
+pub struct Value {
+    /// 0 signed, 1 unsigned, 2 single, 3 double, 4 character code.
+    pub kind: u64,
+    /// Signed values sign-extended to 64 bits; floats their own bits, zero-extended.
+    pub bits: u64,
+    /// File offset of the lowest byte.
+    pub offset: u64,
+}
+
+/// Where a name stands in the file.
+#[derive(Clone, Copy, Debug, PartialEq, Eq)]
+pub struct Name {
+    /// File offset of its first byte.
+    pub offset: u64,
+    /// Bytes before the NUL, at most 64.
+    pub length: u64,
+}
+
+/// 0 gives the numbers as they are now; a refusal must have left them as they were.
+fn given<T: PartialEq + std::fmt::Debug>(answer: i32, before: T, after: T) -> Result<T, i32> {
+    if answer == 0 {
+        return Ok(after);
+    }
+    assert_eq!(before, after, "refused with {answer}, and the caller's numbers changed");
+    Err(answer)
+}
+
+/// Asks for a value: the three numbers that a call sets are lent to it.
+fn value(call: impl FnOnce(*mut u64, *mut u64, *mut u64) -> i32) -> Result<Value, i32> {
+    let before = Value { kind: BEFORE, bits: !BEFORE, offset: BEFORE / 2 };
+    let mut after = before;
+    let answer = call(&mut after.kind, &mut after.bits, &mut after.offset);
+    given(answer, before, after)
+}
+
+/// Asks for a field.
+fn field(call: impl FnOnce(*mut i32) -> i32) -> Result<i32, i32> {
+    let before = BEFORE as i32;
+    let mut after = before;
+    let answer = call(&mut after);
+    given(answer, before, after)
+}
+
+/// Asks for a name.
+fn name(call: impl FnOnce(*mut u64, *mut u64) -> i32) -> Result<Name, i32> {
+    let before = Name { offset: BEFORE, length: !BEFORE };
+    let mut after = before;
+    let answer = call(&mut after.offset, &mut after.length);
+    given(answer, before, after)
+}
+
+// SAFETY, of all calls below: pointer and length are one lent slice's; the numbers that are written are locals of their own.
+
+/// An element of a variable's value.
+pub fn read_value(
+    file: &[u8],
+    kind: i64,
+    number: i64,
+    record: i64,
+    indices: &[i64],
+    element: i64,
+) -> Result<Value, i32> {
+    let (f, n) = (file.as_ptr(), file.len());
+    let (i, count) = (indices.as_ptr(), indices.len());
+    value(|k, b, o| unsafe {
+        c::tlz_read_value(f, n, kind, number, record, i, count, element, k, b, o)
+    })
+}
+
+/// An element of an attribute's entry: the first of that number.
+pub fn read_entry(
+    file: &[u8],
+    attribute: i64,
+    kind: i64,
+    entry: i64,
+    element: i64,
+) -> Result<Value, i32> {
+    let (f, n) = (file.as_ptr(), file.len());
+    value(|k, b, o| unsafe { c::tlz_read_entry(f, n, attribute, kind, entry, element, k, b, o) })
+}
+
+/// An element of a variable's pad value.
+pub fn read_pad(file: &[u8], kind: i64, number: i64, element: i64) -> Result<Value, i32> {
+    let (f, n) = (file.as_ptr(), file.len());
+    value(|k, b, o| unsafe { c::tlz_read_pad(f, n, kind, number, element, k, b, o) })
+}
+
+/// What the file says of itself.
+pub fn read_file(file: &[u8], what: u64) -> Result<i32, i32> {
+    field(|to| unsafe { c::tlz_read_file(file.as_ptr(), file.len(), what, to) })
+}
+
+/// The size of a dimension of the rVariables.
+pub fn read_dimension(file: &[u8], dimension: i64) -> Result<i32, i32> {
+    field(|to| unsafe { c::tlz_read_dimension(file.as_ptr(), file.len(), dimension, to) })
+}
+
+/// A field of a variable's VDR, by its offset in the record.
+pub fn read_variable(file: &[u8], kind: i64, number: i64, at: u64) -> Result<i32, i32> {
+    field(|to| unsafe { c::tlz_read_variable(file.as_ptr(), file.len(), kind, number, at, to) })
+}
+
+/// The size of a dimension of a zVariable.
+pub fn read_size(file: &[u8], kind: i64, number: i64, dimension: i64) -> Result<i32, i32> {
+    let (f, n) = (file.as_ptr(), file.len());
+    field(|to| unsafe { c::tlz_read_size(f, n, kind, number, dimension, to) })
+}
+
+/// The variance of a dimension of a variable, -1 or 0.
+pub fn read_variance(file: &[u8], kind: i64, number: i64, dimension: i64) -> Result<i32, i32> {
+    let (f, n) = (file.as_ptr(), file.len());
+    field(|to| unsafe { c::tlz_read_variance(f, n, kind, number, dimension, to) })
+}
+
+/// Where a variable's name stands.
+pub fn read_variable_name(file: &[u8], kind: i64, number: i64) -> Result<Name, i32> {
+    let (f, n) = (file.as_ptr(), file.len());
+    name(|o, l| unsafe { c::tlz_read_variable_name(f, n, kind, number, o, l) })
+}
+
+/// A field of an attribute's ADR, by its offset in the record.
+pub fn read_attribute(file: &[u8], number: i64, at: u64) -> Result<i32, i32> {
+    field(|to| unsafe { c::tlz_read_attribute(file.as_ptr(), file.len(), number, at, to) })
+}
+
+/// Where an attribute's name stands.
+pub fn read_attribute_name(file: &[u8], number: i64) -> Result<Name, i32> {
+    let (f, n) = (file.as_ptr(), file.len());
+    name(|o, l| unsafe { c::tlz_read_attribute_name(f, n, number, o, l) })
+}
+
+/// A field of the AEDR of the first entry of a number, by its offset in the record.
+pub fn read_entry_field(
+    file: &[u8],
+    attribute: i64,
+    kind: i64,
+    entry: i64,
+    at: u64,
+) -> Result<i32, i32> {
+    let (f, n) = (file.as_ptr(), file.len());
+    field(|to| unsafe { c::tlz_read_entry_field(f, n, attribute, kind, entry, at, to) })
+}
+
+/// A field of the AEDR at a place of its list, from 0.
+pub fn read_entry_at(
+    file: &[u8],
+    attribute: i64,
+    kind: i64,
+    place: u64,
+    at: u64,
+) -> Result<i32, i32> {
+    let (f, n) = (file.as_ptr(), file.len());
+    field(|to| unsafe { c::tlz_read_entry_at(f, n, attribute, kind, place, at, to) })
 }

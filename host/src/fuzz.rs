@@ -1,16 +1,17 @@
-//! Fuzzing: the proved checker against the second one, on files built and damaged at random.
+//! Fuzzing: the proved checker and reader against the second ones, on files built and damaged at random.
 //!
 //! A round builds a good file and damages it or not. Both check it, in one grant and in grants at random; verdict, steps and
 //! every mark must agree at every stop. Then both go on from a point of the check with marks made up. Last, the proved
 //! checker is given states made up: the answer must be one of the table, what may not change must not, and one grant must
-//! leave what several do.
+//! leave what several do. Then both readers are asked: they must answer the same, and never 20 on an accepted file.
 
 use crate::bindings::{check_grant, fresh, State, STATE_LENGTH};
 use crate::build;
 use crate::build::random::Random;
 use crate::damage::{self, Damage};
+use crate::questions;
 use crate::second::bytes::field;
-use crate::second::check::{Check, RUNNING};
+use crate::second::check::{self, Check, RUNNING};
 use std::collections::BTreeMap;
 use std::fmt;
 
@@ -40,6 +41,10 @@ pub struct Covered {
     pub made_up_states: BTreeMap<u32, u64>,
     /// What these answered.
     pub made_up_answers: BTreeMap<i32, u64>,
+    /// Questions to both readers, by call.
+    pub questions: BTreeMap<&'static str, u64>,
+    /// What they answered: 0, or a refusal.
+    pub answers: BTreeMap<i32, u64>,
 }
 
 impl fmt::Display for Covered {
@@ -51,7 +56,9 @@ impl fmt::Display for Covered {
         writeln!(out, "short marks       {}", list(&self.short_marks))?;
         writeln!(out, "made-up marks     {}", list(&self.made_up_marks))?;
         writeln!(out, "made-up states    by phase {}", list(&self.made_up_states))?;
-        write!(out, "their answers     {}", list(&self.made_up_answers))
+        writeln!(out, "their answers     {}", list(&self.made_up_answers))?;
+        writeln!(out, "questions         {}", list(&self.questions))?;
+        write!(out, "reader's answers  {}", list(&self.answers))
     }
 }
 
@@ -83,7 +90,8 @@ pub fn round(seed: u64, covered: &mut Covered) -> Result<(), Difference> {
         .and_then(|()| whole(&file, covered))
         .and_then(|steps| in_grants(&file, steps, &mut random, covered))
         .and_then(|()| with_marks(&file, &mut random, covered))
-        .and_then(|()| with_states(&file, &mut random, covered));
+        .and_then(|()| with_states(&file, &mut random, covered))
+        .and_then(|()| with_questions(&file, &mut random, covered));
     tried.map_err(|what| Difference { file, what })
 }
 
@@ -132,6 +140,23 @@ fn scattered(mut file: Vec<u8>, random: &mut Random) -> Vec<u8> {
         file.get_mut(at..).and_then(<[u8]>::first_mut).into_iter().for_each(|place| *place = byte);
     }
     file
+}
+
+/// Questions to both readers.
+const QUESTIONS: usize = 40;
+
+fn with_questions(file: &[u8], random: &mut Random, covered: &mut Covered) -> Result<(), String> {
+    let accepted = check::run(file, &mut vec![0; file.len()]).verdict == 0;
+    for _ in 0..QUESTIONS {
+        let question = questions::any(file, random);
+        let answer = questions::agreed(file, &question)?;
+        count(&mut covered.questions, questions::call(&question));
+        count(&mut covered.answers, answer.err().unwrap_or(0));
+        if accepted && answer == Err(20) {
+            return Err(format!("20 on an accepted file: {question}"));
+        }
+    }
+    Ok(())
 }
 
 /// Two checks of one file, side by side.
@@ -379,6 +404,7 @@ mod tests {
         assert_eq!(one, other);
         assert_eq!(one.files, 200);
         assert!(one.verdicts.len() > 8 && one.made_up_states.len() == 10, "{one}");
+        assert!(one.questions.len() == questions::CALLS && one.answers.len() == 7, "{one}");
     }
 
     #[test]

@@ -1,7 +1,7 @@
 //! The host side of Tlepozaluh: a second checker and reader of CDF files, written
 //! from document 01 alone, a builder of good files and a source of damaged ones.
 //!
-//! The proved checker, behind `bindings`, is compared with `second`; the two share no code.
+//! The proved checker and reader, behind `bindings`, are compared with `second`; the two share no code.
 
 // Denied and not forbidden: `bindings` calls C functions.
 #![deny(unsafe_code)]
@@ -11,6 +11,8 @@ pub mod bindings;
 pub mod build;
 pub mod calls;
 pub mod damage;
+pub mod dump;
 pub mod fuzz;
+pub mod questions;
 pub mod samples;
 pub mod second;

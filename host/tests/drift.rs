@@ -4,10 +4,32 @@
 use std::fs::{read_dir, read_to_string};
 use std::path::{Path, PathBuf};
 use tlepozaluh_host::bindings::{check_begin, STATE_LENGTH};
+use tlepozaluh_host::bindings::{read_attribute, read_entry_at, read_file, read_variable};
 use tlepozaluh_host::calls::{self, Call};
+use tlepozaluh_host::samples;
 
-/// Constants of the header that are no numbers that come back.
-const OTHERS: [&str; 2] = ["TLZ_STATE_LEN", "TLZ_LONGEST_FILE"];
+/// Constants of the header that are no numbers that come back, and how the reader's begin.
+const OTHERS: [&str; 3] = ["TLZ_STATE_LEN", "TLZ_LONGEST_FILE", "TLZ_BAD_WAY"];
+const FIELDS: [&str; 4] = ["TLZ_FILE_", "TLZ_VARIABLE_", "TLZ_ATTRIBUTE_", "TLZ_ENTRY_"];
+const KINDS: [(&str, i64); 11] = [
+    ("TLZ_RVARIABLE", 3),
+    ("TLZ_ZVARIABLE", 8),
+    ("TLZ_GRENTRY", 5),
+    ("TLZ_ZENTRY", 9),
+    ("TLZ_SIGNED", 0),
+    ("TLZ_UNSIGNED", 1),
+    ("TLZ_SINGLE", 2),
+    ("TLZ_DOUBLE", 3),
+    ("TLZ_CHARACTER", 4),
+    ("TLZ_FLAG_RECORD_VARIANCE", 1),
+    ("TLZ_FLAG_PAD", 2),
+];
+
+/// A constant of the reader: a kind, a flag or a field.
+fn is_readers(name: &str) -> bool {
+    let is_kind = KINDS.iter().any(|(kind, _)| *kind == name);
+    is_kind || FIELDS.iter().any(|begin| name.starts_with(begin))
+}
 
 fn project() -> PathBuf {
     Path::new(env!("CARGO_MANIFEST_DIR")).join("..")
@@ -56,7 +78,7 @@ fn drift(header: &str, sources: &str) -> Vec<String> {
 #[test]
 fn the_header_declares_the_exports() {
     let exported = calls::of_rattle_source(&sources()).expect("the exports");
-    assert!(exported.len() >= 2, "{exported:?}");
+    assert!(exported.len() >= 15, "{exported:?}");
     assert_eq!(drift(&header(), &sources()), Vec::<String>::new());
 }
 
@@ -105,6 +127,15 @@ fn drift_is_found() {
             "uint64_t grant, uint64_t *steps);\nvoid tlz_more(void",
         ),
         ("int32_t tlz_check_begin(uint32_t", "int32_t (*tlz_check_begin)(uint32_t"),
+        ("tlz_read_pad(const uint8_t *file", "tlz_read_pads(const uint8_t *file"),
+        ("int64_t number, int64_t record,", "int64_t record, int64_t number,"),
+        (
+            "const int64_t *indices, size_t index_count",
+            "const int64_t *indices, uint32_t index_count",
+        ),
+        ("uint64_t what, int32_t *field", "int64_t what, int32_t *field"),
+        ("uint64_t place, uint64_t at", "uint64_t at, uint64_t place"),
+        ("uint64_t *offset, uint64_t *length", "uint64_t *length, uint64_t *offset"),
     ];
     for (from, to) in of_header {
         assert!(header.contains(from), "{from}");
@@ -159,8 +190,9 @@ fn forms_of_parameters() {
 fn every_number_of_the_table() {
     let table = calls::table_numbers(&text("docs/INTERFACE.md"));
     let defined = calls::defined_numbers(&header());
-    let numbers: Vec<(String, i64)> =
-        defined.into_iter().filter(|(name, _)| !OTHERS.contains(&name.as_str())).collect();
+    let comes_back =
+        |(name, _): &(String, i64)| !OTHERS.contains(&name.as_str()) && !is_readers(name);
+    let numbers: Vec<(String, i64)> = defined.into_iter().filter(comes_back).collect();
     assert_eq!(numbers, table);
     assert!(table.len() >= 23, "{table:?}");
     assert!(table.iter().map(|(_, number)| *number).zip(-1..).all(|(a, b)| a == b), "{table:?}");
@@ -199,4 +231,47 @@ fn the_length_of_a_state() {
             "{document}: {said:?}"
         );
     }
+}
+
+/// The rows `| NUMBER | .., `NAME` | meaning |` of the reader's tables in a text.
+fn reader_rows(text: &str) -> Vec<(String, i64)> {
+    let read = |line: &str| {
+        let mut cells = line.strip_prefix('|')?.split('|').map(str::trim);
+        let number = cells.next()?.parse().ok()?;
+        let name = cells.next()?.split('`').nth(1)?.to_string();
+        is_readers(&name).then_some((name, number))
+    };
+    text.lines().filter_map(read).collect()
+}
+
+/// The header's constants of the reader are the ones that the library takes, and docs/INTERFACE.md has them in its tables.
+#[test]
+fn every_constant_of_the_reader() {
+    let mut defined = calls::defined_numbers(&header());
+    assert!(defined.contains(&("TLZ_BAD_WAY".to_string(), 20)));
+    defined.retain(|(name, _)| is_readers(name));
+    for (name, number) in KINDS {
+        assert!(defined.contains(&(name.to_string(), number)), "{name}");
+    }
+    let described = text("docs/INTERFACE.md");
+    for (name, number) in &defined {
+        assert!(described.contains(&format!("`{name}`")), "{name}");
+        let rows = reader_rows(&described);
+        let row = rows.iter().find(|(row, _)| row == name);
+        assert!(row.is_none_or(|(_, shown)| shown == number), "{name}: {row:?}");
+        assert!(row.is_some() || KINDS.iter().any(|(kind, _)| kind == name), "{name}");
+    }
+    let fields = |begin: &str| -> Vec<u64> {
+        let of = defined.iter().filter(|(name, _)| name.starts_with(begin));
+        of.map(|(_, number)| *number as u64).collect()
+    };
+    let file = samples::directory().join("12_attrs_be_r_and_z.cdf");
+    let file = std::fs::read(file).expect("a sample");
+    let shown = |call: &dyn Fn(u64) -> Result<i32, i32>| -> Vec<u64> {
+        (0..300).filter(|at| call(*at).is_ok()).collect()
+    };
+    assert_eq!(fields("TLZ_FILE_"), shown(&|at| read_file(&file, at)));
+    assert_eq!(fields("TLZ_VARIABLE_"), shown(&|at| read_variable(&file, 8, 0, at)));
+    assert_eq!(fields("TLZ_ATTRIBUTE_"), shown(&|at| read_attribute(&file, 0, at)));
+    assert_eq!(fields("TLZ_ENTRY_"), shown(&|at| read_entry_at(&file, 0, 5, 0, at)));
 }

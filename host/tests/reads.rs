@@ -1,19 +1,19 @@
-//! Every line of samples/reads.txt.
+//! Every line of samples/reads.txt, put to the proved reader and to the second one.
 
 use std::collections::HashMap;
 
+use tlepozaluh_host::questions::{proved, second, Given, Question};
 use tlepozaluh_host::samples::{self, ReadLine};
-use tlepozaluh_host::second::read::{read_entry, read_value, Answer};
 
 const LINES: usize = 4623;
 
-fn ask(line: &ReadLine, file: &[u8]) -> Result<Answer, u32> {
+fn question(line: &ReadLine) -> Question {
     match (line.of_variable, line.question.as_slice()) {
         (true, [kind, number, record, element, indices @ ..]) => {
-            read_value(file, *kind, *number, *record, indices, *element)
+            Question::Value(*kind, *number, *record, indices.to_vec(), *element)
         }
         (false, [attribute, kind, entry, element]) => {
-            read_entry(file, *attribute, *kind, *entry, *element)
+            Question::Entry(*attribute, *kind, *entry, *element)
         }
         _ => panic!("not a question: {line:?}"),
     }
@@ -30,9 +30,11 @@ fn every_line() {
     let mut asked = 0;
     for text in text.lines() {
         let line = samples::read_line(text).expect(text);
-        let answer = ask(&line, &files[&line.name]);
-        let answer = answer.map(|answer| (answer.kind, answer.bits, answer.offset));
-        assert_eq!(answer, line.answer, "{text}");
+        let expected = line.answer.map(|(kind, bits, offset)| Given::Value(kind, bits, offset));
+        let expected = expected.map_err(|refusal| refusal as i32);
+        let file = &files[&line.name];
+        assert_eq!(proved(file, &question(&line)), expected, "proved: {text}");
+        assert_eq!(second(file, &question(&line)), expected, "second: {text}");
         asked += 1;
     }
     assert_eq!(asked, LINES);

@@ -1,4 +1,4 @@
-//! Compares the proved checker with the second one for a given time and prints what was covered.
+//! Compares the proved checker and reader with the second ones for a given time and prints what was covered.
 //!
 //!     fuzz --seconds N [--seed S]
 //!

@@ -6,7 +6,7 @@ use super::tables::Form;
 use super::way::{GAP, NO_NUMBER, VAX_FLOAT};
 
 /// A record of more values than this shows its first one and ` ..`.
-const MOST_VALUES: i64 = 100_000;
+pub(crate) const MOST_VALUES: i64 = 100_000;
 
 /// The whole dump; a refusal's number if the file is not one to be read.
 pub fn dump(file: &[u8]) -> Result<String, u32> {
@@ -32,14 +32,14 @@ pub fn dump(file: &[u8]) -> Result<String, u32> {
 }
 
 /// Numbers with commas, `-` for none.
-fn numbers(list: &[i64]) -> String {
+pub(crate) fn numbers(list: &[i64]) -> String {
     if list.is_empty() {
         return "-".to_string();
     }
     list.iter().map(i64::to_string).collect::<Vec<_>>().join(",")
 }
 
-fn letter(set: bool) -> char {
+pub(crate) fn letter(set: bool) -> char {
     if set {
         'T'
     } else {
@@ -55,7 +55,7 @@ fn name_text(file: &[u8], name: Name) -> String {
     bytes.map(|byte| name_letter(*byte)).collect()
 }
 
-fn name_letter(byte: u8) -> String {
+pub(crate) fn name_letter(byte: u8) -> String {
     match byte {
         b'%' => "%25".to_string(),
         0x21..=0x7e => char::from(byte).to_string(),
@@ -122,7 +122,7 @@ fn record_line(
 }
 
 /// The next tuple of indices, the last one fastest.
-fn advance(indices: &mut [i64], sizes: &[i64]) {
+pub(crate) fn advance(indices: &mut [i64], sizes: &[i64]) {
     for (index, size) in indices.iter_mut().zip(sizes).rev() {
         *index += 1;
         if *index < *size {
@@ -149,17 +149,21 @@ fn value_token(
 }
 
 fn element_token(form: Form, element: Result<Answer, u32>) -> Result<String, u32> {
-    let bits = match element {
-        Err(VAX_FLOAT) => return Ok("vax".to_string()),
-        other => other?.bits,
-    };
-    Ok(match form {
+    match element {
+        Err(VAX_FLOAT) => Ok("vax".to_string()),
+        other => Ok(bits_token(form, other?.bits)),
+    }
+}
+
+/// The bits of an element of a form as a token.
+pub(crate) fn bits_token(form: Form, bits: u64) -> String {
+    match form {
         Form::Signed => (bits as i64).to_string(),
         Form::Unsigned => bits.to_string(),
         Form::Single => format!("f{bits:08x}"),
         Form::Double => format!("d{bits:016x}"),
         Form::Character => format!("c{bits:02x}"),
-    })
+    }
 }
 
 fn attribute_lines(file: &[u8], number: i64) -> Result<String, u32> {

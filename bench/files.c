@@ -1,0 +1,102 @@
+#include "files.h"
+
+#include <stdio.h>
+#include <stdlib.h>
+#include <string.h>
+
+enum { BASE = 372, GDR = 312 };
+
+static void put(struct file *file, size_t o, int64_t value)
+{
+    uint32_t n = (uint32_t)value;
+    for (int i = 0; i < 4; i++)
+        file->bytes[o + (size_t)i] = (uint8_t)(n >> (24 - 8 * i));
+}
+
+void *allocated(size_t n)
+{
+    void *p = malloc(n + 1);
+    if (p == NULL) {
+        fprintf(stderr, "no memory\n");
+        exit(1);
+    }
+    memset(p, 0x55, n);
+    return p;
+}
+
+/* A file of this length with magics, CDR and GDR, and no lists. */
+static struct file base(size_t length)
+{
+    static const int32_t cdr[] = { 304, 1, GDR, 2, 0, 6, 3 };
+    struct file file = { allocated(length), length };
+    memset(file.bytes, 0, length);
+    put(&file, 0, 0xCDF26002);
+    put(&file, 4, 0x0000FFFF);
+    for (size_t i = 0; i < sizeof cdr / sizeof *cdr; i++)
+        put(&file, 8 + 4 * i, cdr[i]);
+    put(&file, GDR, 60);
+    put(&file, GDR + 4, 2);
+    put(&file, GDR + 20, (int64_t)length);
+    put(&file, GDR + 32, -1);
+    return file;
+}
+
+struct file one_record(size_t size)
+{
+    struct file file = base(BASE + size);
+    put(&file, BASE, (int64_t)size);
+    put(&file, BASE + 4, -1);
+    return file;
+}
+
+struct file unused_records(size_t n)
+{
+    struct file file = base(BASE + 16 * n);
+    put(&file, GDR + 44, BASE);
+    for (size_t i = 0; i < n; i++) {
+        size_t o = BASE + 16 * i;
+        put(&file, o, 16);
+        put(&file, o + 4, -1);
+        put(&file, o + 8, i + 1 < n ? (int64_t)o + 16 : 0);
+        put(&file, o + 12, i > 0 ? (int64_t)o - 16 : 0);
+    }
+    return file;
+}
+
+/* A zVariable at o of one record of 4 bytes: its VDR, its VXR at 132 behind it, its VVR at 164. */
+static void put_variable(struct file *file, size_t o, size_t number, size_t next)
+{
+    int64_t vxr = (int64_t)o + 132, vvr = (int64_t)o + 164;
+    int64_t vdr_fields[] = { 132, 8, (int64_t)next, 4, 0, vxr, vxr, 1 };
+    int64_t vxr_fields[] = { 32, 6, 0, 1, 1, 0, 0, vvr, 12, 7 };
+    for (size_t i = 0; i < sizeof vdr_fields / sizeof *vdr_fields; i++)
+        put(file, o + 4 * i, vdr_fields[i]);
+    put(file, o + 48, 1);
+    put(file, o + 52, (int64_t)number);
+    for (size_t i = 0; i < sizeof vxr_fields / sizeof *vxr_fields; i++)
+        put(file, o + 132 + 4 * i, vxr_fields[i]);
+}
+
+struct file variables(size_t n)
+{
+    struct file file = base(BASE + 176 * n);
+    put(&file, GDR + 12, BASE);
+    put(&file, GDR + 40, (int64_t)n);
+    for (size_t i = 0; i < n; i++)
+        put_variable(&file, BASE + 176 * i, i, i + 1 < n ? BASE + 176 * (i + 1) : 0);
+    return file;
+}
+
+struct file records(size_t n)
+{
+    struct file file = base(BASE + 172 + 4 * n);
+    put(&file, GDR + 12, BASE);
+    put(&file, GDR + 40, 1);
+    put_variable(&file, BASE, 0, 0);
+    put(&file, BASE + 16, (int64_t)n - 1);
+    put(&file, BASE + 132 + 24, (int64_t)n - 1);
+    put(&file, BASE + 164, 8 + 4 * (int64_t)n);
+    for (size_t i = 0; i < n; i++)
+        put(&file, BASE + 172 + 4 * i, (int64_t)(i * 2654435761u));
+    return file;
+}

@@ -1,0 +1,28 @@
+/* Large good files, built in memory. */
+#ifndef BENCH_FILES_H
+#define BENCH_FILES_H
+
+#include <stddef.h>
+#include <stdint.h>
+
+struct file {
+    uint8_t *bytes;
+    size_t length;
+};
+
+/* So many bytes, written to; ends the program if there is no memory. */
+void *allocated(size_t n);
+
+/* One unused record, on no list. */
+struct file one_record(size_t size);
+
+/* n listed unused records of 16 bytes. */
+struct file unused_records(size_t n);
+
+/* n zVariables with one index entry each, of one record of 4 bytes. */
+struct file variables(size_t n);
+
+/* One zVariable of n records of 4 bytes, in one run. */
+struct file records(size_t n);
+
+#endif

@@ -1,0 +1,417 @@
+//! Questions to a reader, of every call: put to the proved reader and to the second one, and answered in one form.
+
+use crate::bindings;
+use crate::build::random::Random;
+use crate::damage;
+use crate::second::bytes::field;
+use crate::second::read;
+use crate::second::rules::{Attribute, Entry, Name, Variable};
+use std::fmt;
+
+/// A question: a call of the reader with its numbers.
+#[derive(Clone, Debug, PartialEq, Eq)]
+pub enum Question {
+    /// kind, number, record, indices, element.
+    Value(i64, i64, i64, Vec<i64>, i64),
+    /// attribute, kind, entry number, element.
+    Entry(i64, i64, i64, i64),
+    /// kind, number, element.
+    Pad(i64, i64, i64),
+    /// what is asked.
+    File(u64),
+    /// dimension of the rVariables.
+    Dimension(i64),
+    /// kind, number, offset of the field.
+    Variable(i64, i64, u64),
+    /// kind, number, dimension.
+    Size(i64, i64, i64),
+    /// kind, number, dimension.
+    Variance(i64, i64, i64),
+    /// kind, number.
+    VariableName(i64, i64),
+    /// number, offset of the field.
+    Attribute(i64, u64),
+    /// number.
+    AttributeName(i64),
+    /// attribute, kind, entry number, offset of the field.
+    EntryField(i64, i64, i64, u64),
+    /// attribute, kind, place, offset of the field.
+    EntryAt(i64, i64, u64, u64),
+}
+
+/// What is given: a value's kind, bits and offset, a field, or a name's offset and length.
+#[derive(Clone, Copy, Debug, PartialEq, Eq)]
+pub enum Given {
+    /// Kind, bits, offset.
+    Value(u64, u64, u64),
+    /// A field.
+    Field(i64),
+    /// Offset and length.
+    Name(u64, u64),
+}
+
+/// What is given, or the number of a refusal.
+pub type Answer = Result<Given, i32>;
+
+impl fmt::Display for Question {
+    fn fmt(&self, out: &mut fmt::Formatter) -> fmt::Result {
+        write!(out, "{self:?}")
+    }
+}
+
+/// The proved reader's answer.
+pub fn proved(file: &[u8], question: &Question) -> Answer {
+    use Question::*;
+    let value = |given: bindings::Value| Given::Value(given.kind, given.bits, given.offset);
+    let field = |given: i32| Given::Field(i64::from(given));
+    let name = |given: bindings::Name| Given::Name(given.offset, given.length);
+    match question {
+        Value(kind, number, record, indices, element) => {
+            bindings::read_value(file, *kind, *number, *record, indices, *element).map(value)
+        }
+        Entry(attribute, kind, entry, element) => {
+            bindings::read_entry(file, *attribute, *kind, *entry, *element).map(value)
+        }
+        Pad(kind, number, element) => bindings::read_pad(file, *kind, *number, *element).map(value),
+        File(what) => bindings::read_file(file, *what).map(field),
+        Dimension(dimension) => bindings::read_dimension(file, *dimension).map(field),
+        Variable(kind, number, at) => bindings::read_variable(file, *kind, *number, *at).map(field),
+        Size(kind, number, of) => bindings::read_size(file, *kind, *number, *of).map(field),
+        Variance(kind, number, of) => bindings::read_variance(file, *kind, *number, *of).map(field),
+        VariableName(kind, number) => bindings::read_variable_name(file, *kind, *number).map(name),
+        Attribute(number, at) => bindings::read_attribute(file, *number, *at).map(field),
+        AttributeName(number) => bindings::read_attribute_name(file, *number).map(name),
+        EntryField(attribute, kind, entry, at) => {
+            bindings::read_entry_field(file, *attribute, *kind, *entry, *at).map(field)
+        }
+        EntryAt(attribute, kind, place, at) => {
+            bindings::read_entry_at(file, *attribute, *kind, *place, *at).map(field)
+        }
+    }
+}
+
+/// A shown field, or 18.
+fn shown(field: Option<i64>) -> Result<Given, u32> {
+    field.map(Given::Field).ok_or(18)
+}
+
+/// What the file says of itself, by the second reader.
+fn file_field(file: &[u8], what: u64) -> Result<Given, u32> {
+    let counts = read::counts(file)?;
+    shown(match what {
+        0 => Some(read::majority(file)?),
+        1 => Some(read::encoding(file)?.number),
+        2 => Some(counts.r_variables),
+        3 => Some(counts.z_variables),
+        4 => Some(counts.attributes),
+        5 => i64::try_from(read::r_dimensions(file)?.len()).ok(),
+        _ => None,
+    })
+}
+
+/// A field of a VDR by its offset; the dimension count is a zVDR's alone.
+fn variable_field(kind: i64, of: &Variable, at: u64) -> Option<i64> {
+    match at {
+        12 => Some(of.data_type.number),
+        16 => Some(of.max_rec),
+        28 => Some(of.flags),
+        32 => Some(of.s_records),
+        48 => Some(of.elements),
+        52 => Some(of.number),
+        128 if kind == 8 => i64::try_from(of.sizes.len()).ok(),
+        _ => None,
+    }
+}
+
+fn attribute_field(of: &Attribute, at: u64) -> Option<i64> {
+    match at {
+        16 => Some(of.scope),
+        20 => Some(of.number),
+        24 => Some(of.gr_entries),
+        28 => Some(of.gr_maximum),
+        40 => Some(of.z_entries),
+        44 => Some(of.z_maximum),
+        _ => None,
+    }
+}
+
+fn entry_field(of: &Entry, at: u64) -> Option<i64> {
+    match at {
+        12 => Some(of.attribute),
+        16 => Some(of.data_type.number),
+        20 => Some(of.number),
+        24 => Some(of.elements),
+        _ => None,
+    }
+}
+
+/// The second reader's answer.
+pub fn second(file: &[u8], question: &Question) -> Answer {
+    use Question::*;
+    let value = |given: read::Answer| Given::Value(given.kind, given.bits, given.offset);
+    let name = |of: Name| Given::Name(of.offset as u64, of.length as u64);
+    let answer = match question {
+        Value(kind, number, record, indices, element) => {
+            read::read_value(file, *kind, *number, *record, indices, *element).map(value)
+        }
+        Entry(attribute, kind, entry, element) => {
+            read::read_entry(file, *attribute, *kind, *entry, *element).map(value)
+        }
+        Pad(kind, number, element) => read::read_pad(file, *kind, *number, *element).map(value),
+        File(what) => file_field(file, *what),
+        Dimension(of) => read::r_dimension_size(file, *of).map(Given::Field),
+        Variable(kind, number, at) => read::variable(file, *kind, *number)
+            .and_then(|of| shown(variable_field(*kind, &of, *at))),
+        Size(kind, number, of) => read::dimension_size(file, *kind, *number, *of).map(Given::Field),
+        Variance(kind, number, of) => read::variance(file, *kind, *number, *of).map(Given::Field),
+        VariableName(kind, number) => read::variable(file, *kind, *number).map(|of| name(of.name)),
+        Attribute(number, at) => {
+            read::attribute(file, *number).and_then(|of| shown(attribute_field(&of, *at)))
+        }
+        AttributeName(number) => read::attribute(file, *number).map(|of| name(of.name)),
+        EntryField(attribute, kind, entry, at) => {
+            read::entry(file, *attribute, *kind, *entry).and_then(|of| shown(entry_field(&of, *at)))
+        }
+        EntryAt(attribute, kind, place, at) => {
+            let place = i64::try_from(*place).unwrap_or(i64::MAX);
+            read::entry_at_place(file, *attribute, *kind, place)
+                .and_then(|of| shown(entry_field(&of, *at)))
+        }
+    };
+    answer.map_err(|refusal| refusal as i32)
+}
+
+/// Both answers, if they are one; else both in words.
+pub fn agreed(file: &[u8], question: &Question) -> Result<Answer, String> {
+    let (ours, other) = (proved(file, question), second(file, question));
+    if ours != other {
+        return Err(format!("{question}: proved {ours:?}, second {other:?}"));
+    }
+    let right = |number: &i32| (15..=20).contains(number);
+    if !ours.as_ref().err().is_none_or(right) {
+        return Err(format!("{question}: answered {ours:?}"));
+    }
+    Ok(ours)
+}
+
+/// Numbers that no good question has, and some that it may have.
+const EDGES: [i64; 18] = [
+    i64::MIN,
+    -4_294_967_296,
+    -2_147_483_649,
+    -2_147_483_648,
+    -2,
+    -1,
+    0,
+    1,
+    2,
+    121,
+    2_147_483_646,
+    2_147_483_647,
+    2_147_483_648,
+    4_294_967_295,
+    4_294_967_296,
+    4_294_967_297,
+    i64::MAX - 1,
+    i64::MAX,
+];
+
+/// Kinds: those of variables and entries, other record types, and numbers that are equal to them in their lower bits.
+const KINDS: [i64; 14] =
+    [3, 8, 5, 9, 0, -1, 4, 6, 7, 4_294_967_299, 4_294_967_304, 259, i64::MIN, i64::MAX];
+
+/// What can be asked for by a small number: now and then an edge.
+fn small(random: &mut Random, most: i64) -> i64 {
+    if random.once_in(6) {
+        return random.one_of(&EDGES).copied().unwrap_or(0);
+    }
+    random.between(0, most)
+}
+
+/// Now and then a number from the file's own fields, so that entries and records of any number are met.
+fn own_number(file: &[u8], random: &mut Random, most: i64) -> i64 {
+    if !random.once_in(3) {
+        return small(random, most);
+    }
+    let records = damage::records(file);
+    let record = random.one_of(&records).map_or(8, |found| found.offset);
+    let at = record.saturating_add(4 * random.place(16));
+    i64::try_from(at).ok().and_then(|at| field(file, at)).unwrap_or(0)
+}
+
+fn kind(random: &mut Random, right: [i64; 2]) -> i64 {
+    if random.once_in(8) {
+        return random.one_of(&KINDS).copied().unwrap_or(0);
+    }
+    right[random.place(2)]
+}
+
+/// Offsets of fields: all that are shown, their neighbours and others.
+fn offset(random: &mut Random) -> u64 {
+    const SHOWN: [u64; 14] = [12, 16, 20, 24, 28, 32, 36, 40, 44, 48, 52, 64, 128, 132];
+    match random.below(6) {
+        0 => random.number(),
+        1 => random.number() % 200,
+        _ => random.one_of(&SHOWN).copied().unwrap_or(16),
+    }
+}
+
+/// As many indices as the variable has dimensions, below their sizes, most of the time.
+fn indices(file: &[u8], kind: i64, number: i64, random: &mut Random) -> Vec<i64> {
+    let sizes = read::variable(file, kind, number).map_or(Vec::new(), |of| of.sizes);
+    let mut found: Vec<i64> = sizes.iter().map(|size| random.below(*size)).collect();
+    if random.once_in(6) {
+        let place = random.place(found.len().max(1));
+        let wrong = small(random, 3);
+        found.iter_mut().skip(place).take(1).for_each(|index| *index = wrong);
+    }
+    match random.below(12) {
+        0 => found.push(small(random, 2)),
+        1 => drop(found.pop()),
+        2 => found.resize(random.place(14), 0),
+        _ => (),
+    }
+    found
+}
+
+/// Any question about a variable.
+fn of_variable(file: &[u8], random: &mut Random) -> Question {
+    let (kind, number) = (kind(random, [3, 8]), small(random, 3));
+    match random.below(9) {
+        0..=3 => {
+            let indices = indices(file, kind, number, random);
+            let record = own_number(file, random, 8);
+            Question::Value(kind, number, record, indices, small(random, 1))
+        }
+        4 => Question::Pad(kind, number, small(random, 2)),
+        5 => Question::Variable(kind, number, offset(random)),
+        6 => Question::Size(kind, number, small(random, 3)),
+        7 => Question::Variance(kind, number, small(random, 3)),
+        _ => Question::VariableName(kind, number),
+    }
+}
+
+/// Any question about an attribute.
+fn of_attribute(file: &[u8], random: &mut Random) -> Question {
+    let (attribute, kind) = (small(random, 3), kind(random, [5, 9]));
+    match random.below(6) {
+        0 | 1 => {
+            let entry = own_number(file, random, 4);
+            Question::Entry(attribute, kind, entry, small(random, 4))
+        }
+        2 => Question::EntryField(attribute, kind, own_number(file, random, 4), offset(random)),
+        3 => Question::EntryAt(attribute, kind, small(random, 4) as u64, offset(random)),
+        4 => Question::Attribute(attribute, offset(random)),
+        _ => Question::AttributeName(attribute),
+    }
+}
+
+/// Any question about a file: mostly of what is there.
+pub fn any(file: &[u8], random: &mut Random) -> Question {
+    match random.below(12) {
+        0 => Question::File(random.number() % 8),
+        1 => Question::File(small(random, 5) as u64),
+        2 => Question::Dimension(small(random, 3)),
+        3..=7 => of_variable(file, random),
+        _ => of_attribute(file, random),
+    }
+}
+
+/// The call of a question, in a word.
+pub fn call(question: &Question) -> &'static str {
+    match question {
+        Question::Value(..) => "value",
+        Question::Entry(..) => "entry",
+        Question::Pad(..) => "pad",
+        Question::File(..) => "file",
+        Question::Dimension(..) => "dimension",
+        Question::Variable(..) => "variable",
+        Question::Size(..) => "size",
+        Question::Variance(..) => "variance",
+        Question::VariableName(..) => "variable name",
+        Question::Attribute(..) => "attribute",
+        Question::AttributeName(..) => "attribute name",
+        Question::EntryField(..) => "entry field",
+        Question::EntryAt(..) => "entry at",
+    }
+}
+
+/// How many calls there are.
+pub const CALLS: usize = 13;
+
+/// Questions that go through the edges of every number, one number at a time.
+pub fn edges() -> Vec<Question> {
+    let mut all = Vec::new();
+    for edge in EDGES {
+        all.extend(edge_of_variables(edge));
+        all.extend(edge_of_attributes(edge));
+        all.extend([Question::File(edge as u64), Question::Dimension(edge)]);
+    }
+    for kind in KINDS {
+        all.extend(edge_of_kinds(kind));
+    }
+    for at in (0..=200).chain([u64::MAX, 1 << 32, (1 << 32) + 16, u64::MAX - 15]) {
+        all.extend([3, 8].map(|kind| Question::Variable(kind, 0, at)));
+        all.extend([Question::Attribute(0, at), Question::EntryField(0, 5, 0, at)]);
+        all.extend([Question::EntryAt(0, 5, 0, at), Question::EntryAt(0, 9, 0, at)]);
+    }
+    all
+}
+
+fn edge_of_variables(edge: i64) -> Vec<Question> {
+    let of = |kind| {
+        vec![
+            Question::Value(kind, edge, 0, Vec::new(), 0),
+            Question::Value(kind, 0, edge, Vec::new(), 0),
+            Question::Value(kind, 0, 0, Vec::new(), edge),
+            Question::Value(kind, 0, 0, vec![edge], 0),
+            Question::Value(kind, 0, 0, vec![edge, 0], 0),
+            Question::Value(kind, 0, 0, vec![0, edge], 0),
+            Question::Value(kind, 0, 0, vec![0; edge.clamp(0, 40) as usize], 0),
+            Question::Pad(kind, edge, 0),
+            Question::Pad(kind, 0, edge),
+            Question::Variable(kind, edge, 12),
+            Question::Size(kind, edge, 0),
+            Question::Size(kind, 0, edge),
+            Question::Variance(kind, edge, 0),
+            Question::Variance(kind, 0, edge),
+            Question::VariableName(kind, edge),
+        ]
+    };
+    [3, 8].into_iter().flat_map(of).collect()
+}
+
+fn edge_of_attributes(edge: i64) -> Vec<Question> {
+    let of = |kind| {
+        vec![
+            Question::Entry(edge, kind, 0, 0),
+            Question::Entry(0, kind, edge, 0),
+            Question::Entry(0, kind, 0, edge),
+            Question::EntryField(edge, kind, 0, 16),
+            Question::EntryField(0, kind, edge, 16),
+            Question::EntryAt(edge, kind, 0, 16),
+            Question::EntryAt(0, kind, edge as u64, 16),
+        ]
+    };
+    let plain = [Question::Attribute(edge, 16), Question::AttributeName(edge)];
+    [5, 9].into_iter().flat_map(of).chain(plain).collect()
+}
+
+fn edge_of_kinds(kind: i64) -> Vec<Question> {
+    vec![
+        Question::Value(kind, 0, 0, Vec::new(), 0),
+        Question::Value(kind, -1, -1, vec![-1], -1),
+        Question::Pad(kind, 0, 0),
+        Question::Variable(kind, 0, 12),
+        Question::Variable(kind, 0, 128),
+        Question::Variable(kind, 0, 13),
+        Question::Size(kind, 0, 0),
+        Question::Variance(kind, 0, 0),
+        Question::VariableName(kind, 0),
+        Question::Entry(0, kind, 0, 0),
+        Question::Entry(-1, kind, 0, 0),
+        Question::EntryField(0, kind, 0, 16),
+        Question::EntryField(0, kind, 0, 17),
+        Question::EntryAt(0, kind, 0, 16),
+    ]
+}

@@ -1,0 +1,265 @@
+/*
+ * reads ROUNDS FILE..: asks the reader with heap buffers of exactly the lengths that it is told, to be run under a memory
+ * checker. Each file is asked as it is, damaged, and cut at any length; every call, with numbers that are there and that are
+ * not. Prints how many questions were put and what came back; exits with 1 if an answer is wrong, a refusal changed a number
+ * or a call was never made.
+ */
+#include "tlepozaluh.h"
+
+#include <inttypes.h>
+#include <stdio.h>
+#include <stdlib.h>
+#include <string.h>
+
+/* How many bytes of the file are missing: 0, or 1 to see that the memory checker finds that. */
+#ifndef MISSING
+#define MISSING 0
+#endif
+
+enum { CALLS = 13, ANSWERS = 21, NUMBERS = 3, ROOM = 65536 };
+
+/* What a call may set, each number an allocation of its own; what they held before. */
+struct lent {
+    const uint8_t *file;
+    size_t length;
+    uint64_t *numbers[NUMBERS];
+    int32_t *field;
+};
+
+static const uint64_t BEFORE = 0x5aa55aa50ff00ff0;
+static uint64_t calls[CALLS], answers[ANSWERS], wrong = 0, seed = 88172645463325252;
+
+static uint64_t any(uint64_t below)
+{
+    seed ^= seed << 13;
+    seed ^= seed >> 7;
+    seed ^= seed << 17;
+    return (seed >> 11) % below;
+}
+
+static void *exactly(size_t length)
+{
+    void *bytes = malloc(length);
+
+    if (bytes == NULL) {
+        fprintf(stderr, "no memory\n");
+        exit(2);
+    }
+    return bytes;
+}
+
+/* Mostly a small number; else an edge. */
+static int64_t number(int64_t most)
+{
+    static const int64_t edges[] = { INT64_MIN, INT32_MIN, -1, 0, 121, INT32_MAX, 2147483648, 4294967296, INT64_MAX };
+
+    if (any(5) == 0)
+        return edges[any(sizeof edges / sizeof *edges)];
+    return (int64_t)any((uint64_t)most + 1);
+}
+
+/* Mostly one of two kinds. */
+static int64_t kind(int64_t one, int64_t other)
+{
+    return any(8) == 0 ? number(9) : any(2) == 0 ? one : other;
+}
+
+/* Mostly the offset of a field that is shown. */
+static uint64_t field_at(void)
+{
+    static const uint64_t shown[] = { 12, 16, 20, 24, 28, 32, 40, 44, 48, 52, 128 };
+
+    return any(4) == 0 ? (uint64_t)number(140) : shown[any(sizeof shown / sizeof *shown)];
+}
+
+/* A value of a variable, with indices of exactly their number; that is right most of the time. */
+static int32_t ask_value(const struct lent *l)
+{
+    int64_t of = kind(TLZ_RVARIABLE, TLZ_ZVARIABLE), which = number(3);
+    int32_t dimensions = 0, answer = 0;
+    int64_t *indices = NULL;
+
+    if (of == TLZ_ZVARIABLE)
+        tlz_read_variable(l->file, l->length, of, which, TLZ_VARIABLE_DIMENSIONS, &dimensions);
+    else
+        tlz_read_file(l->file, l->length, TLZ_FILE_DIMENSIONS, &dimensions);
+    size_t count = any(5) == 0 ? any(14) : (size_t)dimensions;
+    indices = exactly(count * sizeof *indices);
+    for (size_t i = 0; i < count; i++)
+        indices[i] = any(3) == 0 ? number(3) : 0;
+    answer = tlz_read_value(l->file, l->length, of, which, number(8), indices, count, any(4) == 0 ? number(2) : 0,
+                            l->numbers[0], l->numbers[1], l->numbers[2]);
+    free(indices);
+    return answer;
+}
+
+/* A call that describes a variable. */
+static int32_t ask_variable(const struct lent *l, uint64_t call)
+{
+    int64_t of = kind(TLZ_RVARIABLE, TLZ_ZVARIABLE), which = number(3);
+
+    switch (call) {
+    case 1:
+        return tlz_read_pad(l->file, l->length, of, which, number(1), l->numbers[0], l->numbers[1], l->numbers[2]);
+    case 2:
+        return tlz_read_variable(l->file, l->length, of, which, field_at(), l->field);
+    case 3:
+        return tlz_read_size(l->file, l->length, of, which, number(2), l->field);
+    case 4:
+        return tlz_read_variance(l->file, l->length, of, which, number(2), l->field);
+    default:
+        return tlz_read_variable_name(l->file, l->length, of, which, l->numbers[0], l->numbers[1]);
+    }
+}
+
+/* A call for an attribute or an entry. */
+static int32_t ask_attribute(const struct lent *l, uint64_t call)
+{
+    int64_t of = kind(TLZ_GRENTRY, TLZ_ZENTRY), which = number(3);
+
+    switch (call) {
+    case 6:
+        return tlz_read_entry(l->file, l->length, which, of, number(4), number(2), l->numbers[0], l->numbers[1], l->numbers[2]);
+    case 7:
+        return tlz_read_entry_field(l->file, l->length, which, of, number(4), field_at(), l->field);
+    case 8:
+        return tlz_read_entry_at(l->file, l->length, which, of, (uint64_t)number(4), field_at(), l->field);
+    case 9:
+        return tlz_read_attribute(l->file, l->length, which, field_at(), l->field);
+    default:
+        return tlz_read_attribute_name(l->file, l->length, which, l->numbers[0], l->numbers[1]);
+    }
+}
+
+static int32_t ask(const struct lent *l, uint64_t call)
+{
+    if (call == 0)
+        return ask_value(l);
+    if (call < 6)
+        return ask_variable(l, call);
+    if (call < 11)
+        return ask_attribute(l, call);
+    if (call == 11)
+        return tlz_read_file(l->file, l->length, (uint64_t)number(6), l->field);
+    return tlz_read_dimension(l->file, l->length, number(3), l->field);
+}
+
+static void expect(int right, const char *what, uint64_t call)
+{
+    if (right)
+        return;
+    wrong++;
+    fprintf(stderr, "wrong: %s, call %" PRIu64 "\n", what, call);
+}
+
+/* What a call may leave: after a refusal what was before, after a 0 something of the file. */
+static void judge(const struct lent *l, uint64_t call, int32_t answer)
+{
+    int same = *l->field == (int32_t)BEFORE;
+
+    for (int i = 0; i < NUMBERS; i++)
+        same = same && *l->numbers[i] == BEFORE;
+    expect(answer == 0 || (answer >= TLZ_NO_SUCH_OBJECT && answer <= TLZ_BAD_WAY), "answer", call);
+    expect(answer == 0 || same, "a refusal changed a number", call);
+    if (answer == 0 && (call == 5 || call == 10))
+        expect(*l->numbers[0] + *l->numbers[1] <= l->length && *l->numbers[1] <= 64, "a name outside the file", call);
+    if (answer == 0 && (call == 0 || call == 1 || call == 6))
+        expect(*l->numbers[0] <= TLZ_CHARACTER && *l->numbers[2] < l->length, "a value", call);
+    calls[call]++;
+    answers[answer >= 0 && answer < ANSWERS ? answer : 1]++;
+}
+
+/* So many questions to a file of this length, which is lent in a buffer of its own. */
+static void question(const uint8_t *bytes, size_t length, uint64_t count)
+{
+    uint8_t *file = exactly(length > MISSING ? length - MISSING : 0);
+    struct lent l = { .file = file, .length = length, .field = exactly(sizeof *l.field) };
+
+    memcpy(file, bytes, length > MISSING ? length - MISSING : 0);
+    for (int i = 0; i < NUMBERS; i++)
+        l.numbers[i] = exactly(sizeof **l.numbers);
+    for (uint64_t i = 0; i < count; i++) {
+        uint64_t call = any(3) == 0 ? 0 : any(CALLS);
+        *l.field = (int32_t)BEFORE;
+        for (int k = 0; k < NUMBERS; k++)
+            *l.numbers[k] = BEFORE;
+        judge(&l, call, ask(&l, call));
+    }
+    expect(memcmp(file, bytes, length > MISSING ? length - MISSING : 0) == 0, "the file was written", CALLS);
+    for (int i = 0; i < NUMBERS; i++)
+        free(l.numbers[i]);
+    free(l.field);
+    free(file);
+}
+
+/* One or two fields behind the opening get other values. */
+static void damage(uint8_t *file, size_t length)
+{
+    for (uint64_t i = any(2); i < 2 && length >= 380; i++) {
+        size_t at = 312 + 4 * any((length - 312) / 4);
+        uint32_t value = any(3) == 0 ? (uint32_t)number(8) : (uint32_t)any(length);
+        for (int k = 0; k < 4; k++)
+            file[at + (size_t)k] = (uint8_t)(value >> (24 - 8 * k));
+    }
+}
+
+/* A cut file whose GDR says its length, if the GDR is in it. */
+static void cut(uint8_t *file, size_t length)
+{
+    size_t gdr = length < 372 ? length : ((size_t)file[16] << 24 | (size_t)file[17] << 16 | (size_t)file[18] << 8 | file[19]);
+
+    for (int k = 0; k < 4 && gdr + 24 <= length; k++)
+        file[gdr + 20 + (size_t)k] = (uint8_t)(length >> (24 - 8 * k));
+}
+
+static void try_file(const uint8_t *bytes, size_t length, uint64_t rounds)
+{
+    uint8_t *copy = exactly(length);
+
+    question(bytes, length, 200);
+    for (uint64_t i = 0; i < rounds; i++) {
+        size_t shorter = any(length + 1);
+        memcpy(copy, bytes, length);
+        damage(copy, length);
+        question(copy, length, 20);
+        memcpy(copy, bytes, length);
+        cut(copy, shorter);
+        question(copy, shorter, 10);
+    }
+    free(copy);
+}
+
+/* Reads a file and tries it; 0 if it could be read. */
+static int read_and_try(const char *name, uint64_t rounds)
+{
+    FILE *in = fopen(name, "rb");
+    static uint8_t bytes[ROOM];
+    size_t length = in == NULL ? 0 : fread(bytes, 1, sizeof bytes, in);
+
+    if (in == NULL || length == sizeof bytes) {
+        fprintf(stderr, "%s: cannot be read, or is too long\n", name);
+        return 1;
+    }
+    fclose(in);
+    try_file(bytes, length, rounds);
+    return 0;
+}
+
+int main(int count, char **words)
+{
+    uint64_t rounds = count > 1 ? strtoull(words[1], NULL, 10) : 0, all = 0;
+
+    for (int i = 2; i < count; i++)
+        if (read_and_try(words[i], rounds) != 0)
+            return 2;
+    for (int i = 0; i < CALLS; i++) {
+        all += calls[i];
+        expect(calls[i] > 0, "a call was not made", (uint64_t)i);
+    }
+    printf("%d files, %" PRIu64 " questions, %" PRIu64 " wrong; answers", count - 2, all, wrong);
+    for (int i = 0; i < ANSWERS; i++)
+        if (answers[i] > 0)
+            printf(" %d: %" PRIu64, i, answers[i]);
+    printf("\n");
+    return wrong != 0;
+}

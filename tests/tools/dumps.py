@@ -1,0 +1,142 @@
+"""Compares what cdfread prints as JSON with the dumps of another reader: dumps.py CDFREAD SAMPLES
+
+Every variable, record, value, pad value, attribute and entry of every sample. A float is turned back into its bits, so that
+it is seen to read back exactly. Prints how many samples, lines and values were compared; exits with 1 if one differs.
+"""
+import itertools
+import json
+import pathlib
+import struct
+import subprocess
+import sys
+
+cdfread, folder = sys.argv[1], pathlib.Path(sys.argv[2])
+# Where the other reader is wrong (samples/README.md): its lines that begin so are not compared.
+WRONG = {"22_dims_product_overflow": ("R ",), "25_entry_number_2147483647": None, "26_entry_number_2000000000": None}
+values_compared = 0
+
+
+def asked(*words):
+    done = subprocess.run([cdfread, "--json", *map(str, words)], capture_output=True, text=True, check=False)
+    assert done.returncode in (0, 1) and done.stderr == "", (words, done.returncode, done.stderr)
+    return done.stdout
+
+
+def float_bits(value, letter, form):
+    if isinstance(value, str) and value.startswith("nan("):
+        return letter + value[4:-1]
+    size = struct.calcsize(form)
+    return f"{letter}{int.from_bytes(struct.pack(form, float(value)), 'big'):0{2 * size}x}"
+
+
+def token(value, kind):
+    global values_compared
+    values_compared += 1
+    if value is None:
+        return "vax"
+    if kind in (51, 52):
+        return "c" + value.encode("latin-1").hex()
+    if kind in (21, 44):
+        return float_bits(value, "f", ">f")
+    if kind in (22, 31, 45):
+        return float_bits(value, "d", ">d")
+    assert isinstance(value, int)
+    return str(value)
+
+
+def numbers(found):
+    return ",".join(map(str, found)) or "-"
+
+
+def name(text):
+    plain = lambda byte: 0x21 <= byte <= 0x7E and byte != 0x25
+    return "".join(chr(byte) if plain(byte) else f"%{byte:02x}" for byte in text.encode("latin-1"))
+
+
+def letter(flag):
+    return "T" if flag else "F"
+
+
+def record_lines(path, of):
+    sizes, varies, kind = of["dimensions"], of["variances"], of["type"]
+    for line in asked(path, of["kind"], of["number"]).splitlines():
+        found = json.loads(line)
+        if "gap" in found:
+            yield from (f"R {record} GAP" for record in range(found["first"], found["last"] + 1))
+            continue
+        stored = [size if vary else 1 for size, vary in zip(sizes, varies)]
+        shown = dict(zip(itertools.product(*map(range, stored)), found["values"]))
+        places = itertools.product(*map(range, sizes))
+        place = lambda at: tuple(index if vary else 0 for index, vary in zip(at, varies))
+        yield f"R {found['record']} " + " ".join(token(shown[place(at)], kind) for at in places)
+
+
+def variable_lines(path, of):
+    pad = "-" if of["pad"] is None else token(of["pad"], of["type"])
+    varys = "".join(map(letter, of["variances"])) or "-"
+    sparse = {"none": 0, "pad": 1, "previous": 2}[of["sparseness"]]
+    yield (f"VAR {of['kind']} num={of['num']} name={name(of['name'])} type={of['type']} elems={of['elements']}"
+           f" dims={numbers(of['dimensions'])} varys={varys} recvary={letter(of['record_variance'])}"
+           f" maxrec={of['max_rec']} srec={sparse} pad={pad}")
+    if path.stem not in WRONG:
+        yield from record_lines(path, of)
+
+
+def attribute_lines(of):
+    yield f"ATTR num={of['num']} name={name(of['name'])} scope={1 if of['scope'] == 'global' else 2}"
+    for entry in of["entries"]:
+        kind, values = entry["type"], entry["values"]
+        text = f"E {entry['kind']} {entry['number']} type={kind} elems={entry['elements']}"
+        if entry.get("later"):
+            yield text + " later"
+            continue
+        values = [values] if kind in (51, 52) else values
+        yield text + " " + " ".join(token(value, kind) for value in values)
+
+
+def ours(path):
+    file = json.loads(asked(path))
+    yield (f"CDF encoding={file['encoding']} majority={file['majority']} rdims={numbers(file['r_dimensions'])}"
+           f" nr={file['r_variable_count']} nz={file['z_variable_count']} na={file['attribute_count']}")
+    for variable in file["variables"]:
+        yield from variable_lines(path, variable)
+    for attribute in file["attributes"]:
+        yield from attribute_lines(attribute)
+
+
+def theirs(path):
+    """The dump without offsets, counts of entries and what cannot be asked for."""
+    vax = path.with_suffix(".vax.jcdf")
+    seen, fixed = set(), False
+    for line in (vax if vax.exists() else path.with_suffix(".jcdf")).read_text().splitlines():
+        words = [word for word in line.split(" ") if not word.startswith(("@", "ngr=", "maxgr=", "nz=", "maxz=", "attr="))]
+        if line.startswith("CDF"):
+            words = line.split(" ")
+        if line.startswith(("#", "END")) or line.startswith(WRONG.get(path.stem) or "#"):
+            continue
+        if words[0] == "VAR":
+            fixed = "recvary=F" in words
+            words[-1] = words[-1].split("@")[0]
+        if words[0] == "R" and fixed and words[1] != "0":
+            continue
+        if words[0] == "ATTR":
+            seen = set()
+        if words[0] == "E":
+            key = tuple(words[1:3])
+            words = words[:5] + ["later"] if key in seen else words
+            seen.add(key)
+        yield " ".join(words)
+
+
+lines = 0
+samples = sorted(folder.glob("*.cdf"))
+for sample in samples:
+    if WRONG.get(sample.stem, ()) is None:
+        list(ours(sample))
+        continue
+    found, expected = list(ours(sample)), list(theirs(sample))
+    for one, other in itertools.zip_longest(found, expected):
+        if one != other:
+            sys.exit(f"{sample.name}:\ncdfread  {one}\ndump     {other}")
+    lines += len(found)
+print(f"{len(samples)} samples, {lines} lines, {values_compared} values")

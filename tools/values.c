@@ -1,0 +1,106 @@
+#include "values.h"
+
+#include <inttypes.h>
+#include <math.h>
+#include <stdio.h>
+#include <string.h>
+
+enum { ROOM = 40 };
+
+bool source_refused(struct source *source, int32_t answer)
+{
+    if (answer == TLZ_FLOAT_NOT_CARRIED)
+        source->vax = true;
+    else if (answer != 0 && source->refused == 0)
+        source->refused = answer;
+    return answer != 0;
+}
+
+/* One character of a string. */
+static void print_character(const struct source *source, unsigned code)
+{
+    bool plain = code >= 0x20 && code < 0x7f;
+
+    if (code == '"' || code == '\\')
+        printf("\\%c", (int)code);
+    else if (plain)
+        putchar((int)code);
+    else
+        printf(source->json ? "\\u%04x" : "\\x%02x", code);
+}
+
+void values_string(const struct source *source, const uint8_t *bytes, size_t length)
+{
+    putchar('"');
+    for (size_t i = 0; i < length; i++)
+        print_character(source, bytes[i]);
+    putchar('"');
+}
+
+/* A float so that it reads back exactly; what JSON has no number for is a string there, a NaN with its bits. */
+static void print_float(const struct source *source, double number, int digits, uint64_t bits)
+{
+    const char *quote = source->json && !isfinite(number) ? "\"" : "";
+    char text[ROOM];
+
+    if (isnan(number))
+        snprintf(text, sizeof text, "nan(%0*" PRIx64 ")", digits == 9 ? 8 : 16, bits);
+    else
+        snprintf(text, sizeof text, "%.*g", digits, number);
+    printf("%s%s%s%s", quote, text, isfinite(number) && strpbrk(text, ".e") == NULL ? ".0" : "", quote);
+}
+
+/* A value that is no character. */
+static void print_value(const struct source *source, const struct value *value)
+{
+    uint32_t low = (uint32_t)value->bits;
+    float single = 0;
+    double real = 0;
+
+    memcpy(&single, &low, sizeof single);
+    memcpy(&real, &value->bits, sizeof real);
+    if (value->kind == TLZ_SIGNED)
+        printf("%" PRId64, (int64_t)value->bits);
+    else if (value->kind == TLZ_SINGLE)
+        print_float(source, (double)single, 9, low);
+    else if (value->kind == TLZ_DOUBLE)
+        print_float(source, real, 17, value->bits);
+    else
+        printf("%" PRIu64, value->bits);
+}
+
+/* The characters of a value, the first of which is read. */
+static int32_t print_characters(const struct source *source, values_read *read, const void *asked, int64_t elements,
+                                struct value *value)
+{
+    int32_t answer = 0;
+
+    putchar('"');
+    for (int64_t i = 0; i < elements && answer == 0; i++) {
+        answer = i == 0 ? 0 : read(source, asked, i, value);
+        if (answer == 0)
+            print_character(source, (unsigned)value->bits);
+    }
+    putchar('"');
+    return answer;
+}
+
+int32_t values_print(struct source *source, values_read *read, const void *asked, int64_t elements, const char *between)
+{
+    struct value value = { 0, 0, 0 };
+
+    for (int64_t i = 0; i < elements; i++) {
+        int32_t answer = read(source, asked, i, &value);
+        source_refused(source, answer);
+        if (answer != 0 && answer != TLZ_FLOAT_NOT_CARRIED)
+            return answer;
+        fputs(i > 0 ? between : "", stdout);
+        if (answer != 0)
+            fputs(source->json ? "null" : "vax", stdout);
+        else if (value.kind == TLZ_CHARACTER)
+            return print_characters(source, read, asked, elements, &value);
+        else
+            print_value(source, &value);
+    }
+    return 0;
+}
