@@ -110,7 +110,7 @@ pub fn read_value(f: &[u8], kind: i64, number: i64, r: i64, indices: &[i64], x: 
     let way = lists::to_variable(f, kind, number);
     match way {
         Way::Found { at, left } => {
-            let u = vdr::variable_at(f, lists::kind_among(3, 8, kind), at);
+            let u = vdr::known_at(f, lists::kind_among(3, 8, kind), at);
             in_variable(f, at, left, u, r, indices, x)
         }
         Way::Stopped { number } => Read::Refused(number),
@@ -156,7 +156,7 @@ pub fn read_pad(f: &[u8], kind: i64, number: i64, x: i64) -> Read
     let way = lists::to_variable(f, kind, number);
     match way {
         Way::Found { at, left: _ } => {
-            let u = vdr::variable_at(f, lists::kind_among(3, 8, kind), at);
+            let u = vdr::known_at(f, lists::kind_among(3, 8, kind), at);
             in_pad(f, at, u, x)
         }
         Way::Stopped { number } => Read::Refused(number),

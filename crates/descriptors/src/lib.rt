@@ -127,7 +127,7 @@ pub fn variable_size(f: &[u8], kind: i64, number: i64, d: i64) -> Field
     match way {
         Way::Found { at, left: _ } => {
             let k = lists::kind_among(3, 8, kind);
-            let v = vdr::variable_at(f, k, at);
+            let v = vdr::known_at(f, k, at);
             let l = v.dimensions;
             if k == 8 {
                 row_field(f, l.sizes, l.count as u32, d)
@@ -146,7 +146,7 @@ pub fn variable_variance(f: &[u8], kind: i64, number: i64, d: i64) -> Field
     let way = lists::to_variable(f, kind, number);
     match way {
         Way::Found { at, left: _ } => {
-            let v = vdr::variable_at(f, lists::kind_among(3, 8, kind), at);
+            let v = vdr::known_at(f, lists::kind_among(3, 8, kind), at);
             let l = v.dimensions;
             row_field(f, l.variances, l.count as u32, d)
         }

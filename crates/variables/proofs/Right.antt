@@ -6,6 +6,7 @@ use Prim.Native.Nat.{ℕ, suc, _+_, _*_, _≤_}
 use native.Mathlib.Nat.{mul-le-mul, one-mul, le-refl}
 use native.Mathlib.Omega.{arith}
 use lib.Dec.{ltb, leb, eqb}
+use lib.ListN.{length}
 use lib.IntN.{ℤ, pos, negsuc}
 use lib.Signed.{leZ}
 use borrow.Author.Tests.{ltb-false, le-ltb, leb-true, eqb-false}
@@ -15,7 +16,7 @@ use Rattle.records.specs.Attributes.{elementSize}
 use Rattle.variables.specs.declared.vdr.Layout.{Layout}
 use Rattle.variables.specs.declared.vdr.Variable.{Variable}
 use Rattle.variables.specs.Limit.{capped}
-use Rattle.variables.specs.Vdr.{headOf, vdrFields, countPlace, countRight, layoutOf, valueBytes, sizeExact, dimensionsRight, spread, recordBytes, vdrFault, dimensioned, variableOf}
+use Rattle.variables.specs.Vdr.{headOf, vdrFields, countPlace, countRight, layoutAt, layoutOf, valueBytes, sizeExact, dimensionsRight, spread, recordBytes, vdrFault, dimensioned, variableOf}
 use Rattle.variables.specs.Place.{elementPlace, indicesRight}
 use Rattle.variables.proofs.Bound.{both-left, both-right, place-exact}
 
@@ -90,6 +91,10 @@ module _ (f : List ℕ) (o : ℕ) where
       let x : 1 * n ≤ valueBytes f o * n = mul-le-mul (value-some e) (le-refl n) in
       omega (arith, r .bytes, one-mul n)
 
+-- dimensions by where their sizes and variances stand
+abbrev laid : ℕ → ℕ → ℕ → Layout
+laid p q n = record { count = n; sizes = p; variances = q }
+
 module _ (f : List ℕ) (k o : ℕ) (e : variableOf f k o .fault ≡ 0) where
   variable-right : (vdrFields f o ≡ true) × (countRight f (countPlace f k o) ≡ true) × (dimensioned f o (layoutOf f k o) ≡ variableOf f k o)
   unfolding variableOf
@@ -115,3 +120,15 @@ module _ (f : List ℕ) (k o : ℕ) (e : variableOf f k o .fault ≡ 0) where
   pub place-is : (row : Bool) (is : List ℤ) → indicesRight f (layoutOf f k o .sizes) is (layoutOf f k o .count) ≡ true
       → capped (elementPlace f (layoutOf f k o) row is) ≡ elementPlace f (layoutOf f k o) row is
   place-is row is h = place-exact f (layoutOf f k o) row is h (omega (arith, spread-small f o (layoutOf f k o) fields-right right))
+
+  -- the number of its dimensions stands in the file
+  pub count-inside : countPlace f k o + 4 ≤ length f
+  unfolding layoutOf layoutAt endOf
+  count-inside = go (eqb k 8) (right .sizes)
+    where
+      n : ℕ
+      n = natAt f (countPlace f k o)
+
+      go : (b : Bool) → cond b (laid (countPlace f k o + 4) (countPlace f k o + 4 + 4 * n) n) (laid (countPlace f k o + 24) (o + 128) n) .sizes + 4 * cond b (laid (countPlace f k o + 4) (countPlace f k o + 4 + 4 * n) n) (laid (countPlace f k o + 24) (o + 128) n) .count ≤ length f → countPlace f k o + 4 ≤ length f
+      go true e = omega (arith, e)
+      go false e = omega (arith, e)

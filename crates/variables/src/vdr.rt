@@ -242,3 +242,19 @@ pub fn variable_at(f: &[u8], kind: u32, at: u32) -> Variable
     }
     dimensioned_vdr(f, o, dimensions_at(f, kind, o, p), element)
 }
+
+// The VDR of a kind at an offset that is known to keep its rule.
+pub fn known_at(f: &[u8], kind: u32, at: u32) -> Variable
+    requires { ⌜ variableOf (now f) kind at .fault ≡ 0 ⌝ }
+    ensures { λ r. ⌜ r ≡ variableOf (now (f .entry)) kind at ⌝ }
+{
+    let o = at as usize;
+    let l = dimensions_at(f, kind, o, count_place(f, kind, o));
+    let value = value_bytes(f, o, attributes::element_size(f, o + 12));
+    Variable {
+        fault: 0,
+        dimensions: l,
+        value: limit::cap(value),
+        bytes: record_bytes(f, l, value),
+    }
+}

@@ -1,3 +1,4 @@
+use Rattle.ways.proofs.Found.{found-right}
 use Rattle.answers.proofs.Asked.{in-variable, pad-found, pad-stopped}
 use Rattle.answers.proofs.Fitting.{variable-fits}
 use Rattle.answers.specs.Bounds.{Fits}
@@ -17,14 +18,14 @@ enum-known-way c = search needs
 kind-among-requires : tie.Need-kind-among-requires
 kind-among-requires c κs = search needs
 
-variable-at-requires : tie.Need-variable-at-requires
-variable-at-requires c κs = search needs
+known-at-requires : tie.Need-known-at-requires
+known-at-requires c κs = rw (c .kind-among .ensures) (found-right (c .before .before .before .before .before .before .args .f .now) _ _ _ _ (sym (c .before .before .before .before .to-variable .ensures) ∙ c .before .before .way .given .1))
 
 in-pad-requires : tie.Need-in-pad-requires
 in-pad-requires c κs =
     let a = c .before .before .before .before .before .before .before in
     let i = in-variable (a .args .f .now) _ _ _ _ (sym (c .before .before .before .before .before .to-variable .ensures) ∙ c .before .before .before .way .given .1) in
-    (i, subst Fits (sym (c .variable-at .ensures)) (variable-fits (a .args .f .now) _ _ (i .short)))
+    (i, subst Fits (sym (c .known-at .ensures)) (variable-fits (a .args .f .now) _ _ (i .short)))
 
 enum-known-way-2 : tie.Need-enum-known-way-2
 enum-known-way-2 c = search needs
@@ -34,7 +35,7 @@ returns c =
     let a = c .before .before .before .before .before .before .before .before in
     let e = rw (toZ-ofZ {w = w64} (a .fits .kind), toZ-ofZ {w = w64} (a .fits .number)) at (sym (c .before .before .before .before .before .before .to-variable .ensures) ∙ c .before .before .before .before .way .given .1) in
     let k = rw (toZ-ofZ {w = w64} (a .fits .kind)) at (c .before .before .kind-among .ensures) in
-    c .in-pad .ensures ∙ rw (c .before .variable-at .ensures, k, toZ-ofZ {w = w64} (a .fits .x)) (sym (pad-found (a .args .f .now) (a .args .kind) (a .args .number) (a .args .x) _ _ e))
+    c .in-pad .ensures ∙ rw (c .before .known-at .ensures, k, toZ-ofZ {w = w64} (a .fits .x)) (sym (pad-found (a .args .f .now) (a .args .kind) (a .args .number) (a .args .x) _ _ e))
 
 returns-2 : tie.Need-returns-2
 returns-2 c =
@@ -49,7 +50,7 @@ read-pad-spec =
     to-variable-requires
     enum-known-way
     kind-among-requires
-    variable-at-requires
+    known-at-requires
     in-pad-requires
     enum-known-way-2
     returns

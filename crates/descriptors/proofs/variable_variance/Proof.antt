@@ -1,3 +1,4 @@
+use Rattle.ways.proofs.Found.{found-right}
 use Rattle.ways.proofs.Dimensions.{Dimensions, of-variable}
 use Rattle.descriptors.proofs.Inside.{found-short, variance-is, variance-stopped}
 use mir.Facts.{toZ-ofZ}
@@ -17,19 +18,19 @@ enum-known-way c = search needs
 kind-among-requires : tie.Need-kind-among-requires
 kind-among-requires c κs = search needs
 
-variable-at-requires : tie.Need-variable-at-requires
-variable-at-requires c κs = search needs
+known-at-requires : tie.Need-known-at-requires
+known-at-requires c κs = rw (c .kind-among .ensures) (found-right (c .before .before .before .before .before .before .args .f .now) _ _ _ _ (sym (c .before .before .before .before .to-variable .ensures) ∙ c .before .before .way .given .1))
 
 cast-row-field : tie.Need-cast-row-field
 cast-row-field c =
     let a = c .before .before .before .before .before .before .before .before .before in
-    let d = subst (Dimensions (a .args .f .now)) (sym (c .before .before .variable-at .ensures)) (of-variable (a .args .f .now) _ _) in
+    let d = subst (Dimensions (a .args .f .now)) (sym (c .before .before .known-at .ensures)) (of-variable (a .args .f .now) _ _) in
     omega (arith, d .variances, found-short (a .args .f .now) _ _ _ _ (sym (c .before .before .before .before .before .before .before .to-variable .ensures) ∙ c .before .before .before .before .before .way .given .1))
 
 row-field-requires : tie.Need-row-field-requires
 row-field-requires c κs =
     let a = c .before .before .before .before .before .before .before .before .before in
-    let d = subst (Dimensions (a .args .f .now)) (sym (c .before .before .variable-at .ensures)) (of-variable (a .args .f .now) _ _) in
+    let d = subst (Dimensions (a .args .f .now)) (sym (c .before .before .known-at .ensures)) (of-variable (a .args .f .now) _ _) in
     omega (arith, d .variances)
 
 enum-known-way-2 : tie.Need-enum-known-way-2
@@ -41,7 +42,7 @@ returns c =
     let f = a .args .f .now in
     let e = rw (toZ-ofZ {w = w64} (a .fits .kind), toZ-ofZ {w = w64} (a .fits .number)) at (sym (c .before .before .before .before .before .before .before .before .to-variable .ensures) ∙ c .before .before .before .before .before .before .way .given .1) in
     let k = rw (toZ-ofZ {w = w64} (a .fits .kind)) at (c .before .before .before .before .kind-among .ensures) in
-    let v = rw k at (c .before .before .before .variable-at .ensures) in
+    let v = rw k at (c .before .before .before .known-at .ensures) in
     c .row-field .ensures ∙ rw (v, toZ-ofZ {w = w64} (a .fits .d)) (sym (variance-is f (a .args .kind) (a .args .number) (a .args .d) _ _ e))
 
 returns-2 : tie.Need-returns-2
@@ -57,7 +58,7 @@ variable-variance-spec =
     to-variable-requires
     enum-known-way
     kind-among-requires
-    variable-at-requires
+    known-at-requires
     cast-row-field
     row-field-requires
     enum-known-way-2
