@@ -8,7 +8,7 @@ ghost use Rattle.values.specs.Values.{decodedOf};
 ghost use Rattle.answers.specs.Answers.{answered, elementThere, elementRead, inRecord, inVariable, valueRead, entryRead, padIn, padRead};
 ghost use Rattle.answers.specs.Bounds.{Inside, Fits};
 use format::fields;
-use records::attributes;
+use format::types;
 use values::value;
 use values::value::Answer;
 use values::value::Decoded;
@@ -70,13 +70,9 @@ fn element(f: &[u8], at: u64, t: usize, c: usize, x: i64) -> Read
     if !element_there(f, c, x) {
         return Read::Refused(18);
     }
-    let size = attributes::element_size(f, t) as u64;
-    decode_at(
-        f,
-        at + x as u64 * size,
-        fields::nat_at(f, t),
-        fields::nat_at(f, 28),
-    )
+    let n = fields::nat_at(f, t);
+    let size = types::size_of(n) as u64;
+    decode_at(f, at + x as u64 * size, n, fields::nat_at(f, 28))
 }
 
 // An element of a value in the record that begins at an offset, of a variable and its VDR at v.

@@ -1,5 +1,5 @@
-use mathlib.Core.Path.{sym, _∙_}
-use Prim.Native.Nat.{_<_}
+use mathlib.Core.Path.{sym, ap, _∙_}
+use Prim.Native.Nat.{ℕ, _<_}
 use lib.IntN.{natAbs}
 use mir.Syntax.{w64}
 use mir.Val.{toZ, ofZ}
@@ -7,6 +7,9 @@ use mir.Facts.{toZ-ofZ}
 use native.Mathlib.Omega.{arith}
 use borrow.Author.Tests.{not-true, not-false}
 use Rattle.format.proofs.SignedTests.{cast-nat, is-nat}
+use Rattle.format.specs.Types.{typeOf}
+use Rattle.format.specs.declared.types.DataType.{DataType}
+use Rattle.records.specs.Attributes.{elementSize}
 use Rattle.answers.specs.Answers.{elementRead}
 use Rattle.answers.proofs.Elements.{there-not-below, element-bytes, read-there}
 use borrow.Author.Needs.{needs}
@@ -23,46 +26,46 @@ returns c =
     let t = c .before .element-there in
     rw (← (rw (toZ-ofZ {w = w64} (a .fits .x)) at (t .ensures .0)), not-true (t .result) (c .if1 .taken))
 
-element-size-requires : tie.Need-element-size-requires
-element-size-requires c κs = search needs
+nat-at-requires : tie.Need-nat-at-requires
+nat-at-requires c κs = search needs
+
+size-of-requires : tie.Need-size-of-requires
+size-of-requires c κs = search needs
 
 cast-size : tie.Need-cast-size
 cast-size c = search needs
 
 cast-decode-at : tie.Need-cast-decode-at
 cast-decode-at c =
-    let a = c .before .before .before .before in
-    let t = c .before .before .element-there in
-    let there = not-false (t .result) (c .before .if1 .left) in
+    let a = c .before .before .before .before .before in
+    let t = c .before .before .before .element-there in
+    let there = not-false (t .result) (c .before .before .if1 .left) in
     let low = there-not-below (a .args .f .now) (a .args .c) (toZ w64 (ofZ w64 (a .args .x))) (sym (t .ensures .0) ∙ there) in
     cast-nat w64 0 (a .args .x) (a .fits .x) tt low
 
 mul-decode-at : tie.Need-mul-decode-at
 mul-decode-at c =
-    let a = c .before .before .before .before in
-    let t = c .before .before .element-there in
-    let there = not-false (t .result) (c .before .if1 .left) in
+    let a = c .before .before .before .before .before in
+    let t = c .before .before .before .element-there in
+    let there = not-false (t .result) (c .before .before .if1 .left) in
     let low = there-not-below (a .args .f .now) (a .args .c) (toZ w64 (ofZ w64 (a .args .x))) (sym (t .ensures .0) ∙ there) in
     let n = is-nat w64 0 (a .args .x) (a .fits .x) low in
     let h : natAbs (toZ w64 (ofZ w64 (a .args .x))) < 2147483648 = rw n (rw (toZ-ofZ {w = w64} (a .fits .x)) at (t .ensures .1 there)) in
-    let s = c .element-size in
+    let s = c .size-of in
     let k = element-bytes (natAbs (toZ w64 (ofZ w64 (a .args .x)))) (s .result) h (s .ensures .1) in
     record { fits = omega (arith, k) }
 
 add-decode-at : tie.Need-add-decode-at
 add-decode-at c =
-    let a = c .before .before .before .before in
-    let t = c .before .before .element-there in
-    let there = not-false (t .result) (c .before .if1 .left) in
+    let a = c .before .before .before .before .before in
+    let t = c .before .before .before .element-there in
+    let there = not-false (t .result) (c .before .before .if1 .left) in
     let low = there-not-below (a .args .f .now) (a .args .c) (toZ w64 (ofZ w64 (a .args .x))) (sym (t .ensures .0) ∙ there) in
     let n = is-nat w64 0 (a .args .x) (a .fits .x) low in
     let h : natAbs (toZ w64 (ofZ w64 (a .args .x))) < 2147483648 = rw n (rw (toZ-ofZ {w = w64} (a .fits .x)) at (t .ensures .1 there)) in
-    let s = c .element-size in
+    let s = c .size-of in
     let k = element-bytes (natAbs (toZ w64 (ofZ w64 (a .args .x)))) (s .result) h (s .ensures .1) in
     record { fits = omega (arith, k, a .pre .4) }
-
-nat-at-requires : tie.Need-nat-at-requires
-nat-at-requires c κs = search needs
 
 nat-at-requires-2 : tie.Need-nat-at-requires-2
 nat-at-requires-2 c κs = search needs
@@ -71,6 +74,7 @@ decode-at-requires : tie.Need-decode-at-requires
 decode-at-requires c κs = search needs
 
 returns-2 : tie.Need-returns-2
+unfolding elementSize
 returns-2 c =
     let a = c .before .before .before .before .before .before .before in
     let t = c .before .before .before .before .before .element-there in
@@ -78,9 +82,9 @@ returns-2 c =
     let low = there-not-below (a .args .f .now) (a .args .c) (toZ w64 (ofZ w64 (a .args .x))) (sym (t .ensures .0) ∙ there) in
     let n = is-nat w64 0 (a .args .x) (a .fits .x) low in
     let h : natAbs (toZ w64 (ofZ w64 (a .args .x))) < 2147483648 = rw n (rw (toZ-ofZ {w = w64} (a .fits .x)) at (t .ensures .1 there)) in
-    let s = c .before .before .before .element-size in
+    let s = c .before .before .size-of in
     let k = element-bytes (natAbs (toZ w64 (ofZ w64 (a .args .x)))) (s .result) h (s .ensures .1) in
-    c .decode-at .ensures ∙ read-there (a .args .f .now) (a .args .at) (a .args .t) (a .args .c) (a .args .x) (sym (rw (toZ-ofZ {w = w64} (a .fits .x)) at (t .ensures .0)) ∙ there) n (s .ensures .0) (c .before .before .nat-at .ensures .0) (c .before .nat-at2 .ensures .0)
+    c .decode-at .ensures ∙ read-there (a .args .f .now) (a .args .at) (a .args .t) (a .args .c) (a .args .x) (sym (rw (toZ-ofZ {w = w64} (a .fits .x)) at (t .ensures .0)) ∙ there) n (s .ensures .0 ∙ ap (λ (m : ℕ). typeOf m .size) (c .before .before .before .nat-at .ensures .0)) (c .before .before .before .nat-at .ensures .0) (c .before .nat-at2 .ensures .0)
 
 pub element-spec : {M : Type 1} → statement M
 element-spec =
@@ -88,12 +92,12 @@ element-spec =
     (tie.spec
     element-there-requires
     returns
-    element-size-requires
+    nat-at-requires
+    size-of-requires
     cast-size
     cast-decode-at
     mul-decode-at
     add-decode-at
-    nat-at-requires
     nat-at-requires-2
     decode-at-requires
     returns-2)

@@ -19,7 +19,7 @@ kind-among-requires : tie.Need-kind-among-requires
 kind-among-requires c κs = search needs
 
 known-at-requires : tie.Need-known-at-requires
-known-at-requires c κs = rw (c .kind-among .ensures) (found-right (c .before .before .before .before .before .before .args .f .now) _ _ _ _ (sym (c .before .before .before .before .to-variable .ensures) ∙ c .before .before .way .given .1))
+known-at-requires c κs = rw (c .kind-among .ensures .0) (found-right (c .before .before .before .before .before .before .args .f .now) _ _ _ _ (sym (c .before .before .before .before .to-variable .ensures) ∙ c .before .before .way .given .1))
 
 in-variable-requires : tie.Need-in-variable-requires
 in-variable-requires c κs =
@@ -34,7 +34,7 @@ returns : tie.Need-returns
 returns c =
     let a = c .before .before .before .before .before .before .before .before in
     let e = rw (toZ-ofZ {w = w64} (a .fits .kind), toZ-ofZ {w = w64} (a .fits .number)) at (sym (c .before .before .before .before .before .before .to-variable .ensures) ∙ c .before .before .before .before .way .given .1) in
-    let k = rw (toZ-ofZ {w = w64} (a .fits .kind)) at (c .before .before .kind-among .ensures) in
+    let k = rw (toZ-ofZ {w = w64} (a .fits .kind)) at (c .before .before .kind-among .ensures .0) in
     c .in-variable .ensures ∙ rw (c .before .known-at .ensures, k, toZ-ofZ {w = w64} (a .fits .r), toZ-ofZ {w = w64} (a .fits .x)) (sym (value-found (a .args .f .now) (a .args .kind) (a .args .number) (a .args .r) (a .args .indices .now) (a .args .x) _ _ e))
 
 returns-2 : tie.Need-returns-2

@@ -14,11 +14,11 @@ to-entry-requires : tie.Need-to-entry-requires
 to-entry-requires c κs = search needs
 
 field-on-requires : tie.Need-field-on-requires
-field-on-requires c κs = rw (c .before .kind-among .ensures, c .to-entry .ensures) (entry-holds (c .before .before .before .args .f .now) _ _ _)
+field-on-requires c κs = rw (c .before .kind-among .ensures .0, c .to-entry .ensures) (entry-holds (c .before .before .before .args .f .now) _ _ _)
 
 returns : tie.Need-returns
 unfolding entryField
-returns c = c .field-on .ensures ∙ rw (c .before .before .kind-among .ensures, c .before .to-entry .ensures, toZ-ofZ {w = w64} (c .before .before .before .before .fits .attribute), toZ-ofZ {w = w64} (c .before .before .before .before .fits .kind))
+returns c = c .field-on .ensures ∙ rw (c .before .before .kind-among .ensures .0, c .before .to-entry .ensures, toZ-ofZ {w = w64} (c .before .before .before .before .fits .attribute), toZ-ofZ {w = w64} (c .before .before .before .before .fits .kind))
 
 pub entry-field-spec : {M : Type 1} → statement M
 entry-field-spec =

@@ -14,11 +14,11 @@ to-variable-requires : tie.Need-to-variable-requires
 to-variable-requires c κs = search needs
 
 field-on-requires : tie.Need-field-on-requires
-field-on-requires c κs = rw (c .before .kind-among .ensures, c .to-variable .ensures) (variable-holds (c .before .before .before .args .f .now) _ _)
+field-on-requires c κs = rw (c .before .kind-among .ensures .0, c .to-variable .ensures) (variable-holds (c .before .before .before .args .f .now) _ _)
 
 returns : tie.Need-returns
 unfolding variableField
-returns c = c .field-on .ensures ∙ rw (c .before .before .kind-among .ensures, c .before .to-variable .ensures, toZ-ofZ {w = w64} (c .before .before .before .before .fits .number), toZ-ofZ {w = w64} (c .before .before .before .before .fits .kind))
+returns c = c .field-on .ensures ∙ rw (c .before .before .kind-among .ensures .0, c .before .to-variable .ensures, toZ-ofZ {w = w64} (c .before .before .before .before .fits .number), toZ-ofZ {w = w64} (c .before .before .before .before .fits .kind))
 
 pub variable-field-spec : {M : Type 1} → statement M
 variable-field-spec =

@@ -25,7 +25,7 @@ kind-among-requires : tie.Need-kind-among-requires
 kind-among-requires c κs = search needs
 
 known-at-requires : tie.Need-known-at-requires
-known-at-requires c κs = rw (c .kind-among .ensures) (found-right (c .before .before .before .before .before .before .args .f .now) _ _ _ _ (sym (c .before .before .before .before .to-variable .ensures) ∙ c .before .before .way .given .1))
+known-at-requires c κs = rw (c .kind-among .ensures .0) (found-right (c .before .before .before .before .before .before .args .f .now) _ _ _ _ (sym (c .before .before .before .before .to-variable .ensures) ∙ c .before .before .way .given .1))
 
 cast-row-field : tie.Need-cast-row-field
 cast-row-field c =
@@ -47,7 +47,7 @@ returns c =
     let a = c .before .before .before .before .before .before .before .before .before .before .before in
     let f = a .args .f .now in
     let e = rw (toZ-ofZ {w = w64} (a .fits .kind), toZ-ofZ {w = w64} (a .fits .number)) at (sym (c .before .before .before .before .before .before .before .before .before .to-variable .ensures) ∙ c .before .before .before .before .before .before .before .way .given .1) in
-    let k = rw (toZ-ofZ {w = w64} (a .fits .kind)) at (c .before .before .before .before .before .kind-among .ensures) in
+    let k = rw (toZ-ofZ {w = w64} (a .fits .kind)) at (c .before .before .before .before .before .kind-among .ensures .0) in
     let v = rw k at (c .before .before .before .before .known-at .ensures) in
     c .row-field .ensures ∙ rw (v, toZ-ofZ {w = w64} (a .fits .d)) (sym (size-is f (a .args .kind) (a .args .number) (a .args .d) _ _ e (rw k at (eq-eqb _ _ (c .before .before .if1 .taken)))))
 
@@ -56,7 +56,7 @@ returns-2 c =
     let a = c .before .before .before .before .before .before .before .before .before in
     let f = a .args .f .now in
     let e = rw (toZ-ofZ {w = w64} (a .fits .kind), toZ-ofZ {w = w64} (a .fits .number)) at (sym (c .before .before .before .before .before .before .before .to-variable .ensures) ∙ c .before .before .before .before .before .way .given .1) in
-    let k = rw (toZ-ofZ {w = w64} (a .fits .kind)) at (c .before .before .before .kind-among .ensures) in
+    let k = rw (toZ-ofZ {w = w64} (a .fits .kind)) at (c .before .before .before .kind-among .ensures .0) in
     sym (size-none f (a .args .kind) (a .args .number) (a .args .d) _ _ e (rw k at (ne-eqb _ _ (c .if1 .left))))
 
 returns-3 : tie.Need-returns-3

@@ -19,7 +19,7 @@ kind-among-requires : tie.Need-kind-among-requires
 kind-among-requires c κs = search needs
 
 known-at-requires : tie.Need-known-at-requires
-known-at-requires c κs = rw (c .kind-among .ensures) (found-right (c .before .before .before .before .before .before .args .f .now) _ _ _ _ (sym (c .before .before .before .before .to-variable .ensures) ∙ c .before .before .way .given .1))
+known-at-requires c κs = rw (c .kind-among .ensures .0) (found-right (c .before .before .before .before .before .before .args .f .now) _ _ _ _ (sym (c .before .before .before .before .to-variable .ensures) ∙ c .before .before .way .given .1))
 
 cast-row-field : tie.Need-cast-row-field
 cast-row-field c =
@@ -41,7 +41,7 @@ returns c =
     let a = c .before .before .before .before .before .before .before .before .before .before in
     let f = a .args .f .now in
     let e = rw (toZ-ofZ {w = w64} (a .fits .kind), toZ-ofZ {w = w64} (a .fits .number)) at (sym (c .before .before .before .before .before .before .before .before .to-variable .ensures) ∙ c .before .before .before .before .before .before .way .given .1) in
-    let k = rw (toZ-ofZ {w = w64} (a .fits .kind)) at (c .before .before .before .before .kind-among .ensures) in
+    let k = rw (toZ-ofZ {w = w64} (a .fits .kind)) at (c .before .before .before .before .kind-among .ensures .0) in
     let v = rw k at (c .before .before .before .known-at .ensures) in
     c .row-field .ensures ∙ rw (v, toZ-ofZ {w = w64} (a .fits .d)) (sym (variance-is f (a .args .kind) (a .args .number) (a .args .d) _ _ e))
 
