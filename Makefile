@@ -24,7 +24,7 @@ HEADERS = include/tlepozaluh.h $(wildcard tools/*.h)
 
 run: tools
 	build/cdfcheck samples/01_base_A.cdf samples/02_h_le.cdf
-	! build/cdfcheck samples/rings/ring_vdr_self.cdf samples/rings/ring_uir.cdf
+	! build/cdfcheck samples/rings/ring_entry_back_to_first.cdf samples/rings/ring_uir.cdf
 	build/cdfread samples/02_h_le.cdf
 	build/cdfread samples/02_h_le.cdf z 0
 	$(MAKE) examples
