@@ -180,8 +180,8 @@ int32_t tlz_read_value(const uint8_t *file, size_t file_len, int64_t kind, int64
                        uint64_t *offset);
 
 /*
- * An element of an attribute's entry: of the first of that number, if there are several (the values of the others cannot be
- * asked for, their fields can). An entry of any data type may have several elements.
+ * An element of an attribute's entry: of the first of that number, if there are several (tlz_read_entry_value_at gives those of
+ * the others). An entry of any data type may have several elements.
  *
  *   attribute    the attribute's place
  *   kind         TLZ_GRENTRY or TLZ_ZENTRY
@@ -191,6 +191,13 @@ int32_t tlz_read_value(const uint8_t *file, size_t file_len, int64_t kind, int64
  */
 int32_t tlz_read_entry(const uint8_t *file, size_t file_len, int64_t attribute, int64_t kind, int64_t entry, int64_t element,
                        uint64_t *value_kind, uint64_t *bits, uint64_t *offset);
+
+/*
+ * An element of the entry at a place of its list, from 0; TLZ_NO_SUCH_RECORD behind the last one. So the values of all entries
+ * can be read, those of equal numbers too. Its other numbers are those of tlz_read_entry.
+ */
+int32_t tlz_read_entry_value_at(const uint8_t *file, size_t file_len, int64_t attribute, int64_t kind, uint64_t place,
+                                int64_t element, uint64_t *value_kind, uint64_t *bits, uint64_t *offset);
 
 /* An element of a variable's pad value; TLZ_OUT_OF_RANGE if it has none. Its numbers are those of tlz_read_value. */
 int32_t tlz_read_pad(const uint8_t *file, size_t file_len, int64_t kind, int64_t number, int64_t element,

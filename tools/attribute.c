@@ -1,11 +1,9 @@
 #include "attribute.h"
 
-#include "console.h"
 #include "words.h"
 
 #include <inttypes.h>
 #include <stdio.h>
-#include <stdlib.h>
 
 struct attribute {
     int64_t number; /* how it is asked for */
@@ -18,7 +16,7 @@ struct entry {
     const struct attribute *of;
     int64_t kind;
     int32_t number, type, elements;
-    bool later; /* an entry of the same number stands before it: a read by number gives that one */
+    uint64_t place; /* how it is asked for */
 };
 
 static int32_t read_attribute(const struct source *s, int64_t number, struct attribute *a)
@@ -34,14 +32,14 @@ static int32_t read_attribute(const struct source *s, int64_t number, struct att
     return answer;
 }
 
-static int32_t read_fields(const struct source *s, uint64_t place, struct entry *e)
+static int32_t read_fields(const struct source *s, struct entry *e)
 {
     static const uint64_t fields[] = { TLZ_ENTRY_NUMBER, TLZ_ENTRY_TYPE, TLZ_ENTRY_ELEMENTS };
     int32_t *places[] = { &e->number, &e->type, &e->elements };
     int32_t answer = 0;
 
     for (size_t i = 0; i < sizeof fields / sizeof *fields && answer == 0; i++)
-        answer = tlz_read_entry_at(s->file, s->length, e->of->number, e->kind, place, fields[i], places[i]);
+        answer = tlz_read_entry_at(s->file, s->length, e->of->number, e->kind, e->place, fields[i], places[i]);
     return answer;
 }
 
@@ -49,8 +47,8 @@ static int32_t read_element(const struct source *source, const void *asked, int6
 {
     const struct entry *e = asked;
 
-    return tlz_read_entry(source->file, source->length, e->of->number, e->kind, e->number, element, &value->kind, &value->bits,
-                          &value->offset);
+    return tlz_read_entry_value_at(source->file, source->length, e->of->number, e->kind, e->place, element, &value->kind,
+                                   &value->bits, &value->offset);
 }
 
 static const char *letter(const struct entry *entry)
@@ -70,10 +68,7 @@ static void entry_text(struct source *source, const struct entry *e)
 {
     printf("  %sEntry %" PRId32 " %s (%" PRId32 ") x %" PRId32 ": ", letter(e), e->number, words_of_type(e->type), e->type,
            e->elements);
-    if (e->later)
-        printf("not the first of its number");
-    else
-        values_print(source, read_element, e, e->elements, " ");
+    values_print(source, read_element, e, e->elements, " ");
     printf("\n");
 }
 
@@ -82,10 +77,6 @@ static void entry_json(struct source *source, const struct entry *e)
     printf("{\"kind\": \"%s\", \"number\": %" PRId32 ", \"type\": %" PRId32 ", \"type_name\": \"%s\", \"elements\": %" PRId32
            ", \"values\": ",
            letter(e), e->number, e->type, words_of_type(e->type), e->elements);
-    if (e->later) {
-        printf("null, \"later\": true}");
-        return;
-    }
     printf("%s", is_text(e) ? "" : "[");
     values_print(source, read_element, e, e->elements, ", ");
     printf("%s}", is_text(e) ? "" : "]");
@@ -99,47 +90,22 @@ static void print_refused(struct source *source, int32_t answer, const char *bef
            source->json ? before : "", answer, words_of_refusal(answer));
 }
 
-/* One of these numbers is that of the entry. */
-static bool is_among(const int32_t *numbers, int32_t count, const struct entry *entry)
-{
-    for (int32_t i = 0; i < count; i++)
-        if (numbers[i] == entry->number)
-            return true;
-    return false;
-}
-
-/* The entries at the places 0 to count; there is room for a number of each. Gives whether anything was printed. */
-static bool print_listed(struct source *source, struct entry *entry, int32_t *numbers, int32_t count, bool any)
-{
-    int32_t answer = 0;
-
-    for (int32_t place = 0; place < count && answer == 0; place++, any = true) {
-        answer = read_fields(source, (uint64_t)place, entry);
-        if (answer != 0) {
-            print_refused(source, answer, any ? ", " : "");
-            continue;
-        }
-        entry->later = is_among(numbers, place, entry);
-        numbers[place] = entry->number;
-        printf("%s", source->json && any ? ", " : "");
-        (source->json ? entry_json : entry_text)(source, entry);
-    }
-    return any;
-}
-
 /* The entries of a kind, as many as the attribute says it has; more than the file has room for are refused by the reader. */
 static bool print_entries(struct source *source, const struct attribute *of, int64_t kind, bool any)
 {
     struct entry entry = { .of = of, .kind = kind };
-    int32_t count = of->counts[kind == TLZ_ZENTRY];
-    size_t room = count < 0 ? 0 : (size_t)count;
-    int32_t *numbers = malloc(((room < source->length ? room : source->length) + 1) * sizeof *numbers);
+    int32_t count = of->counts[kind == TLZ_ZENTRY], answer = 0;
 
-    if (numbers == NULL)
-        console_complain("entries", "not shown", "out of memory");
-    else
-        any = print_listed(source, &entry, numbers, count, any);
-    free(numbers);
+    for (int32_t place = 0; place < count && answer == 0; place++, any = true) {
+        entry.place = (uint64_t)place;
+        answer = read_fields(source, &entry);
+        if (answer != 0) {
+            print_refused(source, answer, any ? ", " : "");
+            continue;
+        }
+        printf("%s", source->json && any ? ", " : "");
+        (source->json ? entry_json : entry_text)(source, &entry);
+    }
     return any;
 }
 

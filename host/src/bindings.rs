@@ -47,6 +47,17 @@ mod c {
             bits: *mut u64,
             offset: *mut u64,
         ) -> i32;
+        pub fn tlz_read_entry_value_at(
+            file: *const u8,
+            file_len: usize,
+            attribute: i64,
+            kind: i64,
+            place: u64,
+            element: i64,
+            value_kind: *mut u64,
+            bits: *mut u64,
+            offset: *mut u64,
+        ) -> i32;
         pub fn tlz_read_pad(
             file: *const u8,
             file_len: usize,
@@ -267,6 +278,20 @@ pub fn read_entry(
 ) -> Result<Value, i32> {
     let (f, n) = (file.as_ptr(), file.len());
     value(|k, b, o| unsafe { c::tlz_read_entry(f, n, attribute, kind, entry, element, k, b, o) })
+}
+
+/// An element of the entry at a place of its list, from 0.
+pub fn read_entry_value_at(
+    file: &[u8],
+    attribute: i64,
+    kind: i64,
+    place: u64,
+    element: i64,
+) -> Result<Value, i32> {
+    let (f, n) = (file.as_ptr(), file.len());
+    value(|k, b, o| unsafe {
+        c::tlz_read_entry_value_at(f, n, attribute, kind, place, element, k, b, o)
+    })
 }
 
 /// An element of a variable's pad value.

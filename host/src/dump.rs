@@ -1,7 +1,6 @@
 //! All that the proved reader finds in an accepted file, in the form of samples/README.md.
 //!
-//! Two things cannot be asked for: the offset of a float that is refused with 19, shown as `@?`; and the value of an entry
-//! that is not the first of its number, shown as `later`.
+//! One thing cannot be asked for: the offset of a float that is refused with 19, shown as `@?`.
 
 use crate::bindings::{self, Name, Value};
 use crate::second::dump::{advance, bits_token, letter, name_letter, numbers, MOST_VALUES};
@@ -182,6 +181,18 @@ fn attribute_lines(file: &[u8], number: i64) -> Result<String, i32> {
     Ok(text)
 }
 
+/// The first entry of a number, asked for by its place and by its number.
+fn same_by_number(file: &[u8], attribute: i64, kind: i64, place: u64, number: i64) {
+    for at in [12, 16, 20, 24] {
+        let by_number = bindings::read_entry_field(file, attribute, kind, number, at);
+        let by_place = bindings::read_entry_at(file, attribute, kind, place, at);
+        assert_eq!(by_number, by_place, "the first entry of a number");
+    }
+    let by_number = bindings::read_entry(file, attribute, kind, number, 0);
+    let by_place = bindings::read_entry_value_at(file, attribute, kind, place, 0);
+    assert_eq!(by_number, by_place, "the first entry of a number");
+}
+
 /// The entry at a place; the numbers of those before it are in `seen`.
 fn entry_line(
     file: &[u8],
@@ -193,19 +204,14 @@ fn entry_line(
     let field = |at| bindings::read_entry_at(file, attribute, kind, place, at);
     let (number, of_type, elements) = (field(20)?, field(16)?, field(24)?);
     let mut text = format!("{number} attr={} type={of_type} elems={elements}", field(12)?);
-    if seen.contains(&number) {
-        return Ok(text + " later");
-    }
-    seen.push(number);
-    for at in [12, 16, 20, 24] {
-        let by_number = bindings::read_entry_field(file, attribute, kind, i64::from(number), at);
-        assert_eq!(by_number, field(at), "the first entry of a number");
+    if !seen.contains(&number) {
+        seen.push(number);
+        same_by_number(file, attribute, kind, place, i64::from(number));
     }
     let form = form_of(of_type)?;
     let tokens = if form == Form::Character { 1 } else { elements };
     for token in 0..i64::from(tokens) {
-        let element =
-            |at| bindings::read_entry(file, attribute, kind, i64::from(number), token + at);
+        let element = |at| bindings::read_entry_value_at(file, attribute, kind, place, token + at);
         let (token_text, offset) = value_token(form, i64::from(elements), element)?;
         if token == 0 {
             text += &format!(" @{offset}");

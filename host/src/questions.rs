@@ -37,6 +37,8 @@ pub enum Question {
     EntryField(i64, i64, i64, u64),
     /// attribute, kind, place, offset of the field.
     EntryAt(i64, i64, u64, u64),
+    /// attribute, kind, place, element.
+    EntryValueAt(i64, i64, u64, i64),
 }
 
 /// What is given: a value's kind, bits and offset, a field, or a name's offset and length.
@@ -86,6 +88,9 @@ pub fn proved(file: &[u8], question: &Question) -> Answer {
         }
         EntryAt(attribute, kind, place, at) => {
             bindings::read_entry_at(file, *attribute, *kind, *place, *at).map(field)
+        }
+        EntryValueAt(attribute, kind, place, element) => {
+            bindings::read_entry_value_at(file, *attribute, *kind, *place, *element).map(value)
         }
     }
 }
@@ -176,6 +181,10 @@ pub fn second(file: &[u8], question: &Question) -> Answer {
             let place = i64::try_from(*place).unwrap_or(i64::MAX);
             read::entry_at_place(file, *attribute, *kind, place)
                 .and_then(|of| shown(entry_field(&of, *at)))
+        }
+        EntryValueAt(attribute, kind, place, element) => {
+            let place = i64::try_from(*place).unwrap_or(i64::MAX);
+            read::read_entry_at_place(file, *attribute, *kind, place, *element).map(value)
         }
     };
     answer.map_err(|refusal| refusal as i32)
@@ -294,14 +303,18 @@ fn of_variable(file: &[u8], random: &mut Random) -> Question {
 /// Any question about an attribute.
 fn of_attribute(file: &[u8], random: &mut Random) -> Question {
     let (attribute, kind) = (small(random, 3), kind(random, [5, 9]));
-    match random.below(6) {
+    match random.below(7) {
         0 | 1 => {
             let entry = own_number(file, random, 4);
             Question::Entry(attribute, kind, entry, small(random, 4))
         }
         2 => Question::EntryField(attribute, kind, own_number(file, random, 4), offset(random)),
         3 => Question::EntryAt(attribute, kind, small(random, 4) as u64, offset(random)),
-        4 => Question::Attribute(attribute, offset(random)),
+        4 => {
+            let place = small(random, 4) as u64;
+            Question::EntryValueAt(attribute, kind, place, small(random, 4))
+        }
+        5 => Question::Attribute(attribute, offset(random)),
         _ => Question::AttributeName(attribute),
     }
 }
@@ -333,11 +346,12 @@ pub fn call(question: &Question) -> &'static str {
         Question::AttributeName(..) => "attribute name",
         Question::EntryField(..) => "entry field",
         Question::EntryAt(..) => "entry at",
+        Question::EntryValueAt(..) => "entry value at",
     }
 }
 
 /// How many calls there are.
-pub const CALLS: usize = 13;
+pub const CALLS: usize = 14;
 
 /// Questions that go through the edges of every number, one number at a time.
 pub fn edges() -> Vec<Question> {
@@ -391,6 +405,9 @@ fn edge_of_attributes(edge: i64) -> Vec<Question> {
             Question::EntryField(0, kind, edge, 16),
             Question::EntryAt(edge, kind, 0, 16),
             Question::EntryAt(0, kind, edge as u64, 16),
+            Question::EntryValueAt(edge, kind, 0, 0),
+            Question::EntryValueAt(0, kind, edge as u64, 0),
+            Question::EntryValueAt(0, kind, 0, edge),
         ]
     };
     let plain = [Question::Attribute(edge, 16), Question::AttributeName(edge)];
@@ -413,5 +430,6 @@ fn edge_of_kinds(kind: i64) -> Vec<Question> {
         Question::EntryField(0, kind, 0, 16),
         Question::EntryField(0, kind, 0, 17),
         Question::EntryAt(0, kind, 0, 16),
+        Question::EntryValueAt(0, kind, 0, 0),
     ]
 }

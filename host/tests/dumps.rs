@@ -126,17 +126,9 @@ fn every_sample() {
     }
 }
 
-/// A line as the proved reader can show it: no offset of a float that is refused, no value of a later entry of a number.
-fn askable(line: &str, seen: &mut Vec<String>) -> String {
+/// A line as the proved reader can show it: no offset of a float that is refused.
+fn askable(line: &str) -> String {
     let words: Vec<&str> = line.split(' ').collect();
-    if words[0] == "ATTR" {
-        seen.clear();
-    }
-    let of_number = words.iter().take(3).copied().collect::<Vec<&str>>().join(" ");
-    if words[0] == "E" && seen.contains(&of_number) {
-        return words[..6].join(" ") + " later";
-    }
-    seen.push(of_number);
     let unplaced = |word: &str| match word.split_once('@') {
         Some((before, _)) => format!("{before}@?"),
         None => word.to_string(),
@@ -149,18 +141,15 @@ fn askable(line: &str, seen: &mut Vec<String>) -> String {
 /// The proved reader: every value, entry, pad value and descriptor of every sample.
 #[test]
 fn every_sample_by_the_proved_reader() {
-    let (mut lines, mut later, mut vax) = (0, 0, 0);
+    let (mut lines, mut vax) = (0, 0);
     for name in names() {
         let text = dump::dump(&sample(&name)).expect(&name);
-        let mut seen = Vec::new();
-        let theirs: Vec<String> =
-            expected(&name).iter().map(|line| askable(line, &mut seen)).collect();
+        let theirs: Vec<String> = expected(&name).iter().map(|line| askable(line)).collect();
         assert_eq!(text.lines().collect::<Vec<_>>(), theirs, "{name}");
         lines += theirs.len();
-        later += theirs.iter().filter(|line| line.ends_with(" later")).count();
         vax += theirs.iter().filter(|line| line.contains("@?")).count();
     }
-    assert!(lines > 800 && later > 0 && later < 20 && vax > 10, "{lines} {later} {vax}");
+    assert!(lines > 800 && vax > 10, "{lines} {vax}");
 }
 
 #[test]

@@ -16,7 +16,7 @@
 #define MISSING 0
 #endif
 
-enum { CALLS = 13, ANSWERS = 21, NUMBERS = 3, ROOM = 65536 };
+enum { CALLS = 14, ANSWERS = 21, NUMBERS = 3, ROOM = 65536 };
 
 /* What a call may set, each number an allocation of its own; what they held before. */
 struct lent {
@@ -124,6 +124,9 @@ static int32_t ask_attribute(const struct lent *l, uint64_t call)
         return tlz_read_entry_field(l->file, l->length, which, of, number(4), field_at(), l->field);
     case 8:
         return tlz_read_entry_at(l->file, l->length, which, of, (uint64_t)number(4), field_at(), l->field);
+    case 13:
+        return tlz_read_entry_value_at(l->file, l->length, which, of, (uint64_t)number(4), number(2), l->numbers[0],
+                                       l->numbers[1], l->numbers[2]);
     case 9:
         return tlz_read_attribute(l->file, l->length, which, field_at(), l->field);
     default:
@@ -137,7 +140,7 @@ static int32_t ask(const struct lent *l, uint64_t call)
         return ask_value(l);
     if (call < 6)
         return ask_variable(l, call);
-    if (call < 11)
+    if (call < 11 || call == 13)
         return ask_attribute(l, call);
     if (call == 11)
         return tlz_read_file(l->file, l->length, (uint64_t)number(6), l->field);
@@ -163,7 +166,7 @@ static void judge(const struct lent *l, uint64_t call, int32_t answer)
     expect(answer == 0 || same, "a refusal changed a number", call);
     if (answer == 0 && (call == 5 || call == 10))
         expect(*l->numbers[0] + *l->numbers[1] <= l->length && *l->numbers[1] <= 64, "a name outside the file", call);
-    if (answer == 0 && (call == 0 || call == 1 || call == 6))
+    if (answer == 0 && (call == 0 || call == 1 || call == 6 || call == 13))
         expect(*l->numbers[0] <= TLZ_CHARACTER && *l->numbers[2] < l->length, "a value", call);
     calls[call]++;
     answers[answer >= 0 && answer < ANSWERS ? answer : 1]++;

@@ -87,9 +87,6 @@ def attribute_lines(of):
     for entry in of["entries"]:
         kind, values = entry["type"], entry["values"]
         text = f"E {entry['kind']} {entry['number']} type={kind} elems={entry['elements']}"
-        if entry.get("later"):
-            yield text + " later"
-            continue
         values = [values] if kind in (51, 52) else values
         yield text + " " + " ".join(token(value, kind) for value in values)
 
@@ -107,7 +104,7 @@ def ours(path):
 def theirs(path):
     """The dump without offsets, counts of entries and what cannot be asked for."""
     vax = path.with_suffix(".vax.jcdf")
-    seen, fixed = set(), False
+    fixed = False
     for line in (vax if vax.exists() else path.with_suffix(".jcdf")).read_text().splitlines():
         words = [word for word in line.split(" ") if not word.startswith(("@", "ngr=", "maxgr=", "nz=", "maxz=", "attr="))]
         if line.startswith("CDF"):
@@ -119,12 +116,6 @@ def theirs(path):
             words[-1] = words[-1].split("@")[0]
         if words[0] == "R" and fixed and words[1] != "0":
             continue
-        if words[0] == "ATTR":
-            seen = set()
-        if words[0] == "E":
-            key = tuple(words[1:3])
-            words = words[:5] + ["later"] if key in seen else words
-            seen.add(key)
         yield " ".join(words)
 
 

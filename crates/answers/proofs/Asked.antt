@@ -7,12 +7,11 @@ use lib.IntN.{ℤ}
 use Rattle.variables.specs.Vdr.{variableOf}
 use Rattle.ways.specs.Lists.{kindAmong, variableWay, entryWay}
 use Rattle.ways.specs.declared.lists.Wanted.{Wanted}
-use Rattle.ways.specs.declared.lists.Wanted.the-variants.{Number}
 use Rattle.ways.specs.declared.lists.Way.the-variants.{Found, Stopped}
 use Rattle.ways.proofs.Sought.{Finds}
 use Rattle.ways.proofs.Found.{Met, variable-finds, entry-finds, variable-inside, entry-inside}
 use Rattle.answers.specs.declared.Read.the-variants.{Refused}
-use Rattle.answers.specs.Answers.{elementRead, inVariable, valueRead, entryRead, padIn, padRead}
+use Rattle.answers.specs.Answers.{elementRead, inVariable, valueRead, entryValue, padIn, padRead}
 use Rattle.answers.specs.Bounds.{Inside}
 
 module _ (f : List ℕ) where
@@ -35,13 +34,13 @@ module _ (f : List ℕ) where
     unfolding valueRead
     value-stopped v e = rw e
 
-  module _ (a k n x : ℤ) where
-    pub entry-found : (o left : ℕ) → entryWay f a k (Number n) ≡ Found o left → entryRead f a k n x ≡ elementRead f (o + 48) (o + 16) (o + 24) x
-    unfolding entryRead
+  module _ (a k : ℤ) (w : Wanted) (x : ℤ) where
+    pub entry-found : (o left : ℕ) → entryWay f a k w ≡ Found o left → entryValue f a k w x ≡ elementRead f (o + 48) (o + 16) (o + 24) x
+    unfolding entryValue
     entry-found o left e = rw e
 
-    pub entry-stopped : (v : ℕ) → entryWay f a k (Number n) ≡ Stopped v → entryRead f a k n x ≡ Refused v
-    unfolding entryRead
+    pub entry-stopped : (v : ℕ) → entryWay f a k w ≡ Stopped v → entryValue f a k w x ≡ Refused v
+    unfolding entryValue
     entry-stopped v e = rw e
 
   module _ (k n x : ℤ) where

@@ -21,7 +21,7 @@ use Rattle.ways.specs.Lists.{variableWay, entryWay}
 use Rattle.ways.specs.declared.lists.Wanted.the-variants.{Number}
 use Rattle.ways.specs.declared.lists.Way.the-variants.{Stopped}
 use Rattle.ways.proofs.Kept.{both}
-use Rattle.answers.specs.Answers.{answered, encodingAt, elementThere, elementRead, valueRead, entryRead, padRead}
+use Rattle.answers.specs.Answers.{answered, encodingAt, elementThere, elementRead, valueRead, entryValue, entryRead, padRead}
 use Rattle.answers.specs.declared.Read.{Read}
 use Rattle.answers.specs.declared.Read.the-variants.{Value, Refused}
 
@@ -110,7 +110,7 @@ unfolding valueRead
 value-stopped f k n r is x m e = rw e
 
 pub entry-stopped : (f : List ℕ) (a k n x : ℤ) (m : ℕ) → entryWay f a k (Number n) ≡ Stopped m → entryRead f a k n x ≡ Refused m
-unfolding entryRead
+unfolding entryValue
 entry-stopped f a k n x m e = rw e
 
 pub pad-stopped : (f : List ℕ) (k n x : ℤ) (m : ℕ) → variableWay f k n ≡ Stopped m → padRead f k n x ≡ Refused m

@@ -17,6 +17,7 @@ use Rattle.variables.specs.declared.place.Place.{Place}
 use Rattle.variables.specs.declared.place.Place.the-variants.{At, Wrong}
 use Rattle.ways.specs.Lists.{kindAmong, variableWay, entryWay}
 use Rattle.ways.specs.Indexes.{recordWay}
+use Rattle.ways.specs.declared.lists.Wanted.{Wanted}
 use Rattle.ways.specs.declared.lists.Wanted.the-variants.{Number}
 use Rattle.ways.specs.declared.lists.Way.{Way}
 use Rattle.ways.specs.declared.lists.Way.the-variants.{Found, Stopped}
@@ -81,9 +82,13 @@ abbrev pub entryOn : List ℕ → ℤ → Way → Read
 entryOn f x (Found e left) = elementRead f (e + 48) (e + 16) (e + 24) x
 entryOn f x (Stopped n) = Refused n
 
--- AN ENTRY'S VALUE: "by attribute, kind, entry number and element"
-unfoldable pub entryRead : List ℕ → ℤ → ℤ → ℤ → ℤ → Read
-entryRead f a k n x = entryOn f x (entryWay f a k (Number n))
+-- AN ENTRY'S VALUE, of the entry that is wanted, at a place of its list or of a number
+unfoldable pub entryValue : List ℕ → ℤ → ℤ → Wanted → ℤ → Read
+entryValue f a k w x = entryOn f x (entryWay f a k w)
+
+-- "by attribute, kind, entry number and element"
+abbrev pub entryRead : List ℕ → ℤ → ℤ → ℤ → ℤ → Read
+entryRead f a k n x = entryValue f a k (Number n) x
 
 -- "Pad value last if bit 1 is set": after the variances
 abbrev pub padPlace : Variable → ℕ

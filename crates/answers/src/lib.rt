@@ -5,7 +5,7 @@ ghost use Prim.Native.Nat.{_+_, _≤_, _<_};
 ghost use lib.ListN.{length};
 ghost use Rattle.format.specs.Fields.{natOr};
 ghost use Rattle.values.specs.Values.{decodedOf};
-ghost use Rattle.answers.specs.Answers.{answered, elementThere, elementRead, inRecord, inVariable, valueRead, entryRead, padIn, padRead};
+ghost use Rattle.answers.specs.Answers.{answered, elementThere, elementRead, inRecord, inVariable, valueRead, entryValue, padIn, padRead};
 ghost use Rattle.answers.specs.Bounds.{Inside, Fits};
 use format::fields;
 use format::types;
@@ -113,11 +113,11 @@ pub fn read_value(f: &[u8], kind: i64, number: i64, r: i64, indices: &[i64], x: 
     }
 }
 
-// A value of an attribute's entry, by attribute, kind, entry number and element.
-pub fn read_entry(f: &[u8], attribute: i64, kind: i64, number: i64, x: i64) -> Read
-    ensures { λ q. ⌜ q ≡ entryRead (now (f .entry)) attribute kind number x ⌝ }
+// A value of an attribute's entry, by attribute, kind, which entry, and element.
+pub fn read_entry(f: &[u8], attribute: i64, kind: i64, w: Wanted, x: i64) -> Read
+    ensures { λ q. ⌜ q ≡ entryValue (now (f .entry)) attribute kind w x ⌝ }
 {
-    let way = lists::to_entry(f, attribute, kind, Wanted::Number(number));
+    let way = lists::to_entry(f, attribute, kind, w);
     match way {
         Way::Found { at, left: _ } => {
             let e = at as usize;

@@ -12,19 +12,22 @@ use Rattle.records.specs.Opening.{gdrAt, rNumDims}
 use Rattle.variables.specs.Vdr.{variableOf}
 use Rattle.variables.specs.Place.{indexRight}
 use Rattle.values.specs.declared.value.Answer.{Answer}
-use Rattle.ways.specs.Lists.{kindAmong, variableWay, attributeWay, entryWay}
+use Rattle.ways.specs.Lists.{kindAmong, entriesPlace, variableWay, attributeWay, entryWay}
 use Rattle.ways.specs.declared.lists.Wanted.{Wanted}
 use Rattle.ways.specs.declared.lists.Way.{Way}
 use Rattle.ways.specs.declared.lists.Way.the-variants.{Found, Stopped}
-use Rattle.answers.specs.Answers.{numberOf, elementThere, valueRead, entryRead, padRead}
+use Rattle.answers.specs.Answers.{numberOf, elementThere, elementRead, valueRead, entryOn, entryValue, padRead}
+use Rattle.answers.proofs.Telling.{Tells, element-tells}
+use Rattle.ways.proofs.Sought.{Finds, first-met, ToEntry, entry-found}
 use Rattle.answers.specs.declared.Read.{Read}
 use Rattle.answers.specs.declared.Read.the-variants.{Value, Refused}
 use Rattle.descriptors.specs.Descriptors.{fieldNumber, nameNumber, isShown, fieldOn, variableField, attributeField, entryField, rowField, dimensionSize, sizeOn, variableSize, varianceOn, variableVariance, nameOn, variableName, attributeName, said, fileField}
 use Rattle.descriptors.specs.declared.Field.{Field}
 use Rattle.descriptors.specs.declared.Field.the-variants.{Is, Refused as NoField}
-use Rattle.promised_reads.specs.Reading.{ValueShown, EntryShown, PadShown, NeverTwenty, Never20, vaxFloat, RecordRefused, ValueRefused, PadRefused, EntryRefused, GivenOrRefused}
+use Rattle.promised_reads.specs.Reading.{ValueShown, PadShown, NeverTwenty, Never20, vaxFloat, RecordRefused, ValueRefused, PadRefused, GivenOrRefused}
 use Rattle.demands.proofs.NestedDemand.{NestedAccepted}
 use Rattle.promised_reads.proofs.Accepted.{opens}
+use Rattle.promised_reads.proofs.Shown.{ordered, entry-lies, entry-sized, entry-element}
 use Rattle.promised_reads.proofs.Demand2Values.{nested, variable-stops, attribute-stops, entry-stops, reads-right}
 
 never : (Shown : Answer → Type 0) (Why : ℕ → Type 0) → ((m : ℕ) → Why m → m ≢ 20) → (s : Read) → GivenOrRefused Shown Why s → numberOf s ≢ 20
@@ -41,12 +44,6 @@ value-why f k j r is x m (inr a) e = go (a .3)
     go (inr (inl b)) = omega (arith, b .0)
     go (inr (inr (inl b))) = omega (arith, b .0)
     go (inr (inr (inr b))) = omega (arith, b .0)
-
-entry-why-not : (f : List ℕ) (b k j x : ℤ) (m : ℕ) → EntryRefused f b k j x m → m ≢ 20
-entry-why-not f b k j x m (inl a) e = omega (arith, a .0)
-entry-why-not f b k j x m (inr (a, o, t, inl c)) e = omega (arith, c .0)
-entry-why-not f b k j x m (inr (a, o, t, inr (u, p, q, w, inl c))) e = omega (arith, c .0)
-entry-why-not f b k j x m (inr (a, o, t, inr (u, p, q, w, inr c))) e = omega (arith, c .0)
 
 pad-why : (f : List ℕ) (k j x : ℤ) (m : ℕ) → PadRefused f k j x m → m ≢ 20
 pad-why f k j x m (inl a) e = omega (arith, a .0)
@@ -116,11 +113,29 @@ module _ (f : List ℕ) (n : NestedAccepted f) where
   said-goes : (what : ℕ) → fieldNumber (said f what) ≢ 20
   said-goes what = is-or (eqb what 0) _ _ (is-or (leb what 5) _ _ (λ e. omega arith))
 
+  -- an entry that was found gives a value, 18 or 19
+  entry-never : (b k : ℤ) (w : Wanted) (x : ℤ) → numberOf (entryValue f b k w x) ≢ 20
+  unfolding entryValue
+  entry-never b k w x = go (entryWay f b k w) (entry-goes b k w) (entry-found f b k w)
+    where
+      given : (s : Read) → Tells (λ a. Unit {0}) (λ m. m ≢ 20) s → numberOf s ≢ 20
+      given (Value a) t = λ q. omega arith
+      given (Refused m) t = t
+
+      go : (way : Way) → Goes way → Finds (ToEntry f b k w) way → numberOf (entryOn f x way) ≢ 20
+      go (Stopped m) h t = h
+      go (Found e left) h t =
+          let m = first-met f (kindAmong 5 9 k) w (t .adr + entriesPlace (kindAmong 5 9 k)) 0 e (t .entry) in
+          given (elementRead f (e + 48) (e + 16) (e + 24) x)
+          (element-tells f (e + 48) (e + 16) (e + 24) x (λ a. Unit {0}) (λ v. v ≢ 20) (λ i q. omega arith) (λ i v q. omega arith)
+          (entry-sized f k e m) (ordered f (t .opens))
+          (λ i. omega (arith, entry-element f k e m x i, entry-lies f k e m .inside)) (λ a i o d. tt))
+
   pub never-twenty : NeverTwenty f
   unfolding variableField attributeField entryField dimensionSize variableSize variableVariance variableName attributeName fileField
   never-twenty = record {
     value = λ k j r is x. never (ValueShown f k j r is x) (ValueRefused f k j r is x) (value-why f k j r is x) (valueRead f k j r is x) (reads-right f n .value k j r is x);
-    entry = λ b k j x. never (EntryShown f b k j x) (EntryRefused f b k j x) (entry-why-not f b k j x) (entryRead f b k j x) (reads-right f n .entry b k j x);
+    entry = entry-never;
     pad = λ k j x. never (PadShown f k j x) (PadRefused f k j x) (pad-why f k j x) (padRead f k j x) (reads-right f n .pad k j x);
     ofVariable = λ k j p. field-goes (kindAmong 3 8 k) p (variableWay f k j) (variable-goes k j);
     ofAttribute = λ j p. field-goes 4 p (attributeWay f j) (attribute-goes j);

@@ -31,7 +31,7 @@ use Rattle.ways.specs.declared.lists.Way.{Way}
 use Rattle.ways.specs.declared.lists.Way.the-variants.{Found, Stopped}
 use Rattle.ways.specs.declared.indexes.Values.{Values}
 use Rattle.ways.specs.declared.indexes.Values.the-variants.{Record, Refused as NoRecord}
-use Rattle.answers.specs.Answers.{encodingAt, rowMajority, elementThere, elementRead, atPlace, inRecord, inValues, inVariable, valueOn, valueRead, entryOn, entryRead, padIn, padOn, padRead}
+use Rattle.answers.specs.Answers.{encodingAt, rowMajority, elementThere, elementRead, atPlace, inRecord, inValues, inVariable, valueOn, valueRead, entryOn, entryValue, entryRead, padIn, padOn, padRead}
 use Rattle.answers.specs.declared.Read.the-variants.{Refused}
 use Rattle.demands.specs.Acceptance.{Slot, firstOf, lastOf, namedBy}
 use Rattle.promised_reads.specs.Reading.{nthRecord, Met, CoveredBy, ValueShown, EntryShown, PadShown, ValuesShown, padRight, vaxFloat}
@@ -269,17 +269,33 @@ aedr-parts f e h =
       eqb-true (sizeAt f e) (48 + natAt f (e + 24) * elementSize f (e + 16)) (p .1),
     )
 
+-- an entry that was met: its elements have a size, and those that are there lie in it
+module _ (f : List ℕ) (k : ℤ) (e : ℕ) (m : meets f (kindAmong 5 9 k) e ≡ true) where
+  pub entry-lies : Lies f (kindAmong 5 9 k) e
+  entry-lies = meets-parts f (kindAmong 5 9 k) e m .0
+
+  parts : (1 ≤ elementSize f (e + 16)) × (sizeAt f e ≡ 48 + natAt f (e + 24) * elementSize f (e + 16))
+  unfolding aedrRule
+  parts = aedr-parts f e (judged-reads f e 48 (aedrRight f e) (entry-kept f e (eqZ k (pos 5)) (meets-parts f (kindAmong 5 9 k) e m .1)) .1)
+
+  pub entry-sized : 1 ≤ elementSize f (e + 16)
+  entry-sized = parts .0
+
+  pub entry-element : (x : ℤ) → elementThere f (e + 24) x ≡ true → e + 48 + natOr 0 x * elementSize f (e + 16) + elementSize f (e + 16) ≤ e + sizeAt f e
+  entry-element x h =
+      let a : suc (natOr 0 x) * elementSize f (e + 16) ≤ natAt f (e + 24) * elementSize f (e + 16) = mul-le-mul-right (elementSize f (e + 16)) (element-below f (e + 24) x h) in
+      omega (arith, a, parts .1, suc-mul (natOr 0 x) (elementSize f (e + 16)))
+
 module _ (f : List ℕ) (b k n x : ℤ) (Fact : Answer → Type 0) (N : ℕ → Type 0) where
   in-entry : (e : ℕ) → ToEntry f b k (Number n) e
       → ((a : Answer) → EntryShown f b k n x a → elementThere f (e + 24) x ≡ true → vaxFloat f (e + 16) ≡ false → Fact a)
       → (elementThere f (e + 24) x ≡ false → N 18) → (elementThere f (e + 24) x ≡ true → vaxFloat f (e + 16) ≡ true → N 19)
       → Tells Fact N (elementRead f (e + 48) (e + 16) (e + 24) x)
-  unfolding aedrRule
   in-entry e t fact eighteen nineteen =
-      element-tells f (e + 48) (e + 16) (e + 24) x Fact N eighteen nineteen (parts .0) (ordered f (t .opens))
-      (λ h. let i = inside h in omega (arith, i, met .0 .inside))
+      element-tells f (e + 48) (e + 16) (e + 24) x Fact N eighteen nineteen (entry-sized f k e m) (ordered f (t .opens))
+      (λ h. omega (arith, entry-element f k e m x h, entry-lies f k e m .inside))
       (λ a h i d.
-      let j = inside h in
+      let j = entry-element f k e m x h in
       fact a (record {
         kind = t .kind;
         number = t .attribute .least;
@@ -297,16 +313,8 @@ module _ (f : List ℕ) (b k n x : ℤ) (Fact : Answer → Type 0) (N : ℕ → 
         decoded = d;
       }) h (given-plain f (a .offset) (natAt f (e + 16)) (encodingAt f) a d))
     where
-      met : Lies f (kindAmong 5 9 k) e × (aedrRule f e ≡ 0)
-      met = let m = meets-parts f (kindAmong 5 9 k) e (first-met f (kindAmong 5 9 k) (Number n) (t .adr + entriesPlace (kindAmong 5 9 k)) 0 e (t .entry)) in (m .0, entry-kept f e (eqZ k (pos 5)) (m .1))
-
-      parts : (1 ≤ elementSize f (e + 16)) × (sizeAt f e ≡ 48 + natAt f (e + 24) * elementSize f (e + 16))
-      parts = aedr-parts f e (judged-reads f e 48 (aedrRight f e) (met .1) .1)
-
-      inside : elementThere f (e + 24) x ≡ true → e + 48 + natOr 0 x * elementSize f (e + 16) + elementSize f (e + 16) ≤ e + sizeAt f e
-      inside h =
-          let a : suc (natOr 0 x) * elementSize f (e + 16) ≤ natAt f (e + 24) * elementSize f (e + 16) = mul-le-mul-right (elementSize f (e + 16)) (element-below f (e + 24) x h) in
-          omega (arith, a, parts .1, suc-mul (natOr 0 x) (elementSize f (e + 16)))
+      m : meets f (kindAmong 5 9 k) e ≡ true
+      m = first-met f (kindAmong 5 9 k) (Number n) (t .adr + entriesPlace (kindAmong 5 9 k)) 0 e (t .entry)
 
   pub entry-tells : ((m : ℕ) → entryWay f b k (Number n) ≡ Stopped m → N m)
       → ((e left : ℕ) → entryWay f b k (Number n) ≡ Found e left → (a : Answer) → EntryShown f b k n x a
@@ -314,7 +322,7 @@ module _ (f : List ℕ) (b k n x : ℤ) (Fact : Answer → Type 0) (N : ℕ → 
       → ((e left : ℕ) → entryWay f b k (Number n) ≡ Found e left → elementThere f (e + 24) x ≡ false → N 18)
       → ((e left : ℕ) → entryWay f b k (Number n) ≡ Found e left → elementThere f (e + 24) x ≡ true → vaxFloat f (e + 16) ≡ true → N 19)
       → Tells Fact N (entryRead f b k n x)
-  unfolding entryRead
+  unfolding entryValue
   entry-tells stopped fact eighteen nineteen = go (entryWay f b k (Number n)) refl (entry-found f b k (Number n))
     where
       go : (w : Way) → entryWay f b k (Number n) ≡ w → Finds (ToEntry f b k (Number n)) w → Tells Fact N (entryOn f x w)

@@ -28,7 +28,7 @@ use Rattle.ways.specs.Indexes.{recordVaries, recordThere, recordRead, indexMet}
 use Rattle.ways.specs.declared.lists.Wanted.{Wanted}
 use Rattle.ways.specs.declared.lists.Wanted.the-variants.{Number}
 use Rattle.ways.specs.declared.lists.Way.the-variants.{Found}
-use Rattle.answers.specs.Answers.{numberOf, encodingAt, rowMajority, elementThere, valueRead, entryRead, padRead}
+use Rattle.answers.specs.Answers.{numberOf, encodingAt, rowMajority, elementThere, valueRead, entryValue, entryRead, padRead}
 use Rattle.answers.specs.declared.Read.{Read}
 use Rattle.answers.specs.declared.Read.the-variants.{Value, Refused}
 use Rattle.descriptors.specs.Descriptors.{fieldNumber, nameNumber, variableField, attributeField, entryField, dimensionSize, variableSize, variableVariance, variableName, attributeName, fileField}
@@ -139,7 +139,7 @@ ValuesShown = (f : List ℕ) → ShowsRight f
 
 pub record NeverTwenty (f : List ℕ) : Type 0 where
   pub value : (k n r : ℤ) (is : List ℤ) (x : ℤ) → numberOf (valueRead f k n r is x) ≢ 20
-  pub entry : (b k n x : ℤ) → numberOf (entryRead f b k n x) ≢ 20
+  pub entry : (b k : ℤ) (w : Wanted) (x : ℤ) → numberOf (entryValue f b k w x) ≢ 20
   pub pad : (k n x : ℤ) → numberOf (padRead f k n x) ≢ 20
   pub ofVariable : (k n : ℤ) (p : ℕ) → fieldNumber (variableField f k n p) ≢ 20
   pub ofAttribute : (n : ℤ) (p : ℕ) → fieldNumber (attributeField f n p) ≢ 20

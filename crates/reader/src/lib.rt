@@ -2,7 +2,7 @@
 ghost use mathlib.Core.Path.{_≡_};
 ghost use Rattle.values.specs.Values.{kindOf};
 ghost use Rattle.ways.specs.declared.lists.Wanted.the-variants.{Place, Number};
-ghost use Rattle.answers.specs.Answers.{valueRead, entryRead, padRead};
+ghost use Rattle.answers.specs.Answers.{valueRead, entryValue, entryRead, padRead};
 ghost use Rattle.descriptors.specs.Descriptors.{variableField, attributeField, entryField, dimensionSize, variableSize, variableVariance, variableName, attributeName, fileField};
 ghost use Rattle.reader.specs.Shown.{shownValue, valueShown, shownField, fieldShown, shownName, nameShown};
 use answers::Read;
@@ -110,7 +110,30 @@ pub extern "C" fn tlz_read_entry(
         ≡ valueShown (entryRead (now (file .entry)) attribute kind entry element) (now (form .entry)) (now (bits .entry)) (now (offset .entry)) ⌝ }
 {
     show_value(
-        answers::read_entry(file, attribute, kind, entry, element),
+        answers::read_entry(file, attribute, kind, Wanted::Number(entry), element),
+        form,
+        bits,
+        offset,
+    )
+}
+
+// An element of the entry at a place of its list, from 0: so also of one whose number an earlier entry has.
+#[no_mangle]
+pub extern "C" fn tlz_read_entry_value_at(
+    file: &[u8],
+    attribute: i64,
+    kind: i64,
+    place: u64,
+    element: i64,
+    form: &mut u64,
+    bits: &mut u64,
+    offset: &mut u64,
+) -> i32
+    ensures { λ q. ⌜ shownValue q (now (form .exit)) (now (bits .exit)) (now (offset .exit))
+        ≡ valueShown (entryValue (now (file .entry)) attribute kind (Place place) element) (now (form .entry)) (now (bits .entry)) (now (offset .entry)) ⌝ }
+{
+    show_value(
+        answers::read_entry(file, attribute, kind, Wanted::Place(place), element),
         form,
         bits,
         offset,

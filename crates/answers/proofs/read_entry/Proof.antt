@@ -39,14 +39,14 @@ enum-known-way-2 c = search needs
 returns : tie.Need-returns
 returns c =
     let a = c .before .before .before .before .before .before in
-    let e = rw (toZ-ofZ {w = w64} (a .fits .attribute), toZ-ofZ {w = w64} (a .fits .kind), toZ-ofZ {w = w64} (a .fits .number)) at (sym (c .before .before .before .before .to-entry .ensures) ∙ c .before .before .way .given .1) in
-    c .element .ensures ∙ rw (toZ-ofZ {w = w64} (a .fits .x)) (sym (entry-found (a .args .f .now) (a .args .attribute) (a .args .kind) (a .args .number) (a .args .x) _ _ e))
+    let e = rw (toZ-ofZ {w = w64} (a .fits .attribute), toZ-ofZ {w = w64} (a .fits .kind)) at (sym (c .before .before .before .before .to-entry .ensures) ∙ c .before .before .way .given .1) in
+    c .element .ensures ∙ rw (toZ-ofZ {w = w64} (a .fits .x)) (sym (entry-found (a .args .f .now) (a .args .attribute) (a .args .kind) (a .args .w) (a .args .x) _ _ e))
 
 returns-2 : tie.Need-returns-2
 returns-2 c =
     let a = c .before .before .before .before .before in
-    let e = rw (toZ-ofZ {w = w64} (a .fits .attribute), toZ-ofZ {w = w64} (a .fits .kind), toZ-ofZ {w = w64} (a .fits .number)) at (sym (c .before .before .before .to-entry .ensures) ∙ c .before .way2 .given .1) in
-    sym (entry-stopped (a .args .f .now) (a .args .attribute) (a .args .kind) (a .args .number) (a .args .x) _ e)
+    let e = rw (toZ-ofZ {w = w64} (a .fits .attribute), toZ-ofZ {w = w64} (a .fits .kind)) at (sym (c .before .before .before .to-entry .ensures) ∙ c .before .way2 .given .1) in
+    sym (entry-stopped (a .args .f .now) (a .args .attribute) (a .args .kind) (a .args .w) (a .args .x) _ e)
 
 pub read-entry-spec : {M : Type 1} → statement M
 read-entry-spec =
