@@ -17,11 +17,8 @@ use Rattle.values.specs.declared.value.Answer.{Answer}
 use Rattle.values.specs.declared.value.Decoded.{Decoded}
 use Rattle.values.specs.declared.value.Decoded.the-variants.{Given, Vax, Nothing}
 use Rattle.values.proofs.Places.{lies}
-use Rattle.ways.specs.Lists.{variableWay, entryWay}
-use Rattle.ways.specs.declared.lists.Wanted.the-variants.{Number}
-use Rattle.ways.specs.declared.lists.Way.the-variants.{Stopped}
 use Rattle.ways.proofs.Kept.{both}
-use Rattle.answers.specs.Answers.{answered, encodingAt, elementThere, elementRead, valueRead, entryValue, entryRead, padRead}
+use Rattle.answers.specs.Answers.{answered, encodingAt, elementThere, elementRead}
 use Rattle.answers.specs.declared.Read.{Read}
 use Rattle.answers.specs.declared.Read.the-variants.{Value, Refused}
 
@@ -103,16 +100,3 @@ module _ (f : List ℕ) (at t c : ℕ) (x : ℤ) (Fact : Answer → Type 0) (Mea
         go : (b : Bool) → elementThere f c x ≡ b → Tells Fact Meaning (cond b (answered (decodedOf f place (natAt f t) (encodingAt f))) (Refused 18))
         go true h = decoded-tells h (decodedOf f place (natAt f t) (encodingAt f)) refl (decoded-at f place (natAt f t) (encodingAt f))
         go false h = eighteen h
-
--- ---- a way that stops: its number comes back
-pub value-stopped : (f : List ℕ) (k n r : ℤ) (is : List ℤ) (x : ℤ) (m : ℕ) → variableWay f k n ≡ Stopped m → valueRead f k n r is x ≡ Refused m
-unfolding valueRead
-value-stopped f k n r is x m e = rw e
-
-pub entry-stopped : (f : List ℕ) (a k n x : ℤ) (m : ℕ) → entryWay f a k (Number n) ≡ Stopped m → entryRead f a k n x ≡ Refused m
-unfolding entryValue
-entry-stopped f a k n x m e = rw e
-
-pub pad-stopped : (f : List ℕ) (k n x : ℤ) (m : ℕ) → variableWay f k n ≡ Stopped m → padRead f k n x ≡ Refused m
-unfolding padRead
-pad-stopped f k n x m e = rw e

@@ -20,7 +20,8 @@ use Rattle.promised_reads.specs.Reading.{Met, EntryShown, attributeThere
 use Rattle.demands.proofs.NestedDemand.{NestedAccepted}
 use Rattle.ways.proofs.Kept.{both}
 use Rattle.ways.proofs.Sought.{Finds, found-not-stopped, found-same, Listed, place-listed}
-use Rattle.answers.proofs.Telling.{Tells, entry-stopped}
+use Rattle.answers.proofs.Telling.{Tells}
+use Rattle.answers.proofs.Asked.{entry-stopped}
 use Rattle.promised_reads.proofs.Shown.{nth-same, entry-tells, pad-tells}
 use Rattle.promised_reads.proofs.Accepted.{EntryOn, entry-on, attribute-not-there}
 use Rattle.promised_reads.proofs.Demand2Values.{nested, reads-right}
@@ -142,7 +143,7 @@ module _ (f : List ℕ) (c : NestedAccepted f) (b k n x : ℤ) where
 
       go : (w : Way) → entryWay f b k (Number n) ≡ w → Finds (λ o. ⊥) w → EntryOn f c b k (Number n) w → numberOf (entryRead f b k n x) ≡ 16
       go (Found e left) q h a = absurd h
-      go (Stopped m) q h a = ap numberOf (entry-stopped f b k n x m q) ∙ stopped m a
+      go (Stopped m) q h a = ap numberOf (entry-stopped f b k (Number n) x m q) ∙ stopped m a
 
   sixteen : (numberOf (entryRead f b k n x) ≡ 16) ↔ Lacks
   sixteen = (go (entryRead f b k n x) (reads-right f c .entry b k n x), lacks-sixteen)

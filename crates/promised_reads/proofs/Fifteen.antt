@@ -17,7 +17,7 @@ use Rattle.answers.specs.declared.Read.the-variants.{Value, Refused}
 use Rattle.promised_reads.specs.Reading.{NoSuch, Fifteen, ValueShown, EntryShown, PadShown, variableThere, attributeThere, ValueRefused, PadRefused, EntryRefused, GivenOrRefused}
 use Rattle.demands.proofs.NestedDemand.{NestedAccepted}
 use Rattle.ways.proofs.Sought.{Finds, Listed, place-listed}
-use Rattle.answers.proofs.Telling.{value-stopped, entry-stopped, pad-stopped}
+use Rattle.answers.proofs.Asked.{value-stopped, entry-stopped, pad-stopped}
 use Rattle.promised_reads.proofs.Accepted.{attribute-is-there, EntryOn, entry-on}
 use Rattle.promised_reads.proofs.Demand2Values.{nested, variable-stops, there, owner-there, reads-right}
 
@@ -74,7 +74,7 @@ module _ (f : List ℕ) (n : NestedAccepted f) where
     );
     entry = λ b k j x. (
       fifteen (EntryShown f b k j x) (EntryRefused f b k j x) (attributeThere f b k ≡ false) (entry-fifteen b k j x) (entryRead f b k j x) (reads-right f n .entry b k j x),
-      λ h. ap numberOf (entry-stopped f b k j x 15 (no-attribute b k j h)),
+      λ h. ap numberOf (entry-stopped f b k (Number j) x 15 (no-attribute b k j h)),
     );
     pad = λ k j x. (
       fifteen (PadShown f k j x) (PadRefused f k j x) (variableThere f k j ≡ false) (pad-fifteen k j x) (padRead f k j x) (reads-right f n .pad k j x),

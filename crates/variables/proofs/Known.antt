@@ -2,7 +2,7 @@
 use mathlib.Core.Path.{_≡_, refl}
 use mathlib.Core.Bool.{Bool, true, false, cond}
 use mathlib.Core.List.{List}
-use Prim.Native.Nat.{ℕ, _+_, _*_, _≤_}
+use Prim.Native.Nat.{ℕ, _+_, _≤_}
 use native.Mathlib.Omega.{arith}
 use lib.Dec.{ltb, eqb}
 use lib.ListN.{length}
@@ -10,44 +10,13 @@ use borrow.Author.Tests.{eqb-true, eqb-false}
 use Rattle.format.specs.Fields.{endOf}
 use Rattle.records.specs.Rules.{reachOf}
 use Rattle.records.proofs.Judged.{reach-zero}
-use Rattle.variables.specs.declared.vdr.Layout.{Layout}
 use Rattle.variables.specs.declared.vdr.Variable.{Variable}
-use Rattle.variables.specs.Limit.{capped}
-use Rattle.variables.specs.Vdr.{headOf, vdrFields, countPlace, countRight, layoutOf, sizeExact, dimensionsRight, valueBytes, recordBytes, vdrFault, dimensioned, variableOf}
-
--- of the cases of `dimensioned` and of `variableOf` each has few bytes
-module _ (w : Variable) (small : w .bytes ≤ 2147483648) where
-  of-dimensions : (a b c d e : Bool) → cond a (cond b (vdrFault 20) (cond c (vdrFault 20) (cond d (cond e (vdrFault 10) w) (vdrFault 10)))) (vdrFault 10) .bytes ≤ 2147483648
-  of-dimensions false b c d e = omega arith
-  of-dimensions true true c d e = omega arith
-  of-dimensions true false true d e = omega arith
-  of-dimensions true false false false e = omega arith
-  of-dimensions true false false true true = omega arith
-  of-dimensions true false false true false = small
-
-  of-variable : (v : ℕ) (a b c d : Bool) → cond a (cond b (cond c (vdrFault 20) (cond d w (vdrFault 10))) (vdrFault 10)) (vdrFault v) .bytes ≤ 2147483648
-  of-variable v false b c d = omega arith
-  of-variable v true false c d = omega arith
-  of-variable v true true true d = omega arith
-  of-variable v true true false true = small
-  of-variable v true true false false = omega arith
-
-capped-small : (n : ℕ) → capped n ≤ 2147483648
-unfolding capped
-capped-small n = omega arith
-
-dimensioned-small : (f : List ℕ) (o : ℕ) (l : Layout) → dimensioned f o l .bytes ≤ 2147483648
-unfolding dimensioned
-dimensioned-small f o l =
-    of-dimensions (record { fault = 0; dimensions = l; value = capped (valueBytes f o); bytes = capped (recordBytes f o l) }) (capped-small (recordBytes f o l))
-    (sizeExact f o l) (ltb (endOf f) (l .sizes + 4 * l .count)) (ltb (endOf f) (l .variances + 4 * l .count)) (dimensionsRight f l) (ltb 2147483647 (recordBytes f o l))
+use Rattle.variables.specs.Vdr.{headOf, vdrFields, countPlace, countRight, layoutOf, vdrFault, dimensioned, variableOf}
+use Rattle.variables.proofs.Dimensions.{of-variable}
 
 -- the bytes of a record are told up to 2,147,483,648
 pub bytes-small : (f : List ℕ) (k o : ℕ) → variableOf f k o .bytes ≤ 2147483648
-unfolding variableOf
-bytes-small f k o =
-    of-variable (dimensioned f o (layoutOf f k o)) (dimensioned-small f o (layoutOf f k o)) (reachOf f o (headOf k))
-    (eqb (reachOf f o (headOf k)) 0) (vdrFields f o) (ltb (endOf f) (countPlace f k o + 4)) (countRight f (countPlace f k o))
+bytes-small f k o = of-variable f k o .bytes
 
 -- a VDR that keeps its rule lies in the file up to its dimensions
 pub vdr-inside : (f : List ℕ) (k o : ℕ) → variableOf f k o .fault ≡ 0 → o + 128 ≤ length f

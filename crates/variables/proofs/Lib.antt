@@ -3,4 +3,5 @@ pub mod Places
 pub mod Product
 pub mod Bound
 pub mod Right
+pub mod Dimensions
 pub mod Known

@@ -6,7 +6,6 @@ pub mod Looking
 pub mod Scans
 pub mod Offsets
 pub mod Seeks
-pub mod Dimensions
 pub mod Kept
 pub mod Sought
 pub mod Chains

@@ -1,5 +1,5 @@
 use Rattle.ways.proofs.Found.{found-right}
-use Rattle.ways.proofs.Dimensions.{Dimensions, of-variable}
+use Rattle.variables.proofs.Dimensions.{Dimensions, of-variable}
 use Rattle.descriptors.proofs.Inside.{found-short, variance-is, variance-stopped}
 use mir.Facts.{toZ-ofZ}
 use mir.Syntax.{w64}
