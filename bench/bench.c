@@ -23,7 +23,7 @@ static int32_t proved_check(const uint8_t *file, size_t file_len, uint8_t *marks
 {
     uint32_t state[TLZ_STATE_LEN];
     int32_t begun = tlz_check_begin(state, TLZ_STATE_LEN);
-    if (begun != 0)
+    if (begun != TLZ_RUNNING)
         return begun;
     return tlz_check_grant(file, file_len, marks, marks_len, state, TLZ_STATE_LEN, UINT64_MAX, steps);
 }

@@ -68,8 +68,8 @@ extern "C" {
  *
  *   state, state_len   the state and how many numbers it has; must be TLZ_STATE_LEN
  *
- * Gives 0, or TLZ_BAD_STATE where state_len is another: then nothing is written. The 0 says that the state is fresh, not
- * that a file is accepted: take verdicts from tlz_check_grant alone.
+ * Gives TLZ_RUNNING, as a check that has not begun has no verdict, or TLZ_BAD_STATE where state_len is another: then nothing
+ * is written.
  */
 int32_t tlz_check_begin(uint32_t *state, size_t state_len);
 
@@ -109,11 +109,11 @@ int32_t tlz_check_begin(uint32_t *state, size_t state_len);
  *
  *     uint32_t state[TLZ_STATE_LEN];
  *     uint64_t steps = 0, all = 0;
- *     int32_t answer = TLZ_RUNNING;
+ *     int32_t answer = tlz_check_begin(state, TLZ_STATE_LEN);
  *     uint8_t *marks = malloc(file_len + 1);
  *
- *     if (marks == NULL || tlz_check_begin(state, TLZ_STATE_LEN) != 0)
- *         return -1;
+ *     if (marks == NULL)
+ *         ... out of memory ...
  *     while (answer == TLZ_RUNNING) {
  *         answer = tlz_check_grant(file, file_len, marks, file_len, state, TLZ_STATE_LEN, 10000, &steps);
  *         all += steps;

@@ -51,7 +51,7 @@ static const char *prepare(struct job *job, const struct manner *manner)
         return "out of memory";
     if (manner->marks)
         memset(job->marks, 0xaa, length);
-    if (tlz_check_begin(job->state, TLZ_STATE_LEN) != 0)
+    if (tlz_check_begin(job->state, TLZ_STATE_LEN) != TLZ_RUNNING)
         return words_of_number(TLZ_BAD_STATE);
     return manner->resume != NULL ? saved_read(manner->resume, job) : NULL;
 }

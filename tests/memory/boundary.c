@@ -92,7 +92,7 @@ static void fresh_check(const uint8_t *file, size_t length, uint64_t most)
     struct lent lent = lend(file, length, length, TLZ_STATE_LEN);
     int32_t answer = TLZ_RUNNING;
 
-    expect(tlz_check_begin(lent.state, TLZ_STATE_LEN) == 0, "begin");
+    expect(tlz_check_begin(lent.state, TLZ_STATE_LEN) == TLZ_RUNNING, "begin");
     while (answer == TLZ_RUNNING)
         answer = grant(&lent, 1 + any(most));
     expect(answer != TLZ_OTHER_FILE && answer != TLZ_BAD_STATE, "a fresh check's verdict");

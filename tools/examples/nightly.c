@@ -33,7 +33,7 @@ static void begin(struct job *job, const char *name)
         job->marks = malloc(job->length + 1);
     }
     if (job->file == NULL || job->marks == NULL || fread(job->file, 1, job->length, in) != job->length ||
-        tlz_check_begin(job->state, TLZ_STATE_LEN) != 0)
+        tlz_check_begin(job->state, TLZ_STATE_LEN) != TLZ_RUNNING)
         end(job);
     if (in != NULL)
         fclose(in);

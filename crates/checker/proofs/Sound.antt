@@ -92,7 +92,7 @@ in-range (Entries k a n p e g) h =
       le-leb a 2147483647 (s .0),
       le-leb n 2147483647 (s .1),
       le-leb p 2147483711 (s .2),
-      le-leb e 2147483647 (s .3),
+      le-leb e 2147483648 (s .3),
       le-leb g 2147483648 (s .4),
     )
 in-range (Unused p b) h = let s = h .small in rw (le-leb p 2147483711 (s .0), le-leb b 2147483647 (s .1))
@@ -139,8 +139,8 @@ range-within (Attrs p n) e =
     record { kinds = tt; small = (leb-true p 2147483711 (r .0), leb-true n 2147483648 (r .1)) }
 range-within (Entries k a n p e g) h =
     let kind = eqb k 5 || eqb k 9 in
-    let q = both (kind && offsetRange a && offsetRange n && linkRange p && offsetRange e) (countRange g) h in
-    let r = both (kind && offsetRange a && offsetRange n && linkRange p) (offsetRange e) (q .0) in
+    let q = both (kind && offsetRange a && offsetRange n && linkRange p && countRange e) (countRange g) h in
+    let r = both (kind && offsetRange a && offsetRange n && linkRange p) (countRange e) (q .0) in
     let t = four kind (offsetRange a) (offsetRange n) (linkRange p) (r .0) in
     record {
       kinds = entry-kind k (t .0);
@@ -148,7 +148,7 @@ range-within (Entries k a n p e g) h =
         leb-true a 2147483647 (t .1),
         leb-true n 2147483647 (t .2),
         leb-true p 2147483711 (t .3),
-        leb-true e 2147483647 (r .1),
+        leb-true e 2147483648 (r .1),
         leb-true g 2147483648 (q .1),
       );
     }

@@ -6,19 +6,19 @@ use Prim.Native.Nat.{ℕ, zero, suc, _+_, _-_, _*_}
 use lib.ListN.{length}
 use lib.Dec.{ltb, leb, eqb}
 use lib.IntN.{ℤ, pos, negsuc}
-use Rattle.format.specs.Fields.{endOf, isAt, sameAt, linkAt, bitAt, before}
+use Rattle.format.specs.Fields.{endOf, isAt, sameAt, inOrder, linkAt, bitAt, before}
 use Rattle.records.specs.Rules.{sizeAt, reachOf, judged}
 use Rattle.records.specs.Opening.{tooLong, whollyCompressed, cdrRight, singleFile, gdrAt, gdrRight, magicsRight, opening}
 use Rattle.records.specs.Tiles.{tileRight, typeUncarried, tile}
 use Rattle.records.specs.Attributes.{adrRight, adrRule, aedrRight, aedrRule}
-use Rattle.records.specs.Index.{entriesAt, firstPlace, lastPlace, offsetPlace, rangeRight, entryOf, vxrRight, vxrRule, vvrRule}
+use Rattle.records.specs.Index.{entriesAt, firstPlace, lastPlace, offsetPlace, rises, rangeNumber, entryOf, vxrRight, vxrRule, vvrRule}
 use Rattle.records.specs.Unused.{uirRule}
 use Rattle.records.specs.declared.index.Entry as E
 use Rattle.variables.specs.declared.vdr.Variable.{Variable}
 use Rattle.variables.specs.declared.vdr.Layout.{Layout}
 use Rattle.variables.specs.Vdr.{carriedOf, vdrFields, headOf, countPlace, countRight, layoutOf, sizeExact, dimensionsRight, recordBytes, vdrFault, dimensioned, variableOf}
 use Rattle.walk.specs.Numbers.{first, unless}
-use Rattle.walk.specs.Walk.{typeNumber, followed, gdrThere, varsTally, varNumber, chainTally, valuesNumber, attrNumber, entriesTally, entryNumber, unusedNumber, turnOf}
+use Rattle.walk.specs.Walk.{typeNumber, followed, gdrNamed, fieldNumber, tallied, tallyPlace, numNumber, varsTally, varNumber, chainTally, valuesNumber, attrNumber, entriesTally, entryNumber, unusedNumber, turnOf}
 use Rattle.walk.specs.declared.places.Walk as W
 use Rattle.walk.specs.declared.places.Walk.the-variants.{Start, Vars, Chain, Entry, Attrs, Entries, Unused}
 use Rattle.walk.specs.declared.places.Turn as T
@@ -161,8 +161,7 @@ module _ (f : List ℕ) where
   told-carried : (o : ℕ) → Told (carriedOf f o)
   unfolding carriedOf
   told-carried o =
-      told-cond (ltb (endOf f) (o + 8)) told-20
-      (told-cond (ltb (sizeAt f o) 32) told-0 (told-cond (ltb (endOf f) (o + 32)) told-20 (told-cond (bitAt f (o + 28) 4) told-14 told-0)))
+      told-cond (ltb (endOf f) (o + 32)) told-0 (told-cond (ltb (sizeAt f o) 32) told-0 (told-cond (bitAt f (o + 28) 4) told-14 told-0))
 
   told-var : (k n o : ℕ) → Told (varNumber f k n o)
   unfolding varNumber
@@ -170,18 +169,24 @@ module _ (f : List ℕ) where
       told-first (carriedOf f o ∷ variableOf f k o .fault ∷ unless 11 (isAt f (o + 52) (pos n)) ∷ [])
       (told-carried o, (told-variable k o .told, (told-unless 11 (isAt f (o + 52) (pos n)) told-11, tt)))
 
+  told-field : (p : ℕ) (z : ℤ) → Told (fieldNumber f p z)
+  unfolding fieldNumber
+  told-field p z = told-cond (ltb (endOf f) (p + 4)) told-20 (told-unless 11 (isAt f p z) told-11)
+
+  told-tally : (p n q greatest : ℕ) → Told (tallied f p n q greatest)
+  unfolding tallied
+  told-tally p n q greatest =
+      told-first (fieldNumber f p (pos n) ∷ fieldNumber f q (before greatest) ∷ []) (told-field p (pos n), (told-field q (before greatest), tt))
+
   told-vars : (k n greatest : ℕ) → Told (varsTally f k n greatest)
   unfolding varsTally
-  told-vars k n greatest =
-      told-unless 11
-      (cond (eqb k 8) (isAt f (gdrAt f + 40) (pos n)) (isAt f (gdrAt f + 24) (pos n) && isAt f (gdrAt f + 32) (before greatest)))
-      told-11
+  told-vars k n greatest = told-cond (eqb k 8) (told-field (gdrAt f + 40) (pos n)) (told-tally (gdrAt f + 24) n (gdrAt f + 32) greatest)
 
   told-chain : (v last : ℕ) (covered : Bool) → Told (chainTally f v last covered)
   unfolding chainTally
   told-chain v last covered =
-      told-first (unless 11 (isAt f (v + 24) (pos last)) ∷ unless 12 (isAt f (v + 16) (negsuc 0) || covered) ∷ [])
-      (told-unless 11 (isAt f (v + 24) (pos last)) told-11, (told-unless 12 (isAt f (v + 16) (negsuc 0) || covered) told-12, tt))
+      told-first (fieldNumber f (v + 24) (pos last) ∷ unless 12 (isAt f (v + 16) (negsuc 0) || covered) ∷ [])
+      (told-field (v + 24) (pos last), (told-unless 12 (isAt f (v + 16) (negsuc 0) || covered) told-12, tt))
 
   told-vxr : (o : ℕ) → Told (vxrRule f o)
   unfolding vxrRule
@@ -191,16 +196,24 @@ module _ (f : List ℕ) where
   unfolding vvrRule
   told-vvr o n bytes = told-judged o 8 (eqb (sizeAt f o) (8 + n * bytes))
 
-  told-values : (v : Variable) (e : E.Entry) → Told (valuesNumber f v e)
-  told-values v e = told-cond (eqb (v .fault) 0) (told-vvr (e .link) (e .last - e .first + 1) (v .bytes)) told-20
+  told-values : (v : Variable) (e : E.Entry) → ToldVar v → Told (valuesNumber f v e)
+  told-values v e h = told-cond (eqb (v .fault) 0) (told-vvr (e .link) (e .last - e .first + 1) (v .bytes)) (h .told)
+
+  told-range : (first last offset floor : ℕ) → Told (rangeNumber f first last offset floor)
+  unfolding rangeNumber
+  told-range first last offset floor =
+      told-cond (rises f first floor)
+      (told-cond (ltb (endOf f) (last + 4)) told-20 (told-cond (inOrder f first last) (told-cond (ltb (endOf f) (offset + 4)) told-20 told-0) told-12))
+      told-12
 
   told-entry : (x i floor : ℕ) → ToldEntry (entryOf f x i floor)
   unfolding entryOf
   told-entry x i floor =
-      cond-keeps ToldEntry (ltb (endOf f) (x + 20)) (record { told = told-20 })
-      (cond-keeps ToldEntry (ltb (endOf f) (offsetPlace x (entriesAt f x) i + 4)) (record { told = told-20 })
-      (cond-keeps ToldEntry (rangeRight f (firstPlace x i) (lastPlace x (entriesAt f x) i) floor)
-      (record { told = told-0 }) (record { told = told-12 })))
+      let first = firstPlace x i in
+      let last = lastPlace x (entriesAt f x) i in
+      let offset = offsetPlace x (entriesAt f x) i in
+      cond-keeps ToldEntry (ltb (endOf f) (first + 4)) (record { told = told-20 })
+      (cond-keeps ToldEntry (eqb (rangeNumber f first last offset floor) 0) (record { told = told-0 }) (record { told = told-range first last offset floor }))
 
   -- ---- attributes and unused records
   told-attr : (n o : ℕ) → Told (attrNumber f n o)
@@ -210,16 +223,16 @@ module _ (f : List ℕ) where
       (told-judged o 116 (adrRight f o), (told-unless 11 (isAt f (o + 20) (pos n)) told-11, tt))
 
   told-aedr : (a o : ℕ) → Told (entryNumber f a o)
-  unfolding entryNumber aedrRule
+  unfolding entryNumber aedrRule numNumber
   told-aedr a o =
-      told-first (aedrRule f o ∷ unless 11 (sameAt f (o + 12) (a + 20)) ∷ [])
-      (told-judged o 48 (aedrRight f o), (told-unless 11 (sameAt f (o + 12) (a + 20)) told-11, tt))
+      told-first (aedrRule f o ∷ numNumber f a o ∷ []) (
+        told-judged o 48 (aedrRight f o),
+        (told-cond (ltb (endOf f) (a + 24)) told-20 (told-unless 11 (sameAt f (o + 12) (a + 20)) told-11), tt),
+      )
 
   told-entries : (k a n greatest : ℕ) → Told (entriesTally f k a n greatest)
   unfolding entriesTally
-  told-entries k a n greatest =
-      let p = a + cond (eqb k 9) 40 24 in
-      told-unless 11 (isAt f p (pos n) && isAt f (p + 4) (before greatest)) told-11
+  told-entries k a n greatest = let p = a + tallyPlace k in told-tally p n (p + 4) greatest
 
   told-unused : (b o : ℕ) → Told (unusedNumber f b o)
   unfolding unusedNumber uirRule
@@ -243,26 +256,25 @@ module _ (f : List ℕ) where
   pub told-turn : (w : W.Walk) → TurnTold (turnOf f w)
   unfolding turnOf followed
   told-turn Start =
-      cond-keeps TurnTold (leb 20 (endOf f)) (take-told told-0 (told-type (gdrAt f) (pos 2)) told-0) (end-told told-20)
+      cond-keeps TurnTold (gdrNamed f) (take-told told-0 (told-type (gdrAt f) (pos 2)) told-0) (end-told told-20)
   told-turn (Vars k p n greatest) =
       link-keeps f TurnTold p (end-told told-20)
-      (cond-keeps TurnTold (gdrThere f) (over-told (told-vars k n greatest)) (end-told told-20))
+      (cond-keeps TurnTold (gdrNamed f) (over-told (told-vars k n greatest)) (end-told told-20))
       (take-told told-0 (told-type (linkAt f p) (pos k)) (told-var k n (linkAt f p)))
   told-turn (Chain u p x floor covered) =
       link-keeps f TurnTold p (end-told told-20)
-      (cond-keeps TurnTold (ltb (endOf f) (u .vdr + 28)) (end-told told-20) (over-told (told-chain (u .vdr) x covered)))
+      (over-told (told-chain (u .vdr) x covered))
       (take-told told-0 (told-type (linkAt f p) (pos 6)) (told-vxr (linkAt f p)))
   told-turn (Entry u x i floor covered) =
       let e = entryOf f x i floor in
-      take-told (told-entry x i floor .told) (told-type (e .link) (pos 7)) (told-values (variableOf f (u .kind) (u .vdr)) e)
+      take-told (told-entry x i floor .told) (told-type (e .link) (pos 7)) (told-values (variableOf f (u .kind) (u .vdr)) e (told-variable (u .kind) (u .vdr)))
   told-turn (Attrs p n) =
       link-keeps f TurnTold p (end-told told-20)
-      (cond-keeps TurnTold (gdrThere f) (over-told (told-unless 11 (isAt f (gdrAt f + 28) (pos n)) told-11)) (end-told told-20))
+      (cond-keeps TurnTold (gdrNamed f) (over-told (told-field (gdrAt f + 28) (pos n))) (end-told told-20))
       (take-told told-0 (told-type (linkAt f p) (pos 4)) (told-attr n (linkAt f p)))
   told-turn (Entries k a n p e greatest) =
-      cond-keeps TurnTold (ltb (endOf f) (a + 48) || ltb 2147483646 e) (end-told told-20)
-      (link-keeps f TurnTold p (end-told told-20) (over-told (told-entries k a e greatest))
-      (take-told told-0 (told-type (linkAt f p) (pos k)) (told-aedr a (linkAt f p))))
+      link-keeps f TurnTold p (end-told told-20) (over-told (told-entries k a e greatest))
+      (take-told told-0 (told-type (linkAt f p) (pos k)) (told-aedr a (linkAt f p)))
   told-turn (Unused p b) =
       link-keeps f TurnTold p (end-told told-20) (end-told told-0)
       (take-told told-0 (told-type (linkAt f p) (negsuc 0)) (told-unused b (linkAt f p)))

@@ -62,7 +62,7 @@ walkRange (Vars k p n g) = (eqb k 3 || eqb k 8) && linkRange p && countRange n &
 walkRange (Chain u p x floor c) = varRange u && linkRange p && offsetRange x && countRange floor
 walkRange (Entry u x i floor c) = varRange u && offsetRange x && offsetRange i && countRange floor
 walkRange (Attrs p n) = linkRange p && countRange n
-walkRange (Entries k a n p e g) = (eqb k 5 || eqb k 9) && offsetRange a && offsetRange n && linkRange p && offsetRange e && countRange g
+walkRange (Entries k a n p e g) = (eqb k 5 || eqb k 9) && offsetRange a && offsetRange n && linkRange p && countRange e && countRange g
 walkRange (Unused p b) = linkRange p && offsetRange b
 
 abbrev pub stageRange : ℕ → Stage → Bool

@@ -30,7 +30,7 @@ fn other_file(f: &[u8], m: &[u8], noted: u32) -> bool
     (n != 0) & ((n != f.len()) | (m.len() < n))
 }
 
-// A fresh state of 12 numbers, and 0; or 20, and nothing changed, where there are not 12.
+// A fresh state of 12 numbers, and -1, as no check has a verdict yet; or 20, and nothing changed, where there are not 12.
 #[no_mangle]
 pub extern "C" fn tlz_check_begin(state: &mut [u32]) -> i32
     ensures { λ r. ⌜ begun r (now (state .exit)) ≡ beginOf (now (state .entry)) ⌝ }
@@ -43,7 +43,7 @@ pub extern "C" fn tlz_check_begin(state: &mut [u32]) -> i32
         stage: Stage::Fresh,
     };
     saved::save_state(state, fresh);
-    0
+    -1
 }
 
 // A grant of steps on a saved state: what it answers, and in steps how many it made.

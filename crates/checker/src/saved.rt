@@ -155,7 +155,7 @@ fn walk_range(w: Walk) -> bool
                 & (adr <= 2147483647)
                 & (place <= 2147483647)
                 & (link <= 2147483711)
-                & (count <= 2147483647)
+                & (count <= 2147483648)
                 & (greatest <= 2147483648)
         }
         Walk::Unused { link, before } => (link <= 2147483711) & (before <= 2147483647),

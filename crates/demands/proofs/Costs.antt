@@ -16,7 +16,7 @@ use Rattle.records.specs.Unused.{uirRule}
 use Rattle.records.specs.declared.index.Entry.{Entry}
 use Rattle.variables.specs.Vdr.{carriedOf, headOf, variableOf}
 use Rattle.walk.specs.Numbers.{unless}
-use Rattle.walk.specs.Walk.{turnOf, typeNumber, takes, followed, gdrThere, varsTally, afterVars, varNumber, intoIndex, varsOver, varTaken, chainOver, chainTally, entered, vxrTaken, covers, valuesNumber, entryTurn, attrNumber, attrsOver, attrTaken, entriesTally, afterEntries, entryNumber, entryTaken, unusedNumber, unusedTaken}
+use Rattle.walk.specs.Walk.{turnOf, typeNumber, takes, followed, gdrNamed, fieldNumber, varsTally, afterVars, varNumber, intoIndex, varsOver, varTaken, chainOver, entered, vxrTaken, covers, valuesNumber, entryTurn, attrNumber, attrsOver, attrTaken, afterEntries, entriesOver, oneMore, numNumber, entryNumber, entryTaken, unusedNumber, unusedTaken}
 use Rattle.walk.specs.declared.places.Var.{Var}
 use Rattle.walk.specs.declared.places.Walk as W
 use Rattle.walk.specs.declared.places.Walk.the-variants.{Start, Vars, Chain, Entry as AtEntry, Attrs, Entries, Unused}
@@ -74,7 +74,7 @@ module _ (f : List ℕ) where
   aedr-heavy : (a o : ℕ) → entryNumber f a o ≡ 0 → 1 ≤ weightOf f o
   unfolding entryNumber aedrRule
   aedr-heavy a o e =
-      omega (arith, aedr-size f o (judged-reads f o 48 (aedrRight f o) (first-two (aedrRule f o) (unless 11 (sameAt f (o + 12) (a + 20))) e .0) .1))
+      omega (arith, aedr-size f o (judged-reads f o 48 (aedrRight f o) (first-two (aedrRule f o) (numNumber f a o) e .0) .1))
 
   uir-heavy : (b o : ℕ) → unusedNumber f b o ≡ 0 → 1 ≤ weightOf f o
   unfolding unusedNumber uirRule
@@ -131,29 +131,26 @@ module _ (f : List ℕ) where
     pays : (w : W.Walk) → Pay (cost f w) (turnOf f w)
     unfolding turnOf
     pays Start =
-        cond-keeps (Pay 1) (leb 20 (endOf f)) {x = takes 0 (gdrAt f) (typeNumber f (gdrAt f) (pos 2)) 0 (Vars 3 (gdrAt f + 8) 0 0)} {y = End 20}
+        cond-keeps (Pay 1) (gdrNamed f) {x = takes 0 (gdrAt f) (typeNumber f (gdrAt f) (pos 2)) 0 (Vars 3 (gdrAt f + 8) 0 0)} {y = End 20}
         (pay-takes 1 0 (gdrAt f) (typeNumber f (gdrAt f) (pos 2)) 0 (Vars 3 (gdrAt f + 8) 0 0) (λ z. omega arith)) tt
     pays (Vars k p n g) =
         pay-followed (ofTwo 8 k) p (varsOver f k n g) (varTaken f k n g)
-        (cond-keeps (Pay (ofTwo 8 k)) (gdrThere f) {x = Over (varsTally f k n g) (afterVars f k)} {y = End 20} (after-vars k) tt)
+        (cond-keeps (Pay (ofTwo 8 k)) (gdrNamed f) {x = Over (varsTally f k n g) (afterVars f k)} {y = End 20} (after-vars k) tt)
         (λ o. pay-takes (ofTwo 8 k) 0 o (typeNumber f o (pos k)) (varNumber f k n o) (intoIndex f k n g o) (λ z. omega (arith, vdr-heavy k n o z)))
     pays (Chain u p x l c) =
         pay-followed (suc (ofTwo 8 (u .kind))) p (chainOver f u x c) (vxrTaken f u l c)
-        (cond-keeps (Pay (suc (ofTwo 8 (u .kind)))) (ltb (endOf f) (u .vdr + 28)) {x = End 20}
-        {y = Over (chainTally f (u .vdr) x c) (Vars (u .kind) (u .vdr + 8) (u .place + 1) (u .greatest))} tt (omega arith))
+        (omega arith)
         (λ o. pay-takes (suc (ofTwo 8 (u .kind))) 0 o (typeNumber f o (pos 6)) (vxrRule f o) (entered f u o 0 l c)
         (λ z. omega (arith, vxr-heavy o z, entered-cost u o 0 l c)))
     pays (AtEntry u x i l c) = pay-entry u x i c (entryOf f x i l)
     pays (Attrs p n) =
         pay-followed 2 p (attrsOver f n) (attrTaken f n)
-        (cond-keeps (Pay 2) (gdrThere f) {x = Over (unless 11 (isAt f (gdrAt f + 28) (pos n))) (Unused (gdrAt f + 44) 0)} {y = End 20} (omega arith) tt)
+        (cond-keeps (Pay 2) (gdrNamed f) {x = Over (fieldNumber f (gdrAt f + 28) (pos n)) (Unused (gdrAt f + 44) 0)} {y = End 20} (omega arith) tt)
         (λ o. pay-takes 2 0 o (typeNumber f o (pos 4)) (attrNumber f n o) (Entries 5 o n (o + 12) 0 0) (λ z. omega (arith, adr-heavy n o z)))
     pays (Entries k a n p e g) =
-        cond-keeps (Pay (ofTwo 9 k)) (ltb (endOf f) (a + 48) || ltb 2147483646 e) {x = End 20}
-        {y = followed f p (Over (entriesTally f k a e g) (afterEntries k a n)) (entryTaken f k a n e g)} tt
-        (pay-followed (ofTwo 9 k) p (Over (entriesTally f k a e g) (afterEntries k a n)) (entryTaken f k a n e g) (after-entries k a n)
+        pay-followed (ofTwo 9 k) p (entriesOver f k a n e g) (entryTaken f k a n e g) (after-entries k a n)
         (λ o. pay-takes (ofTwo 9 k) 0 o (typeNumber f o (pos k)) (entryNumber f a o)
-        (Entries k a n (o + 8) (e + 1) (max (afterAt f (o + 20)) g)) (λ z. omega (arith, aedr-heavy a o z))))
+        (Entries k a n (o + 8) (oneMore e) (max (afterAt f (o + 20)) g)) (λ z. omega (arith, aedr-heavy a o z)))
     pays (Unused p b) =
         pay-followed 1 p (End 0) (unusedTaken f b) tt
         (λ o. pay-takes 1 0 o (typeNumber f o (negsuc 0)) (unusedNumber f b o) (Unused (o + 8) o) (λ z. omega (arith, uir-heavy b o z)))

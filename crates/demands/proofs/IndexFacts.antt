@@ -13,15 +13,15 @@ use Rattle.format.specs.Fields.{endOf, fieldAt, eqZ, isAt, atLeast, atMost, inO
 use Rattle.format.specs.Bytes.{bigAt}
 use Rattle.records.specs.Rules.{sizeAt}
 use Rattle.records.specs.Attributes.{elementSize}
-use Rattle.records.specs.Index.{usedAt, vxrRight, vxrRule, rangeRight, vvrRule}
+use Rattle.records.specs.Index.{usedAt, vxrRight, vxrRule, vvrRule}
 use Rattle.variables.specs.Vdr.{vdrFields, layoutOf, recordBytes, variableOf}
 use Rattle.walk.specs.Numbers.{first, unless}
-use Rattle.walk.specs.Walk.{chainTally, covers, valuesNumber}
+use Rattle.walk.specs.Walk.{fieldNumber, chainTally, covers, valuesNumber}
 use Rattle.demands.specs.Acceptance.{_∈_, Each, Consecutive, lastOr0, Slot, slotsFrom, slotsOf, usedEntries, firstAt, lastAt, firstOf, lastOf, namedBy, namedByAll, indexOffsets, EntryRight, IndexRight}
 use Rattle.walk.proofs.Closed.{unless-zero}
 use Rattle.checker.proofs.Passed.{both}
 use Rattle.demands.proofs.Laws.{first-two}
-use Rattle.demands.proofs.Records.{Stands, stands-reach, stands-begins, stands-nonzero, judged-reads, judged-makes, type-reads, type-makes, vxr-size, VdrParts, vdr-bytes}
+use Rattle.demands.proofs.Records.{Stands, stands-reach, stands-begins, stands-nonzero, judged-reads, judged-makes, type-reads, type-makes, field-reads, field-makes, vxr-size, VdrParts, vdr-bytes}
 use Rattle.demands.proofs.Turns.{Listed}
 use Rattle.demands.proofs.Nested.{headOr0, entryIs, SlotGood, RowGood, floorAfter, coveredAfter, chainFloor, chainCovered, chainRules}
 use Rattle.demands.proofs.Splits.{Along, split-in, in-left, in-right, in-either, along-each, each-along, each-in, listed-reads, listed-makes, is-moved, last-back, offset-in}
@@ -141,19 +141,6 @@ module _ (f : List ℕ) (k v : ℕ) where
   row-each (t ∷ ss) l a s (inr m) = row-each ss (lastOf f t + 1) (a .1) s m
 
   -- ---- one entry
-  pub range-parts : (s : Slot) (floor : ℕ) → rangeRight f (firstAt s) (lastAt f s) floor ≡ true
-      → (atLeast f (firstAt s) (pos 0) ≡ true) × (floor ≤ firstOf f s) × (inOrder f (firstAt s) (lastAt f s) ≡ true)
-  unfolding rangeRight
-  range-parts s floor e =
-      let a = both (atLeast f (firstAt s) (pos 0) && leb floor (firstOf f s)) (inOrder f (firstAt s) (lastAt f s)) e in
-      let b = both (atLeast f (firstAt s) (pos 0)) (leb floor (firstOf f s)) (a .0) in
-      (b .0, leb-true floor (firstOf f s) (b .1), a .1)
-
-  range-is : (s : Slot) (floor : ℕ) → atLeast f (firstAt s) (pos 0) ≡ true → floor ≤ firstOf f s → inOrder f (firstAt s) (lastAt f s) ≡ true
-      → rangeRight f (firstAt s) (lastAt f s) floor ≡ true
-  unfolding rangeRight
-  range-is s floor a b c = rw (a, le-leb floor (firstOf f s) b, c)
-
   -- the size that the rule of values asks for
   abbrev valueSize : Slot → ℕ
   valueSize s = 8 + (lastOf f s - firstOf f s + 1) * recordBytes f v (layoutOf f k v)
@@ -166,11 +153,11 @@ module _ (f : List ℕ) (k v : ℕ) where
     slot-reads : (s : Slot) (floor : ℕ) → SlotGood f k v floor s → EntryRight f k v s
     unfolding vvrRule
     slot-reads s floor g =
-        let r = range-parts s floor (g .range) in
+        let r = g .range in
         let w = judged-reads f (namedBy f s) 8 (eqb (sizeAt f (namedBy f s)) (valueSize s)) (sym (values-are s) ∙ g .values) in
         record {
-          first = r .0;
-          last = r .2;
+          first = r .least;
+          last = r .order;
           typed = type-reads f (namedBy f s) (pos 7) (g .typed) .1;
           size = eqb-true (sizeAt f (namedBy f s)) (valueSize s) (w .1);
         }
@@ -185,9 +172,7 @@ module _ (f : List ℕ) (k v : ℕ) where
         let b = z .1 in
         let c = x .inside in
         record {
-          head = omega arith;
-          lies = omega arith;
-          range = range-is s floor (e .first) h (e .last);
+          range = record { least = e .first; above = h; last-lies = omega arith; order = e .last; offset-lies = omega arith };
           typed = type-makes f (namedBy f s) (pos 7) (stands-begins f (namedBy f s) n) (e .typed);
           values = values-are s
               ∙ judged-makes f (namedBy f s) 8 (eqb (sizeAt f (namedBy f s)) (valueSize s)) (stands-reach f (namedBy f s) 8 n (n .wide))
@@ -198,7 +183,7 @@ module _ (f : List ℕ) (k v : ℕ) where
     row-rises : (ss : List Slot) → RowGood f k v 0 ss → Consecutive ss (λ a b. lastOf f a < firstOf f b)
     row-rises ss g earlier later a b e =
         let r = row-split earlier (a ∷ b ∷ later) 0 (subst (RowGood f k v 0) e g) .1 in
-        omega (arith, range-parts b (lastOf f a + 1) (r .1 .0 .range) .1)
+        omega (arith, r .1 .0 .range .above)
 
     rise-row : (ss : List Slot) (l : ℕ) → ((s : Slot) (later : List Slot) → ss ≡ s ∷ later → l ≤ firstOf f s)
         → ((s : Slot) → s ∈ ss → (floor : ℕ) → floor ≤ firstOf f s → SlotGood f k v floor s) → Consecutive ss (λ a b. lastOf f a < firstOf f b)
@@ -227,8 +212,8 @@ module _ (f : List ℕ) (k v : ℕ) where
     unfolding chainTally Covered
     end-reads xs e =
         let c = chainCovered f v (reverseAux xs []) in
-        let p = first-two (unless 11 (isAt f (v + 24) (pos (headOr0 (reverseAux xs []))))) (unless 12 (isAt f (v + 16) (negsuc 0) || c)) e in (
-          is-moved f (v + 24) (last-back xs) (unless-zero 10 (isAt f (v + 24) (pos (headOr0 (reverseAux xs [])))) (p .0)),
+        let p = first-two (fieldNumber f (v + 24) (pos (headOr0 (reverseAux xs [])))) (unless 12 (isAt f (v + 16) (negsuc 0) || c)) e in (
+          is-moved f (v + 24) (last-back xs) (field-reads f (v + 24) (pos (headOr0 (reverseAux xs []))) (p .0) .1),
           go (isAt f (v + 16) (negsuc 0)) refl (unless-zero 11 (isAt f (v + 16) (negsuc 0) || c) (p .1)),
         )
       where
@@ -243,10 +228,10 @@ module _ (f : List ℕ) (k v : ℕ) where
     or-left : (a b : Bool) → a ≡ true → (a || b) ≡ true
     or-left a b e = rw e
 
-    end-makes : (xs : List ℕ) → isAt f (v + 24) (pos (lastOr0 xs)) ≡ true → Covered xs
+    end-makes : (xs : List ℕ) → v + 28 ≤ endOf f → isAt f (v + 24) (pos (lastOr0 xs)) ≡ true → Covered xs
         → chainTally f v (headOr0 (reverseAux xs [])) (chainCovered f v (reverseAux xs [])) ≡ 0
     unfolding chainTally Covered
-    end-makes xs t h = rw (last-back xs, t, go h)
+    end-makes xs l t h = rw (last-back xs, field-makes f (v + 24) (pos (lastOr0 xs)) (omega arith) t, go h)
       where
         least : atLeast f (v + 16) (negsuc 0) ≡ true
         least = max-rec-least f v (vdr .fields)
@@ -280,7 +265,7 @@ module _ (f : List ℕ) (k v : ℕ) where
         let a = listed-reads f (chainRules f k v) (v + 20) xs l in
         let e = a .each in
         let g = along-rows xs [] (each-along rowOf xs (λ earlier later x q. e earlier later x q .1)) in
-        let t = end-reads xs (a .tally .1) in
+        let t = end-reads xs (a .tally) in
         record {
           linked = a .linked;
           typed = λ earlier later x q. type-reads f x (pos 6) (e earlier later x q .0 .0) .1;
@@ -305,7 +290,7 @@ module _ (f : List ℕ) (k v : ℕ) where
           rows earlier later x q,
           let i = s .inside in omega arith,
         ))
-        (h, end-makes xs (r .tail) (r .covered))
+        (end-makes xs h (r .tail) (r .covered))
       where
         stands : (x : ℕ) → x ∈ xs → Stands f x
         stands x m = ok x (offset-in (λ x. x) (λ x. namedByAll f (slotsOf f x)) xs x m)

@@ -4,7 +4,7 @@ use mathlib.Core.Logic.{_↔_, _≢_, _⊎_, inl, inr}
 use mathlib.Core.Option.{Option, none, some}
 use mathlib.Core.Bool.{Bool, true, false, cond, _||_}
 use mathlib.Core.List.{List, [], _∷_, _++_}
-use Prim.Native.Nat.{ℕ, zero, suc, _+_, _≤_, max}
+use Prim.Native.Nat.{ℕ, zero, suc, _+_, _≤_, min, max}
 use native.Mathlib.Nat.{le-refl}
 use native.Mathlib.Numerals.{add-one}
 use native.Mathlib.Omega.{arith}
@@ -14,18 +14,18 @@ use lib.ListN.{length}
 use borrow.Author.Tests.{ltb-false, leb-true, eqb-true, eqb-false, lt-ltb, le-ltb, le-leb, ne-eqb}
 use Rattle.format.specs.Fields.{endOf, linkAt, isAt, afterAt}
 use Rattle.records.specs.Opening.{gdrAt}
-use Rattle.records.specs.Index.{usedAt, entriesAt, offsetPlace, vxrRule, rangeRight, entryFault, entryAmong, entryOf}
+use Rattle.records.specs.Index.{usedAt, vxrRule, entryOf}
+use Rattle.records.proofs.Ranges.{EntryParts, entry-is, entry-reads}
 use Rattle.records.specs.declared.index.Entry.{Entry}
 use Rattle.variables.specs.Vdr.{variableOf}
 use Rattle.walk.specs.Numbers.{unless}
-use Rattle.walk.specs.Walk.{turnOf, typeNumber, takes, followed, overBy, gdrThere, varsTally, afterVars, varNumber, intoIndex, chainOver, chainTally, entered, covers, valuesNumber, entryTurn, attrNumber, entriesTally, afterEntries, entryNumber, entryTaken, unusedNumber}
+use Rattle.walk.specs.Walk.{turnOf, typeNumber, takes, followed, overBy, gdrNamed, fieldNumber, varsTally, afterVars, varNumber, intoIndex, chainOver, chainTally, entered, covers, valuesNumber, entryTurn, attrNumber, entriesTally, afterEntries, entriesOver, oneMore, entryNumber, unusedNumber}
 use Rattle.walk.specs.declared.places.Var.{Var}
 use Rattle.walk.specs.declared.places.Walk as W
 use Rattle.walk.specs.declared.places.Walk.the-variants.{Start, Vars, Chain, Attrs, Entries, Unused}
 use Rattle.walk.specs.declared.places.Turn as T
 use Rattle.walk.specs.declared.places.Turn.the-variants.{Over, End}
 use Rattle.demands.specs.Acceptance.{Slot, slotsFrom, slotsOf, firstAt, lastAt, firstOf, lastOf, namedBy, namedByAll, ListedVdr, ListedAdr, offsets, indexOffsets, variableOffsets, attributeOffsets}
-use Rattle.demands.proofs.Laws.{neither}
 use Rattle.demands.proofs.Turns.{EndsAt, EndsBy, Ends, Read, Leads, Rules, Listed, LinkEnds, list-leads, none-leads, then-leads, take-leads, claims-as, cons-split}
 
 -- ---- what stands before a record in its list is given nearest first
@@ -43,9 +43,7 @@ abbrev pub entryIs : List ℕ → Slot → Entry
 entryIs f s = record { fault = 0; first = firstOf f s; last = lastOf f s; link = namedBy f s }
 
 pub record SlotGood (f : List ℕ) (k v floor : ℕ) (s : Slot) : Type 0 where
-  pub head : s .vxr + 20 ≤ endOf f
-  pub lies : offsetPlace (s .vxr) (entriesAt f (s .vxr)) (s .entry) + 4 ≤ endOf f
-  pub range : rangeRight f (firstAt s) (lastAt f s) floor ≡ true
+  pub range : EntryParts f (s .vxr) (s .entry) floor
   pub typed : typeNumber f (namedBy f s) (pos 7) ≡ 0
   pub values : valuesNumber f (variableOf f k v) (entryIs f s) ≡ 0
 
@@ -78,7 +76,7 @@ chainRules f k v = record {
   here = λ bs p. p + 4 ≤ endOf f;
   good = λ bs x. (typeNumber f x (pos 6) ≡ 0) × (vxrRule f x ≡ 0);
   below = λ bs x. RowGood f k v (chainFloor f bs) (slotsOf f x);
-  tally = λ bs. (v + 28 ≤ endOf f) × (chainTally f v (headOr0 bs) (chainCovered f v bs) ≡ 0);
+  tally = λ bs. chainTally f v (headOr0 bs) (chainCovered f v bs) ≡ 0;
 }
 
 abbrev pub varsRules : List ℕ → ℕ → Rules ListedVdr
@@ -87,16 +85,20 @@ varsRules f k = record {
   here = λ bs p. p + 4 ≤ endOf f;
   good = λ bs o. (typeNumber f o (pos k) ≡ 0) × (varNumber f k (length bs) o ≡ 0);
   below = λ bs v. Listed f (chainRules f k (v .vdr)) [] (v .vdr + 20) (v .vxrs);
-  tally = λ bs. (gdrThere f ≡ true) × (varsTally f k (length bs) (greatestBy f (λ v. v .vdr + 16) bs) ≡ 0);
+  tally = λ bs. (gdrNamed f ≡ true) × (varsTally f k (length bs) (greatestBy f (λ v. v .vdr + 16) bs) ≡ 0);
 }
+
+-- how far the entries of a list are counted
+abbrev pub held : ℕ → ℕ
+held n = min n 2147483648
 
 abbrev pub entriesRules : List ℕ → ℕ → ℕ → Rules ℕ
 entriesRules f k a = record {
   at = λ e. e;
-  here = λ bs p. (a + 48 ≤ endOf f) × (length bs ≤ 2147483646) × (p + 4 ≤ endOf f);
+  here = λ bs p. p + 4 ≤ endOf f;
   good = λ bs e. (typeNumber f e (pos k) ≡ 0) × (entryNumber f a e ≡ 0);
   below = λ bs e. Unit {0};
-  tally = λ bs. entriesTally f k a (length bs) (greatestBy f (λ e. e + 20) bs) ≡ 0;
+  tally = λ bs. entriesTally f k a (held (length bs)) (greatestBy f (λ e. e + 20) bs) ≡ 0;
 }
 
 abbrev pub attrsRules : List ℕ → Rules ListedAdr
@@ -105,7 +107,7 @@ attrsRules f = record {
   here = λ bs p. p + 4 ≤ endOf f;
   good = λ bs o. (typeNumber f o (pos 4) ≡ 0) × (attrNumber f (length bs) o ≡ 0);
   below = λ bs a. Listed f (entriesRules f 5 (a .adr)) [] (a .adr + 12) (a .grEntries) × Listed f (entriesRules f 9 (a .adr)) [] (a .adr + 36) (a .zEntries);
-  tally = λ bs. (gdrThere f ≡ true) × (unless 11 (isAt f (gdrAt f + 28) (pos (length bs))) ≡ 0);
+  tally = λ bs. (gdrNamed f ≡ true) × (fieldNumber f (gdrAt f + 28) (pos (length bs)) ≡ 0);
 }
 
 abbrev pub unusedRules : List ℕ → Rules ℕ
@@ -126,7 +128,7 @@ claimsOf f y = gdrAt f ∷ (variableOffsets f (y .0) ++ (variableOffsets f (y .1
 
 abbrev pub NestedObeys : List ℕ → Layout → Type 0
 NestedObeys f y =
-    ((20 ≤ endOf f) × (typeNumber f (gdrAt f) (pos 2) ≡ 0))
+    ((gdrNamed f ≡ true) × (typeNumber f (gdrAt f) (pos 2) ≡ 0))
     × (Listed f (varsRules f 3) [] (gdrAt f + 8) (y .0)
     × (Listed f (varsRules f 8) [] (gdrAt f + 12) (y .1 .0)
     × (Listed f (attrsRules f) [] (gdrAt f + 16) (y .1 .1 .0) × Listed f (unusedRules f) [] (gdrAt f + 44) (y .1 .1 .1))))
@@ -188,38 +190,13 @@ module _ (f : List ℕ) (E : W.Walk → List ℕ → Type 0) where
       link-turns here = (followed-reads (here .1), followed-makes (here .0))
 
   -- a list of the GDR is over
-  over-turns : (number : ℕ) (next : W.Walk) (cs : List ℕ) → EndsBy E (overBy f number next) cs ↔ (((gdrThere f ≡ true) × (number ≡ 0)) × E next cs)
+  over-turns : (number : ℕ) (next : W.Walk) (cs : List ℕ) → EndsBy E (overBy f number next) cs ↔ (((gdrNamed f ≡ true) × (number ≡ 0)) × E next cs)
   over-turns number next cs = (
-    λ e. let t = allowed-reads (gdrThere f) (Over number next) cs e in ((t .0, t .1 .0), t .1 .1),
+    λ e. let t = allowed-reads (gdrNamed f) (Over number next) cs e in ((t .0, t .1 .0), t .1 .1),
     λ t. rw (t .0 .0) (t .0 .1, t .1),
   )
 
 -- ---- an entry
-module _ (f : List ℕ) (s : Slot) (floor : ℕ) where
-  pub entry-is : s .vxr + 20 ≤ endOf f → offsetPlace (s .vxr) (entriesAt f (s .vxr)) (s .entry) + 4 ≤ endOf f
-      → rangeRight f (firstAt s) (lastAt f s) floor ≡ true
-      → entryOf f (s .vxr) (s .entry) floor ≡ entryIs f s
-  unfolding entryOf
-  entry-is a b c = rw (le-ltb (endOf f) (s .vxr + 20) a, le-ltb (endOf f) (offsetPlace (s .vxr) (entriesAt f (s .vxr)) (s .entry) + 4) b, c)
-
-  pub entry-reads : entryOf f (s .vxr) (s .entry) floor .fault ≡ 0
-      → (s .vxr + 20 ≤ endOf f) × (offsetPlace (s .vxr) (entriesAt f (s .vxr)) (s .entry) + 4 ≤ endOf f) × (rangeRight f (firstAt s) (lastAt f s) floor ≡ true)
-  unfolding entryOf
-  entry-reads e =
-      let n = entriesAt f (s .vxr) in
-      let ranged = cond (rangeRight f (firstAt s) (lastAt f s) floor) (entryIs f s) (entryFault 12) in
-      let a = barred (ltb (endOf f) (s .vxr + 20)) (entryAmong f (s .vxr) n (s .entry) floor) e in
-      let b = barred (ltb (endOf f) (offsetPlace (s .vxr) n (s .entry) + 4)) ranged (a .1) in
-      (ltb-false (endOf f) (s .vxr + 20) (a .0), ltb-false (endOf f) (offsetPlace (s .vxr) n (s .entry) + 4) (b .0), allowed (rangeRight f (firstAt s) (lastAt f s) floor) (entryIs f s) (b .1))
-    where
-      barred : (b : Bool) (x : Entry) → cond b (entryFault 20) x .fault ≡ 0 → (b ≡ false) × (x .fault ≡ 0)
-      barred true x e = absurd (omega arith)
-      barred false x e = (refl, e)
-
-      allowed : (b : Bool) (x : Entry) → cond b x (entryFault 12) .fault ≡ 0 → b ≡ true
-      allowed true x e = refl
-      allowed false x e = absurd (omega arith)
-
 module _ (f : List ℕ) (E : W.Walk → List ℕ → Type 0) (u : Var) (x i floor : ℕ) (c : Bool) where
   abbrev here : Slot
   here = record { vxr = x; entry = i }
@@ -230,15 +207,15 @@ module _ (f : List ℕ) (E : W.Walk → List ℕ → Type 0) (u : Var) (x i floo
   row-reads-one : (cs : List ℕ) → EndsBy E (entryTurn f u x i c (entryOf f x i floor)) cs
       → SlotGood f (u .kind) (u .vdr) floor here × (ds : List ℕ) × (cs ≡ namedBy f here ∷ ds) × E ahead ds
   row-reads-one cs e =
-      let p = entry-reads f here floor (e .0) in
-      let r : EndsBy E (entryTurn f u x i c (entryIs f here)) cs = rw (entry-is f here floor (p .0) (p .1) (p .2)) at e in
+      let p = entry-reads f x i floor (e .0) in
+      let r : EndsBy E (entryTurn f u x i c (entryIs f here)) cs = rw (entry-is f x i floor p) at e in
       let t = takes-reads f E 0 (namedBy f here) (typeNumber f (namedBy f here) (pos 7)) (valuesNumber f (variableOf f (u .kind) (u .vdr)) (entryIs f here)) ahead cs r in
-      (record { head = p .0; lies = p .1; range = p .2; typed = t .1; values = t .2 }, t .3, t .4, t .5)
+      (record { range = p; typed = t .1; values = t .2 }, t .3, t .4, t .5)
 
   row-makes-one : (cs ds : List ℕ) → SlotGood f (u .kind) (u .vdr) floor here → cs ≡ namedBy f here ∷ ds → E ahead ds
       → EndsBy E (entryTurn f u x i c (entryOf f x i floor)) cs
   row-makes-one cs ds g ec h =
-      rw (entry-is f here floor (g .head) (g .lies) (g .range))
+      rw (entry-is f x i floor (g .range))
       (takes-makes f E 0 (namedBy f here) (typeNumber f (namedBy f here) (pos 7)) (valuesNumber f (variableOf f (u .kind) (u .vdr)) (entryIs f here)) ahead cs ds refl (g .typed) (g .values) ec h)
 
 -- ---- the walk reads off just that
@@ -306,19 +283,11 @@ module _ (f : List ℕ) where
   unfolding turnOf
   chain-turns u k bs p cs =
       link-turns f (Step k) (chainRules f (u .kind) (u .vdr)) bs p (chainOver f u (headOr0 bs) (chainCovered f (u .vdr) bs)) (λ o. typeNumber f o (pos 6)) (vxrRule f)
-      (λ o. entered f u o 0 (chainFloor f bs) (chainCovered f (u .vdr) bs)) (some ahead) cs (λ o. same ((typeNumber f o (pos 6) ≡ 0) × (vxrRule f o ≡ 0))) (
-        λ e. let t =
-            barred-reads f (Step k) (ltb (endOf f) (u .vdr + 28)) (Over number ahead) cs e in
-            ((ltb-false (endOf f) (u .vdr + 28) (t .0), t .1 .0), t .1 .1),
-        λ t. rw (le-ltb (endOf f) (u .vdr + 28) (t .0 .0)) (t .0 .1, t .1),
-      )
-      (same (p + 4 ≤ endOf f))
+      (λ o. entered f u o 0 (chainFloor f bs) (chainCovered f (u .vdr) bs)) (some ahead) cs (λ o. same ((typeNumber f o (pos 6) ≡ 0) × (vxrRule f o ≡ 0)))
+      (same ((chainTally f (u .vdr) (headOr0 bs) (chainCovered f (u .vdr) bs) ≡ 0) × Step k ahead cs)) (same (p + 4 ≤ endOf f))
     where
       ahead : W.Walk
       ahead = Vars (u .kind) (u .vdr + 8) (u .place + 1) (u .greatest)
-
-      number : ℕ
-      number = chainTally f (u .vdr) (headOr0 bs) (chainCovered f (u .vdr) bs)
 
   chain-lead : (u : Var) (p : ℕ)
       → Leads turn (Chain u p 0 0 false) (Listed f (chainRules f (u .kind) (u .vdr)) [] p) (indexOffsets f) (λ xs. some (Vars (u .kind) (u .vdr + 8) (u .place + 1) (u .greatest)))
@@ -368,45 +337,30 @@ module _ (f : List ℕ) where
   nextEntry kind a n bs e o = Entries kind a n (o + 8) e (max (afterAt f (o + 20)) (numbers bs))
 
   entries-turns : (kind a n k : ℕ) (bs : List ℕ) (p : ℕ) (cs : List ℕ)
-      → EndsBy (Step k) (turn (Entries kind a n p (length bs) (numbers bs))) cs
-      ↔ LinkEnds f (entriesRules f kind a) (Step k) bs p (some (afterEntries kind a n)) (nextEntry kind a n bs (length bs + 1)) cs
+      → EndsBy (Step k) (turn (Entries kind a n p (held (length bs)) (numbers bs))) cs
+      ↔ LinkEnds f (entriesRules f kind a) (Step k) bs p (some (afterEntries kind a n)) (nextEntry kind a n bs (oneMore (held (length bs)))) cs
   unfolding turnOf
-  entries-turns kind a n k bs p cs = (
-    λ e.
-        let t = barred-reads f (Step k) (ltb (endOf f) (a + 48) || ltb 2147483646 (length bs)) turned cs e in
-        let z = neither (ltb (endOf f) (a + 48)) (ltb 2147483646 (length bs)) (t .0) in
-        let h = ltb-false (endOf f) (a + 48) (z .0) in
-        let l = ltb-false 2147483646 (length bs) (z .1) in
-        linked (λ i. (h, l, i)) .0 (t .1),
-    λ e. rw (le-ltb (endOf f) (a + 48) (e .0 .0), le-ltb 2147483646 (length bs) (e .0 .1)) (linked (λ i. (e .0 .0, e .0 .1, i)) .1 e),
-  )
-    where
-      number : ℕ
-      number = entriesTally f kind a (length bs) (numbers bs)
+  entries-turns kind a n k bs p cs =
+      link-turns f (Step k) (entriesRules f kind a) bs p (entriesOver f kind a n (held (length bs)) (numbers bs)) (λ o. typeNumber f o (pos kind)) (entryNumber f a)
+      (nextEntry kind a n bs (oneMore (held (length bs)))) (some (afterEntries kind a n)) cs (λ o. same ((typeNumber f o (pos kind) ≡ 0) × (entryNumber f a o ≡ 0)))
+      (same ((entriesTally f kind a (held (length bs)) (numbers bs) ≡ 0) × Step k (afterEntries kind a n) cs)) (same (p + 4 ≤ endOf f))
 
-      turned : T.Turn
-      turned =
-          followed f p (Over number (afterEntries kind a n)) (entryTaken f kind a n (length bs) (numbers bs))
-
-      linked : (p + 4 ≤ endOf f → (a + 48 ≤ endOf f) × (length bs ≤ 2147483646) × (p + 4 ≤ endOf f)) → EndsBy (Step k) turned cs
-          ↔ LinkEnds f (entriesRules f kind a) (Step k) bs p (some (afterEntries kind a n)) (nextEntry kind a n bs (length bs + 1)) cs
-      linked h =
-          link-turns f (Step k) (entriesRules f kind a) bs p (Over number (afterEntries kind a n)) (λ o. typeNumber f o (pos kind)) (entryNumber f a)
-          (nextEntry kind a n bs (length bs + 1)) (some (afterEntries kind a n)) cs (λ o. same ((typeNumber f o (pos kind) ≡ 0) × (entryNumber f a o ≡ 0)))
-          (same ((number ≡ 0) × Step k (afterEntries kind a n) cs)) (λ i. i .2, h)
+  held-more : (n : ℕ) → oneMore (held n) ≡ held (suc n)
+  unfolding oneMore
+  held-more n = omega arith
 
   entries-lead : (kind a n p : ℕ)
       → Leads turn (Entries kind a n p 0 0) (Listed f (entriesRules f kind a) [] p) (λ es. es) (λ es. some (afterEntries kind a n))
   entries-lead kind a n p =
       claims-as turn (λ es. es) plain-offsets
       (list-leads turn {B = Unit {0}} f (entriesRules f kind a) (λ o t. o) (λ x. tt) (λ x. []) (λ o b. refl) (λ x. refl)
-      (λ bs p. Entries kind a n p (length bs) (numbers bs)) (λ bs o. nextEntry kind a n bs (length bs + 1) o) (λ bs. some (afterEntries kind a n)) (entries-turns kind a n) body [] p)
+      (λ bs p. Entries kind a n p (held (length bs)) (numbers bs)) (λ bs o. nextEntry kind a n bs (oneMore (held (length bs))) o) (λ bs. some (afterEntries kind a n)) (entries-turns kind a n) body [] p)
     where
       body : (bs : List ℕ) (o : ℕ)
-          → Leads turn {B = Unit {0}} (nextEntry kind a n bs (length bs + 1) o) (λ t. Unit {0}) (λ t. []) (λ t. some (nextEntry kind a n bs (suc (length bs)) o))
+          → Leads turn {B = Unit {0}} (nextEntry kind a n bs (oneMore (held (length bs))) o) (λ t. Unit {0}) (λ t. []) (λ t. some (nextEntry kind a n bs (held (suc (length bs))) o))
       body bs o =
-          subst (λ (j : ℕ). Leads turn {B = Unit {0}} (nextEntry kind a n bs (length bs + 1) o) (λ t. Unit {0}) (λ t. []) (λ t. some (nextEntry kind a n bs j o)))
-          (add-one (length bs)) (none-leads turn (nextEntry kind a n bs (length bs + 1) o))
+          subst (λ (j : ℕ). Leads turn {B = Unit {0}} (nextEntry kind a n bs (oneMore (held (length bs))) o) (λ t. Unit {0}) (λ t. []) (λ t. some (nextEntry kind a n bs j o)))
+          (held-more (length bs)) (none-leads turn (nextEntry kind a n bs (oneMore (held (length bs))) o))
 
   -- the ADRs
   attrs-turns : (k : ℕ) (bs : List ListedAdr) (p : ℕ) (cs : List ℕ)
@@ -414,9 +368,9 @@ module _ (f : List ℕ) where
       ↔ LinkEnds f (attrsRules f) (Step k) bs p (some (Unused (gdrAt f + 44) 0)) (λ o. Entries 5 o (length bs) (o + 12) 0 0) cs
   unfolding turnOf
   attrs-turns k bs p cs =
-      link-turns f (Step k) (attrsRules f) bs p (overBy f (unless 11 (isAt f (gdrAt f + 28) (pos (length bs)))) (Unused (gdrAt f + 44) 0)) (λ o. typeNumber f o (pos 4)) (attrNumber f (length bs))
+      link-turns f (Step k) (attrsRules f) bs p (overBy f (fieldNumber f (gdrAt f + 28) (pos (length bs))) (Unused (gdrAt f + 44) 0)) (λ o. typeNumber f o (pos 4)) (attrNumber f (length bs))
       (λ o. Entries 5 o (length bs) (o + 12) 0 0) (some (Unused (gdrAt f + 44) 0)) cs (λ o. same ((typeNumber f o (pos 4) ≡ 0) × (attrNumber f (length bs) o ≡ 0)))
-      (over-turns f (Step k) (unless 11 (isAt f (gdrAt f + 28) (pos (length bs)))) (Unused (gdrAt f + 44) 0) cs) (same (p + 4 ≤ endOf f))
+      (over-turns f (Step k) (fieldNumber f (gdrAt f + 28) (pos (length bs))) (Unused (gdrAt f + 44) 0) cs) (same (p + 4 ≤ endOf f))
 
   attrs-lead : (p : ℕ) → Leads turn (Attrs p 0) (Listed f (attrsRules f) [] p) attributeOffsets (λ xs. some (Unused (gdrAt f + 44) 0))
   attrs-lead p =
@@ -449,20 +403,20 @@ module _ (f : List ℕ) where
       (λ bs p. Unused p (headOr0 bs)) (λ bs o. Unused (o + 8) o) (λ bs. none) unused-turns (λ bs o. none-leads turn (Unused (o + 8) o)) [] p)
 
   start-turns : (k : ℕ) (cs : List ℕ) → EndsBy (Step k) (turn Start) cs
-      ↔ (((20 ≤ endOf f) × (typeNumber f (gdrAt f) (pos 2) ≡ 0)) × (ds : List ℕ) × (cs ≡ gdrAt f ∷ ds) × Step k (Vars 3 (gdrAt f + 8) 0 0) ds)
+      ↔ (((gdrNamed f ≡ true) × (typeNumber f (gdrAt f) (pos 2) ≡ 0)) × (ds : List ℕ) × (cs ≡ gdrAt f ∷ ds) × Step k (Vars 3 (gdrAt f + 8) 0 0) ds)
   unfolding turnOf
   start-turns k cs = (
     λ e.
-        let t = allowed-reads f (Step k) (leb 20 (endOf f)) (takes 0 (gdrAt f) (typeNumber f (gdrAt f) (pos 2)) 0 (Vars 3 (gdrAt f + 8) 0 0)) cs e in
+        let t = allowed-reads f (Step k) (gdrNamed f) (takes 0 (gdrAt f) (typeNumber f (gdrAt f) (pos 2)) 0 (Vars 3 (gdrAt f + 8) 0 0)) cs e in
         let r = takes-reads f (Step k) 0 (gdrAt f) (typeNumber f (gdrAt f) (pos 2)) 0 (Vars 3 (gdrAt f + 8) 0 0) cs (t .1) in
-        ((leb-true 20 (endOf f) (t .0), r .1), r .3, r .4, r .5),
-    λ t. rw (le-leb 20 (endOf f) (t .0 .0)) (takes-makes f (Step k) 0 (gdrAt f) (typeNumber f (gdrAt f) (pos 2)) 0 (Vars 3 (gdrAt f + 8) 0 0) cs (t .1) refl (t .0 .1) refl (t .2) (t .3)),
+        ((t .0, r .1), r .3, r .4, r .5),
+    λ t. rw (t .0 .0) (takes-makes f (Step k) 0 (gdrAt f) (typeNumber f (gdrAt f) (pos 2)) 0 (Vars 3 (gdrAt f + 8) 0 0) cs (t .1) refl (t .0 .1) refl (t .2) (t .3)),
   )
 
   -- THE WALK reads off the nested rules
   pub walk-lead : Leads turn Start (NestedObeys f) (claimsOf f) (λ y. none)
   walk-lead =
-      take-leads turn Start (Vars 3 (gdrAt f + 8) 0 0) (gdrAt f) ((20 ≤ endOf f) × (typeNumber f (gdrAt f) (pos 2) ≡ 0)) start-turns
+      take-leads turn Start (Vars 3 (gdrAt f + 8) 0 0) (gdrAt f) ((gdrNamed f ≡ true) × (typeNumber f (gdrAt f) (pos 2) ≡ 0)) start-turns
       (then-leads turn (λ y. Vars 8 (gdrAt f + 12) 0 0) (vars-lead 3 (gdrAt f + 8))
       (λ y. then-leads turn (λ y. Attrs (gdrAt f + 16) 0) (vars-lead 8 (gdrAt f + 12))
       (λ y. then-leads turn (λ y. Unused (gdrAt f + 44) 0) (attrs-lead (gdrAt f + 16)) (λ y. unused-lead (gdrAt f + 44)))))

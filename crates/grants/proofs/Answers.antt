@@ -1,7 +1,8 @@
--- No grant that works or repeats a verdict answers 21. Assumes nothing.
-use mathlib.Core.Path.{_≡_, refl, ap}
-use mathlib.Core.Bool.{false}
+-- What a state that was loaded answers. Assumes nothing.
+use mathlib.Core.Path.{_≡_, refl, sym, ap}
+use mathlib.Core.Bool.{Bool, true, false, _||_, true≢false}
 use Prim.Native.Nat.{ℕ}
+use lib.Dec.{leb, eqb}
 use lib.IntN.{pos}
 use borrow.Author.Tests.{ne-eqb}
 use Rattle.checker.specs.declared.state.Stage.{Stage}
@@ -9,11 +10,26 @@ use Rattle.checker.specs.declared.state.Stage.the-variants.{Fresh, Sweep, Walki
 use Rattle.checker.specs.Step.{answerOf}
 use Rattle.checker.proofs.Loads.{not-21}
 use Rattle.grants.specs.Lists.{refused21}
+use Rattle.grants.specs.Promises.{comesBack}
 use Rattle.checker.specs.Ready.{Loaded}
 
+-- a grant that works or repeats a verdict does not answer 21
 pub not-refused : (n : ℕ) (g : Stage) → Loaded n g → refused21 (answerOf g) ≡ false
 not-refused n Fresh h = refl
 not-refused n (Sweep o) h = refl
 not-refused n (Walking w) h = refl
 not-refused n (Done v) h = ne-eqb v 21 (λ e. not-21 n (Done v) h (ap pos e))
 not-refused n Strange h = refl
+
+-- its answer is a number that comes back
+pub answer-comes : (n : ℕ) (g : Stage) → Loaded n g → comesBack (answerOf g) ≡ true
+answer-comes n Fresh h = refl
+answer-comes n (Sweep o) h = refl
+answer-comes n (Walking w) h = refl
+answer-comes n (Done v) h = go (leb v 14) (eqb v 20) (h .1 .in-range)
+  where
+    go : (a b : Bool) → (a || b) ≡ true → (a || (b || eqb v 21)) ≡ true
+    go true b e = refl
+    go false true e = refl
+    go false false e = absurd (true≢false (sym e))
+answer-comes n Strange h = refl

@@ -27,7 +27,8 @@ use Rattle.checker.proofs.Runs.{run-keeps, made-le}
 use Rattle.checker.proofs.Loads.{load-is, load-save, length-save, not-21, accepted-is}
 use Rattle.checker.proofs.Sound.{SoundBy, Sound, Own, sound-step, sound-run, sound-loaded, loaded-sound}
 use Rattle.checker.proofs.Cases.{Case, idles, refuses, works, case-of, right-length, wrong-length, idle}
-use Rattle.grants.specs.Promises.{EveryGrant}
+use Rattle.grants.specs.Promises.{comesBack, EveryGrant}
+use Rattle.grants.proofs.Answers.{answer-comes}
 
 -- ---- marks outside the records of the file are kept
 module _ (f m : List ℕ) (i : ℕ) (out : (i < 8) ⊎ (length f ≤ i)) where
@@ -89,19 +90,20 @@ module _ (f m : List ℕ) (i : ℕ) (out : (i < 8) ⊎ (length f ≤ i)) where
 module _ (f m l : List ℕ) (n : ℕ) where
   record Fine (r : Granted) : Type 0 where
     few : r .steps ≤ n
+    number : comesBack (r .answer) ≡ true
     accepted : r .answer ≡ pos 0 → (length (r .state) ≡ stateLength) × (load (r .state) ≡ done 0)
     away : r .answer ≡ pos 21 → r ≡ granted (pos 21) 0 l m
     count : length (r .marks) ≡ length m
     mark : (i : ℕ) → (i < 8) ⊎ (length f ≤ i) → getD (r .marks) i 0 ≡ getD m i 0
 
   -- a grant that changes nothing
-  fine-still : (a : ℤ) → (a ≡ pos 0 → (length l ≡ stateLength) × (load l ≡ done 0)) → Fine (granted a 0 l m)
-  fine-still a h = record { few = omega arith; accepted = h; away = λ e. ap (λ (a : ℤ). granted a 0 l m) e; count = refl; mark = λ i o. refl }
+  fine-still : (a : ℤ) → comesBack a ≡ true → (a ≡ pos 0 → (length l ≡ stateLength) × (load l ≡ done 0)) → Fine (granted a 0 l m)
+  fine-still a t h = record { few = omega arith; number = t; accepted = h; away = λ e. ap (λ (a : ℤ). granted a 0 l m) e; count = refl; mark = λ i o. refl }
 
   fine-case : length l ≡ stateLength → Case f m l n (load l) → Fine (grantBy f m l n (load l))
   fine-case e (idles g w) =
-      rw g (fine-still (answerOf (load l .stage)) (λ a. (e, accepted-is (load l) (load-is l) a)))
-  fine-case e (refuses g o w) = rw g (fine-still (pos 21) (λ a. let z : _≡_ {A = ℕ} 21 0 = cc in absurd (omega arith)))
+      rw g (fine-still (answerOf (load l .stage)) (answer-comes (load l .length) (load l .stage) (load-is l)) (λ a. (e, accepted-is (load l) (load-is l) a)))
+  fine-case e (refuses g o w) = rw g (fine-still (pos 21) refl (λ a. let z : _≡_ {A = ℕ} 21 0 = cc in absurd (omega arith)))
   fine-case e (works g o z w) =
       let s = load l in
       let r = runOf f (conf s m) n in
@@ -109,6 +111,7 @@ module _ (f m l : List ℕ) (n : ℕ) where
       let d = sound-loaded (Own f) f (r .at) (sound-run (Own f) f (conf s m) h n) in
       rw g (record {
         few = made-le f (conf s m) n;
+        number = answer-comes (r .at .state .length) (r .at .state .stage) d;
         accepted = λ a. (
           length-save (r .at .state),
           ap (λ (s : State). load (save s)) (accepted-is (r .at .state) d a) ∙ load-save (done 0) (refl, told-0),
@@ -125,19 +128,25 @@ module _ (f m l : List ℕ) (n : ℕ) where
       go true h = let e = eqb-true (length l) stateLength h in rw (right-length f m l n e) (fine-case e (case-of f m l n (load l)))
       go false h =
           rw (wrong-length f m l n (eqb-false (length l) stateLength h))
-          (fine-still (pos 20) (λ a. let z : _≡_ {A = ℕ} 20 0 = cc in absurd (omega arith)))
+          (fine-still (pos 20) refl (λ a. let z : _≡_ {A = ℕ} 20 0 = cc in absurd (omega arith)))
 
 pub every-grant : EveryGrant
 every-grant f m l n =
     let g = fine-grant f m l n in
     record {
       at-most = g .few;
-      accepted = g .accepted;
+      number = g .number;
       other-length = wrong-length f m l n;
       of-none = λ e z. right-length f m l n e ∙ idle f m l n (load l) (inr z);
       repeats = λ e o. right-length f m l n e ∙ idle f m l n (load l) (inl o);
       turned-away = g .away;
       marks-count = g .count;
-      marks-low = λ i h. g .mark i (inl h);
-      marks-beyond = λ i h. g .mark i (inr h);
+      marks-low = λ i h. g .mark i (inl (omega arith));
+      marks-beyond = λ i h. g .mark i (inr (omega arith));
     }
+
+-- whatever state is lent, a grant that answers 0 leaves one finished as accepted
+pub accepted-is-finished : (f m l : List ℕ) (n : ℕ)
+    → grantOf f m l n .answer ≡ pos 0
+    → (length (grantOf f m l n .state) ≡ stateLength) × (load (grantOf f m l n .state) ≡ done 0)
+accepted-is-finished f m l n = fine-grant f m l n .accepted

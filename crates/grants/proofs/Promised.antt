@@ -18,6 +18,7 @@ use Rattle.checker.proofs.Loads.{load-save, length-save, not-21, done-0}
 use Rattle.grants.proofs.Answers.{not-refused}
 use Rattle.checker.proofs.Cases.{Case, idles, refuses, works, case-of, right-length}
 use Rattle.checker.proofs.Sound.{Sound, Own, sound-run, sound-loaded, sound-fresh, loaded-sound, sound-works}
+use Rattle.grants.proofs.Any.{accepted-is-finished}
 use Rattle.grants.specs.Lists.{Grant, Played, begun, lentFile, lentMarks, keptMarks, nextOf, joined, playFrom, play, FairNext, FairFrom, Fair}
 use Rattle.grants.specs.Promises.{stepLimit, InTime, runLength, Promise, Demand3}
 use Rattle.checker.specs.Ready.{Loaded}
@@ -231,4 +232,4 @@ every-list f m in-time gs fair =
 
 -- once the plain run ends in time over every file and marks
 pub demand-3 : ((f m : List ℕ) → InTime f m) → Demand3
-demand-3 in-time f m gs fair = every-list f m (in-time f m) gs fair
+demand-3 in-time = record { lists = λ f m gs fair. every-list f m (in-time f m) gs fair; accepted = accepted-is-finished }

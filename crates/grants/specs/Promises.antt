@@ -1,12 +1,13 @@
 -- What grants promise: a list of them from fresh, and each by itself on any state. Assumes nothing.
 use mathlib.Core.Path.{_≡_}
 use mathlib.Core.Logic.{_↔_, _≢_}
-use mathlib.Core.Bool.{true}
+use mathlib.Core.Bool.{Bool, true, _||_}
 use mathlib.Core.Option.{some}
 use mathlib.Core.List.{List, _∷_, _++_}
 use Prim.Native.Nat.{ℕ, _+_, _/_, _≤_, _<_, min}
 use lib.ListN.{length, getD}
-use lib.IntN.{pos}
+use lib.Dec.{leb, eqb}
+use lib.IntN.{ℤ, pos, negsuc}
 use Rattle.checker.specs.declared.state.Stage.{Stage}
 use Rattle.checker.specs.declared.state.Stage.the-variants.{Done, Strange}
 use Rattle.checker.specs.Step.{done, fresh, finished, answerOf, stepBy, plainRun}
@@ -25,7 +26,7 @@ InTime f m = finished (plainRun f m (stepLimit f) .at .state .stage) ≡ true
 abbrev pub runLength : List ℕ → List ℕ → ℕ
 runLength f m = plainRun f m (stepLimit f) .made
 
--- DEMAND 3, of a list of grants from fresh over the list's file f and marks m
+-- what is promised of a list of grants from fresh over the list's file f and marks m
 pub record Promise (f m : List ℕ) (gs : List Grant) : Type 0 where
   -- "A grant makes as many steps as it has or as remain, and reports that number": the reported steps add up to the smaller of what
   -- the grants not refused with 21 hold and the plain run's length
@@ -54,8 +55,15 @@ pub record Promise (f m : List ℕ) (gs : List Grant) : Type 0 where
       → g .other ≡ some lent
       → nextOf f (play f m before) g .marks ≡ lent .1
 
-abbrev pub Demand3 : Type 0
-Demand3 = (f m : List ℕ) (gs : List Grant) → Fair f m gs → Promise f m gs
+-- DEMAND 3
+pub record Demand3 : Type 0 where
+  -- "Whatever the list of grants, steps, verdict, marks and state are those of the plain run"
+  pub lists : (f m : List ℕ) (gs : List Grant) → Fair f m gs → Promise f m gs
+  -- "nothing unfinished ever reads as accepted": whatever state is lent, made up or not, a grant that answers 0 leaves one finished as
+  -- accepted
+  pub accepted : (f m l : List ℕ) (n : ℕ)
+      → grantOf f m l n .answer ≡ pos 0
+      → (length (grantOf f m l n .state) ≡ stateLength) × (load (grantOf f m l n .state) ≡ done 0)
 
 -- "a saved number outside the range docs/ gives it (no fresh check leaves one)": the saved numbers of every state that a fresh check
 -- comes to are read again as that state
@@ -64,13 +72,17 @@ FreshInRange =
     (f m : List ℕ) (k : ℕ)
     → (load (save (plainRun f m k .at .state)) ≡ plainRun f m k .at .state) × (plainRun f m k .at .state .stage ≢ Strange)
 
+-- "Numbers that come back" of a check: -1, 0 to 14, 20, 21
+abbrev pub comesBack : ℤ → Bool
+comesBack (pos v) = leb v 14 || (eqb v 20 || eqb v 21)
+comesBack (negsuc n) = eqb n 0
+
 -- A GRANT on any state whatever, made up or not
 pub record AnyState (f m l : List ℕ) (n : ℕ) : Type 0 where
   -- "A grant makes as many steps as it has or as remain"
   pub at-most : grantOf f m l n .steps ≤ n
-  -- "accepted", 0: the state that is left is finished as accepted
-  pub accepted : grantOf f m l n .answer ≡ pos 0
-      → (length (grantOf f m l n .state) ≡ stateLength) × (load (grantOf f m l n .state) ≡ done 0)
+  -- "A refusal is one number of document 01's table"
+  pub number : comesBack (grantOf f m l n .answer) ≡ true
   -- "one of another length than docs/ gives is 20 in 0 steps, and neither it nor the marks change"
   pub other-length : length l ≢ stateLength → grantOf f m l n ≡ granted (pos 20) 0 l m
   -- "a grant of 0 does nothing, and 21 is not looked for"

@@ -19,7 +19,7 @@ use Rattle.answers.specs.Answers.{numberOf, encodingAt, elementThere, inValues,
 use Rattle.answers.specs.declared.Read.{Read}
 use Rattle.answers.specs.declared.Read.the-variants.{Value, Refused}
 use Rattle.demands.specs.Acceptance.{_∈_, Slot, usedEntries}
-use Rattle.promised_reads.specs.Reading.{CoveredBy, questionRight, ValueShown, CoversOnce, CoveredOnce, RecordsThere, vaxFloat, SameAnswers}
+use Rattle.promised_reads.specs.Reading.{CoveredBy, questionRight, ValueShown, CoversOnce, CoveredOnce, RecordsThere, vaxFloat}
 use Rattle.demands.proofs.NestedDemand.{NestedAccepted}
 use Rattle.demands.proofs.IndexFacts.{index-reads}
 use Rattle.ways.proofs.Kept.{both}
@@ -180,7 +180,3 @@ module _ (f : List ℕ) (n : NestedAccepted f) (k j : ℤ) (v left : ℕ) (way :
 -- THE THEOREM
 pub covered-once-only : CoveredOnce
 covered-once-only f p k j v left way = covers-once f (nested f p) k j v left way
-
--- ---- same question, same answer
-pub same-answers : SameAnswers
-same-answers f g e k n r is x = ap (λ (f : List ℕ). valueRead f k n r is x) e

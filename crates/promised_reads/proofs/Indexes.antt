@@ -14,7 +14,7 @@ use borrow.Author.Tests.{leb-true, le-leb, ne-eqb, eq-eqb}
 use Rattle.records.specs.Rules.{typedAt}
 use Rattle.records.specs.Index.{usedAt, vxrRule, vvrRule}
 use Rattle.records.specs.declared.index.Entry.{Entry}
-use Rattle.records.proofs.Ranges.{range-order}
+use Rattle.records.proofs.Ranges.{order-natural, entry-is}
 use Rattle.variables.specs.Vdr.{variableOf}
 use Rattle.ways.specs.Indexes.{scanned, indexMet, afterScan, lastIndex, indexed, valuesMet, valuesOf, looked, recordThere, recordRead, lookedUp, recordWay}
 use Rattle.ways.specs.declared.indexes.Looked.the-variants.{At, Missing}
@@ -27,12 +27,11 @@ use Rattle.ways.specs.declared.indexes.Values.the-variants.{Record, Refused}
 use Rattle.demands.specs.Acceptance.{_∈_, Slot, slotsFrom, slotsOf, usedEntries, firstAt, lastAt, firstOf, lastOf, namedBy, namedByAll, indexOffsets}
 use Rattle.promised_reads.specs.Reading.{CoveredBy}
 use Rattle.ways.proofs.Kept.{both, Lies, lies-lands}
-use Rattle.demands.proofs.Laws.{cond-left}
-use Rattle.demands.proofs.Records.{Stands, stands-begins, type-reads}
+use Rattle.demands.proofs.Records.{Stands, stands-begins, type-reads, values-read}
 use Rattle.demands.proofs.Turns.{Listed}
-use Rattle.demands.proofs.Nested.{entryIs, RowGood, floorAfter, chainFloor, chainRules, entry-is}
+use Rattle.demands.proofs.Nested.{entryIs, RowGood, floorAfter, chainFloor, chainRules}
 use Rattle.demands.proofs.Splits.{in-left, in-right, in-either, each-along, listed-reads, offset-in}
-use Rattle.demands.proofs.IndexFacts.{range-parts, along-rows, row-each, used-named}
+use Rattle.demands.proofs.IndexFacts.{along-rows, row-each, used-named}
 
 pub stands-lies : (f : List ℕ) (t o : ℕ) → Stands f o → typedAt f o (pos t) ≡ true → Lies f t o
 stands-lies f t o s e = record { placed = s .placed; begins = stands-begins f o s; typed = e; inside = s .inside }
@@ -79,7 +78,7 @@ module _ (f : List ℕ) (r : ℕ) where
     unfolding scanned
     scan-row x zero i floor g = (refl, λ s m c. absurd m)
     scan-row x (suc n) i floor g =
-        rw (entry-is f here floor (g .0 .head) (g .0 .lies) (g .0 .range))
+        rw (entry-is f x i floor (g .0 .range))
         (go (leb (firstOf f here) r && leb r (lastOf f here)) refl (scanned f x r n (suc i) (suc (lastOf f here)))
         (subst (λ (j : ℕ). ScanOn (slotsFrom x (i + 1) n) (lastOf f here + 1) (scanned f x r n j (suc (lastOf f here)))) (add-one i)
         (subst (λ (l : ℕ). ScanOn (slotsFrom x (i + 1) n) (lastOf f here + 1) (scanned f x r n (i + 1) l)) (add-one (lastOf f here))
@@ -141,9 +140,9 @@ module _ (f : List ℕ) (r : ℕ) where
     -- ---- ranges rise, so no two entries cover r
     row-above : (ss : List Slot) (floor : ℕ) → RowGood f k v floor ss → (s : Slot) → s ∈ ss → floor ≤ firstOf f s
     row-above [] floor g s m = absurd m
-    row-above (t ∷ ss) floor g s (inl e) = rw e (range-parts f k v t floor (g .0 .range) .1)
+    row-above (t ∷ ss) floor g s (inl e) = rw e (g .0 .range .above)
     row-above (t ∷ ss) floor g s (inr m) =
-        omega (arith, row-above ss (lastOf f t + 1) (g .1) s m, range-parts f k v t floor (g .0 .range) .1, range-order f (firstAt t) (lastAt f t) floor (g .0 .range))
+        omega (arith, row-above ss (lastOf f t + 1) (g .1) s m, g .0 .range .above, order-natural f (firstAt t) (lastAt f t) (g .0 .range .order))
 
     pub covered-once : (ss : List Slot) (floor : ℕ) → RowGood f k v floor ss → (s t : Slot) → s ∈ ss → t ∈ ss → CoveredBy f r s → CoveredBy f r t → s ≡ t
     covered-once [] floor g s t m n c d = absurd m
@@ -195,11 +194,11 @@ module _ (f : List ℕ) (k v : ℕ) (xs : List ℕ) (listed : Listed f (chainRul
     unfolding valuesMet
     values-met s rest m h =
         let g = row-each f k v (usedEntries f xs) 0 rows s m .1 in
-        let rule = cond-left (eqb (variableOf f k v .fault) 0) 19 (vvrRule f (namedBy f s) (lastOf f s - firstOf f s + 1) (variableOf f k v .bytes)) (g .values) in
+        let rule = values-read f k v (entryIs f s) (g .values) in
         rw (
           le-leb 1 rest h,
           lies-lands f 7 (namedBy f s) (stands-lies f 7 (namedBy f s) (stands (namedBy f s) (used-named f xs s m)) (type-reads f (namedBy f s) (pos 7) (g .typed) .1)),
-          eq-eqb (vvrRule f (namedBy f s) (lastOf f s - firstOf f s + 1) (variableOf f k v .bytes)) 0 (rule .1),
+          eq-eqb (vvrRule f (namedBy f s) (lastOf f s - firstOf f s + 1) (variableOf f k v .bytes)) 0 rule,
         )
 
     pub record-on : (left : ℕ) → length (indexOffsets f xs) ≤ left → RecordOn (recordWay f v (variableOf f k v .bytes) r left)

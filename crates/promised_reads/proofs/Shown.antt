@@ -41,7 +41,8 @@ use Rattle.variables.proofs.Right.{right, fields-right, variable-is, place-is}
 use Rattle.demands.proofs.Opened.{opening-reads}
 use Rattle.demands.proofs.Records.{judged-reads}
 use Rattle.demands.proofs.VariableFacts.{z-layout, r-layout, exact-size}
-use Rattle.demands.proofs.Nested.{entryIs, entry-is, entry-reads}
+use Rattle.records.proofs.Ranges.{entry-is, entry-reads}
+use Rattle.demands.proofs.Nested.{entryIs}
 use Rattle.ways.proofs.Kept.{both, Lies, lands-lies, meets-parts, variable-kept, entry-kept}
 use Rattle.ways.proofs.Sought.{nth, first-met, listed-met, Finds, ToVariable, variable-found, ToEntry, entry-found}
 use Rattle.ways.proofs.Chains.{ToRecord, Leads, record-found}
@@ -84,8 +85,8 @@ module _ (f : List ℕ) where
       let c = t .chained in
       let s : Slot = record { vxr = c .vxr; entry = c .used .entry } in
       let right : entryOf f (s .vxr) (s .entry) (c .used .floor) .fault ≡ 0 = ap (λ (e : Entry). e .fault) (c .used .is) ∙ c .used .right in
-      let parts = entry-reads f s (c .used .floor) right in
-      let e : t .entry ≡ entryIs f s = sym (c .used .is) ∙ entry-is f s (c .used .floor) (parts .0) (parts .1) (parts .2) in
+      let parts = entry-reads f (s .vxr) (s .entry) (c .used .floor) right in
+      let e : t .entry ≡ entryIs f s = sym (c .used .is) ∙ entry-is f (s .vxr) (s .entry) (c .used .floor) parts in
       let covers = subst (λ (e : Entry). entryCovers e (recordRead f v r) ≡ true) e (c .used .covers) in
       let range = both (leb (firstOf f s) (recordRead f v r)) (leb (recordRead f v r) (lastOf f s)) covers in
       let lands = subst (λ (e : Entry). landsOn f 7 (e .link) ≡ true) e (t .lands) in

@@ -7,11 +7,11 @@ use Prim.Native.Nat.{ℕ, _+_, _≤_}
 use native.Mathlib.Omega.{arith}
 use lib.IntN.{pos}
 use lib.ListN.{length, length-append}
-use Rattle.format.specs.Fields.{isAt, sameAt}
+use Rattle.format.specs.Fields.{isAt}
 use Rattle.records.specs.Attributes.{adrRule, aedrRule}
 use Rattle.variables.specs.Vdr.{carriedOf, variableOf}
 use Rattle.walk.specs.Numbers.{unless}
-use Rattle.walk.specs.Walk.{typeNumber, varNumber, attrNumber, entryNumber}
+use Rattle.walk.specs.Walk.{typeNumber, varNumber, attrNumber, numNumber, entryNumber}
 use Rattle.ways.specs.Lists.{meets, sought}
 use Rattle.ways.specs.declared.lists.Wanted.{Wanted}
 use Rattle.ways.specs.declared.lists.Way.{Way}
@@ -58,7 +58,7 @@ module _ (f : List ℕ) where
   entry-meets : (b : Bool) (a o : ℕ) → Stands f o → typeNumber f o (pos (cond b 5 9)) ≡ 0 → entryNumber f a o ≡ 0 → meets f (cond b 5 9) o ≡ true
   unfolding entryNumber
   entry-meets b a o s t e =
-      let p = first-two (aedrRule f o) (unless 11 (sameAt f (o + 12) (a + 20))) e in
+      let p = first-two (aedrRule f o) (numNumber f a o) e in
       parts-meet f (cond b 5 9) o (stands-lies f (cond b 5 9) o s (type-reads f o (pos (cond b 5 9)) t .1)) (kept-entry f o b (p .0))
 
   -- what holds of each record of a list, whatever stands before it

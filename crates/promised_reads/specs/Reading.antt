@@ -326,7 +326,3 @@ pub record ReadsRight (f : List ℕ) : Type 0 where
 
 abbrev pub Demand2Values : Type 0
 Demand2Values = (f : List ℕ) → PlainAccepts f → ReadsRight f
-
--- ---- SAME QUESTION, SAME ANSWER: an answer depends on the file's bytes and the question alone
-abbrev pub SameAnswers : Type 0
-SameAnswers = (f g : List ℕ) → f ≡ g → (k n r : ℤ) (is : List ℤ) (x : ℤ) → valueRead f k n r is x ≡ valueRead g k n r is x

@@ -33,23 +33,42 @@ lastPlace x n i = firstPlace x i + 4 * n
 abbrev pub offsetPlace : ℕ → ℕ → ℕ → ℕ
 offsetPlace x n i = lastPlace x n i + 4 * n
 
--- 12 unless "First at least 0, above the previous Last in the whole chain, Last at least First"; floor is the previous Last + 1, or 0
-unfoldable pub rangeRight : List ℕ → ℕ → ℕ → ℕ → Bool
-rangeRight f first last floor = atLeast f first (pos 0) && leb floor (natAt f first) && inOrder f first last
+-- "First at least 0, above the previous Last in the whole chain"; floor is the previous Last + 1, or 0
+unfoldable pub rises : List ℕ → ℕ → ℕ → Bool
+rises f first floor = atLeast f first (pos 0) && leb floor (natAt f first)
+
+-- the range and the Offset of an entry whose First stands in the file: 12 unless it rises; 20 if Last passes the file's end; 12 unless
+-- "Last at least First"; 20 if Offset passes the file's end
+unfoldable pub rangeNumber : List ℕ → ℕ → ℕ → ℕ → ℕ → ℕ
+rangeNumber f first last offset floor =
+    cond (rises f first floor)
+    (cond (ltb (endOf f) (last + 4)) 20 (cond (inOrder f first last) (cond (ltb (endOf f) (offset + 4)) 20 0) 12))
+    12
 
 abbrev pub entryFault : ℕ → Entry
 entryFault v = record { fault = v; first = 0; last = 0; link = 0 }
 
--- entry i of the n of the VXR at x: its range and what it names; or 20 if its fields pass the file's end, or 12
+-- its range and what it names, or that number
+abbrev pub entryBy : List ℕ → ℕ → ℕ → ℕ → ℕ → Entry
+entryBy f first last offset number =
+    cond (eqb number 0) (record { fault = 0; first = natAt f first; last = natAt f last; link = linkAt f offset }) (entryFault number)
+
+-- entry i of the n of the VXR at x: first 20 if its First passes the file's end
 abbrev pub entryAmong : List ℕ → ℕ → ℕ → ℕ → ℕ → Entry
 entryAmong f x n i floor =
-    cond (ltb (endOf f) (offsetPlace x n i + 4)) (entryFault 20)
-    (cond (rangeRight f (firstPlace x i) (lastPlace x n i) floor)
-    (record { fault = 0; first = natAt f (firstPlace x i); last = natAt f (lastPlace x n i); link = linkAt f (offsetPlace x n i) })
-    (entryFault 12))
+    let first = firstPlace x i in
+    let last = lastPlace x n i in
+    let offset = offsetPlace x n i in
+    cond (ltb (endOf f) (first + 4)) (entryFault 20) (entryBy f first last offset (rangeNumber f first last offset floor))
 
 unfoldable pub entryOf : List ℕ → ℕ → ℕ → ℕ → Entry
-entryOf f x i floor = cond (ltb (endOf f) (x + 20)) (entryFault 20) (entryAmong f x (entriesAt f x) i floor)
+entryOf f x i floor = entryAmong f x (entriesAt f x) i floor
+
+-- the bounds of a range that is right
+pub record Ranged (f : List ℕ) (first last offset : ℕ) : Type 0 where
+  pub order : natAt f first ≤ natAt f last
+  pub last-lies : last + 4 ≤ length f
+  pub offset-lies : offset + 4 ≤ length f
 
 -- the bounds of an entry that was looked at
 pub record Bounds (f : List ℕ) (x : ℕ) (e : Entry) : Type 0 where

@@ -3,7 +3,7 @@ use crate::runs;
 use crate::runs::Run;
 
 // A number that came back, or none for -1.
-pub fn verdict(v: i32) {
+pub(crate) fn verdict(v: i32) {
     if v < 0 {
         io::write_all(1, b"none");
     } else {
@@ -87,7 +87,7 @@ fn checked(file: &[u8], records: usize) {
 }
 
 // The line of the file that is the first bytes of f.
-pub fn shown(name: &[u8], f: &[u8], length: u32, records: usize) {
+pub(crate) fn shown(name: &[u8], f: &[u8], length: u32, records: usize) {
     let n = length as usize;
     io::write_all(1, name);
     if f.len() < n {

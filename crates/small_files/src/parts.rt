@@ -2,7 +2,7 @@
 use crate::store;
 
 // Magics and the CDR at 8, of an encoding and flags.
-pub fn start(f: &mut [u8], encoding: u32, flags: u32) {
+pub(crate) fn start(f: &mut [u8], encoding: u32, flags: u32) {
     let magics = [0xcdf2_6002, 0x0000_ffff];
     store::put_all(f, 0, &magics);
     let cdr = [304, 1, 312, 2, 0, encoding, flags];
@@ -10,7 +10,7 @@ pub fn start(f: &mut [u8], encoding: u32, flags: u32) {
 }
 
 // The GDR at 312; eof is the length.
-pub fn gdr(f: &mut [u8], length: u32, z_head: u32, z_vars: u32, unused: u32) {
+pub(crate) fn gdr(f: &mut [u8], length: u32, z_head: u32, z_vars: u32, unused: u32) {
     let gdr = [
         60,
         2,
@@ -29,13 +29,13 @@ pub fn gdr(f: &mut [u8], length: u32, z_head: u32, z_vars: u32, unused: u32) {
 }
 
 // The base file: encoding 6, flags 3.
-pub fn opening(f: &mut [u8], length: u32, z_head: u32, z_vars: u32, unused: u32) {
+pub(crate) fn opening(f: &mut [u8], length: u32, z_head: u32, z_vars: u32, unused: u32) {
     start(f, 6, 3);
     gdr(f, length, z_head, z_vars, unused);
 }
 
 // A zVDR at 372 of type 2 and MaxRec 2, its VXR at 504 of one used entry 0..2, its VVR at 536 of a size.
-pub fn variable(f: &mut [u8], vvr: u32) {
+pub(crate) fn variable(f: &mut [u8], vvr: u32) {
     let vdr = [132, 8, 0, 2, 2, 504, 504, 1, 0, 0, 0, 0, 1];
     store::put_all(f, 372, &vdr);
     let vxr = [32, 6, 0, 1, 1, 0, 2, 536];
@@ -46,7 +46,7 @@ pub fn variable(f: &mut [u8], vvr: u32) {
 
 // A zVDR at 372 of type 1 with two dimensions and one record, its VXR at 520, its VVR at 552 of a size; the value at each place
 // is that place.
-pub fn plane(f: &mut [u8], sizes: &[u32], variances: &[u32], vvr: u32) {
+pub(crate) fn plane(f: &mut [u8], sizes: &[u32], variances: &[u32], vvr: u32) {
     let vdr = [148, 8, 0, 1, 0, 520, 520, 1, 0, 0, 0, 0, 1];
     store::put_all(f, 372, &vdr);
     let count = [2];

@@ -12,7 +12,7 @@ fn signed(bits: u64) {
 }
 
 // The line of the first element of a value of the first zVariable.
-pub fn shown(name: &[u8], file: &[u8], rec: i64, indices: &[i64]) {
+pub(crate) fn shown(name: &[u8], file: &[u8], rec: i64, indices: &[i64]) {
     let mut kind: u64 = 9;
     let mut bits: u64 = 0;
     let mut offset: u64 = 0;

@@ -2,13 +2,13 @@
 use checker::grants;
 
 // What a check came to: -1 or its verdict, and the steps it made.
-pub struct Run {
-    pub verdict: i32,
-    pub steps: u64,
+pub(crate) struct Run {
+    pub(crate) verdict: i32,
+    pub(crate) steps: u64,
 }
 
 // One grant of 1000 steps.
-pub fn in_one(file: &[u8], marks: &mut [u8]) -> Run {
+pub(crate) fn in_one(file: &[u8], marks: &mut [u8]) -> Run {
     let mut state = [0u32; 12];
     grants::tlz_check_begin(&mut state);
     let mut steps: u64 = 0;
@@ -44,7 +44,7 @@ fn each(file: &[u8], marks: &mut [u8], state: &mut [u32]) -> Run {
     }
 }
 
-pub fn in_many(file: &[u8], marks: &mut [u8]) -> Run {
+pub(crate) fn in_many(file: &[u8], marks: &mut [u8]) -> Run {
     let mut state = [0u32; 12];
     grants::tlz_check_begin(&mut state);
     each(file, marks, &mut state)

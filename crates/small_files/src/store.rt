@@ -1,7 +1,7 @@
 // Files made field by field.
 
 // Stores control fields one after the other.
-pub fn put_all(f: &mut [u8], at: usize, fields: &[u32]) {
+pub(crate) fn put_all(f: &mut [u8], at: usize, fields: &[u32]) {
     let mut to = at;
     let mut i = 0;
     while i < fields.len() {
@@ -15,7 +15,7 @@ pub fn put_all(f: &mut [u8], at: usize, fields: &[u32]) {
 }
 
 // Stores a byte, where there is one.
-pub fn put_byte(f: &mut [u8], at: usize, x: u8) {
+pub(crate) fn put_byte(f: &mut [u8], at: usize, x: u8) {
     if at < f.len() {
         f[at] = x;
     }

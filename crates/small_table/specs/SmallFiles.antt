@@ -14,7 +14,7 @@ use Rattle.records.specs.Rules.{reachOf, judged}
 use Rattle.records.specs.Opening.{tooLong, magicsRight, whollyCompressed, cdrRight, singleFile, gdrAt, gdrFields, gdrRight, opening}
 use Rattle.records.specs.Tiles.{typeKnown, tileFields, tileRight, typeUncarried, tile}
 use Rattle.records.specs.Attributes.{adrRight, adrRule, elementSize, aedrRight, aedrRule}
-use Rattle.records.specs.Index.{vxrRight, vxrRule, rangeRight, entryOf, vvrRule}
+use Rattle.records.specs.Index.{vxrRight, vxrRule, rises, rangeNumber, entryOf, vvrRule}
 use Rattle.records.specs.Unused.{uirRule}
 use Rattle.variables.specs.Limit.{capped}
 use Rattle.variables.specs.Vdr.{carriedOf, vdrFields, countPlace, countRight, layoutAt, layoutOf, valueBytes, padBytes, sizeExact, dimensionsRight, factorOf, spread, recordBytes, dimensioned, variableOf}
@@ -28,7 +28,7 @@ use Rattle.ways.specs.Indexes.{recordThere, recordRead, lookedUp, scanned, inde
 use Rattle.answers.specs.declared.Read.{Read}
 use Rattle.answers.specs.declared.Read.the-variants.{Value as Given, Refused}
 use Rattle.answers.specs.Answers.{elementThere, elementRead, inRecord, inVariable, valueRead}
-use Rattle.walk.specs.Walk.{typeNumber, followed, gdrThere, varsTally, varNumber, chainTally, attrNumber, entriesTally, entryNumber, unusedNumber, turnOf}
+use Rattle.walk.specs.Walk.{typeNumber, followed, gdrNamed, fieldNumber, tallied, varsTally, varNumber, chainTally, attrNumber, entriesTally, numNumber, entryNumber, oneMore, unusedNumber, turnOf}
 use Rattle.marks.specs.Marks.{cleared, marked, startAt, unclaimedAt, followedAt, leftFrom, leftOf}
 use Rattle.checker.specs.Step.{Run, answerOf, openNumber, linkNumber, turned, stepBy, runOf, plainRun}
 
@@ -175,10 +175,10 @@ rows =
 pub small-files : allOf rows ≡ true
 unfolding bigAt endOf fieldAt isAt atLeast atMost inOrder sameAt eachWithin natAt afterAt linkAt bitAt typeOf encodingOf
     reachOf judged tooLong magicsRight whollyCompressed cdrRight singleFile gdrAt gdrFields gdrRight opening typeKnown
-    tileFields tileRight typeUncarried tile adrRight adrRule elementSize aedrRight aedrRule vxrRight vxrRule rangeRight
+    tileFields tileRight typeUncarried tile adrRight adrRule elementSize aedrRight aedrRule vxrRight vxrRule rises rangeNumber
     entryOf vvrRule uirRule capped carriedOf vdrFields countPlace countRight layoutAt layoutOf valueBytes padBytes
-    sizeExact dimensionsRight factorOf spread recordBytes dimensioned variableOf typeNumber followed gdrThere varsTally
-    varNumber chainTally attrNumber entriesTally entryNumber unusedNumber turnOf cleared marked startAt unclaimedAt
+    sizeExact dimensionsRight factorOf spread recordBytes dimensioned variableOf typeNumber followed gdrNamed fieldNumber tallied varsTally
+    varNumber chainTally attrNumber entriesTally numNumber entryNumber oneMore unusedNumber turnOf cleared marked startAt unclaimedAt
     followedAt leftFrom leftOf openNumber linkNumber turned stepBy runOf littleAt placeAfter elementPlace indicesRight
     rowFits placed placeOf rawAt valueOf bitsOf isVax isNothing decodedOf opened allowance landsOn vdrKept ruleKept meets
     lastLink sought placeWay variableWay recordThere recordRead lookedUp scanned indexMet lastIndex indexed valuesMet

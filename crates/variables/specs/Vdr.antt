@@ -13,11 +13,10 @@ use Rattle.variables.specs.declared.vdr.Layout.{Layout}
 use Rattle.variables.specs.declared.vdr.Variable.{Variable}
 use Rattle.variables.specs.Limit.{capped}
 
--- "14 looks at Flags only in a VDR of 32 bytes or more": 14 if bit 2 is set there, 20 if the file ends before them, else 0
+-- "14 looks at Flags only in a VDR of 32 bytes or more": 14 if bit 2 is set there, else 0. Where the file ends before them the VDR's
+-- rule says whether that is 10 or 20
 unfoldable pub carriedOf : List ℕ → ℕ → ℕ
-carriedOf f o =
-    cond (ltb (endOf f) (o + 8)) 20
-    (cond (ltb (sizeAt f o) 32) 0 (cond (ltb (endOf f) (o + 32)) 20 (cond (bitAt f (o + 28) 4) 14 0)))
+carriedOf f o = cond (ltb (endOf f) (o + 32)) 0 (cond (ltb (sizeAt f o) 32) 0 (cond (bitAt f (o + 28) 4) 14 0))
 
 -- "type 12, MaxRec 16 (-1 or more), .. flags 28 (bit 0 record variance, 1 pad, 2 compressed, others clear), sRecords 32 (0 to 2),
 -- elements 48 (1 or more; exactly 1 unless type 51 or 52)"; "any other type 10"

@@ -26,20 +26,16 @@ pub struct Variable {
     pub bytes: u64,
 }
 
-// 14 for a VDR of compressed values, 20 where the file ends before its flags, else 0.
+// 14 for a VDR of compressed values whose flags lie in it and in the file, else 0.
 pub fn carried(f: &[u8], at: u32) -> u32
     ensures { λ r. ⌜ r ≡ carriedOf (now (f .entry)) at ⌝ }
 {
     let o = at as usize;
-    let end = fields::end(f);
-    if end < o + 8 {
-        return 20;
+    if fields::end(f) < o + 32 {
+        return 0;
     }
     if fields::nat_at(f, o) < 32 {
         return 0;
-    }
-    if end < o + 32 {
-        return 20;
     }
     if fields::bit(f, o + 28, 4) {
         return 14;

@@ -6,16 +6,16 @@ use mathlib.Core.List.{List, [], _∷_}
 use Prim.Native.Nat.{ℕ, zero, suc, _+_, _-_, _^_, _≤_, _<_, max}
 use native.Mathlib.Omega.{arith}
 use lib.Dec.{ltb, leb, eqb}
-use borrow.Author.Tests.{ltb-true, ltb-false, eqb-true}
+use borrow.Author.Tests.{ltb-true, eqb-true}
 use lib.IntN.{pos, negsuc}
 use Rattle.format.specs.Bytes.{bigAt, signedOf}
 use Rattle.format.specs.Fields.{endOf, fieldAt, isAt, atLeast, natOr, natAt, afterAt, linkAt}
 use Rattle.records.specs.Opening.{gdrAt}
-use Rattle.records.specs.Index.{usedAt, entriesAt, firstPlace, lastPlace, offsetPlace, rangeRight, entryOf}
+use Rattle.records.specs.Index.{usedAt, entriesAt, firstPlace, lastPlace, offsetPlace, rangeNumber, entryOf}
 use Rattle.records.specs.Attributes.{adrRule}
 use Rattle.records.specs.declared.index.Entry as E
 use Rattle.variables.specs.Vdr.{carriedOf, variableOf}
-use Rattle.walk.specs.Walk.{followed, gdrThere, takes, afterVars, varNumber, intoIndex, entered, covers, attrNumber, entriesTally, afterEntries, entryTaken, turnOf}
+use Rattle.walk.specs.Walk.{followed, gdrNamed, takes, afterVars, varNumber, intoIndex, entered, covers, attrNumber, afterEntries, oneMore, turnOf}
 use Rattle.walk.specs.declared.places.Var.{Var}
 use Rattle.walk.specs.declared.places.Walk as W
 use Rattle.walk.specs.declared.places.Walk.the-variants.{Start, Vars, Chain, Entry, Attrs, Entries, Unused}
@@ -60,7 +60,7 @@ module _ (f : List ℕ) where
   link-small p = small-nat 1 (bigAt f p 4) (omega arith)
 
   -- a field that is n is below 2 ^ 31
-  num-small : (p n : ℕ) → isAt f p (pos n) ≡ true → n ≤ 2147483647
+  pub num-small : (p n : ℕ) → isAt f p (pos n) ≡ true → n ≤ 2147483647
   unfolding isAt natAt
   num-small p n e =
       let z : natAt f p ≡ n = ap (natOr 0) (eqZ-true (fieldAt f p) (pos n) e) in
@@ -80,10 +80,11 @@ module _ (f : List ℕ) where
   entry-small : (x i floor : ℕ) → LastSmall (entryOf f x i floor)
   unfolding entryOf
   entry-small x i floor =
-      cond-keeps LastSmall (ltb (endOf f) (x + 20)) (record { last-small = omega arith })
-      (cond-keeps LastSmall (ltb (endOf f) (offsetPlace x (entriesAt f x) i + 4)) (record { last-small = omega arith })
-      (cond-keeps LastSmall (rangeRight f (firstPlace x i) (lastPlace x (entriesAt f x) i) floor)
-      (record { last-small = nat-small (lastPlace x (entriesAt f x) i) }) (record { last-small = omega arith })))
+      let first = firstPlace x i in
+      let last = lastPlace x (entriesAt f x) i in
+      cond-keeps LastSmall (ltb (endOf f) (first + 4)) (record { last-small = omega arith })
+      (cond-keeps LastSmall (eqb (rangeNumber f first last (offsetPlace x (entriesAt f x) i) floor) 0)
+      (record { last-small = nat-small last }) (record { last-small = omega arith }))
 
 abbrev pub NextWithin : T.Turn → Type 0
 NextWithin (Over v w) = Within w
@@ -130,6 +131,10 @@ module _ (f : List ℕ) where
   after-entries t a n h e =
       cond-keeps Within (eqb t 9) (record { kinds = tt; small = omega arith }) (record { kinds = inr refl; small = omega arith })
 
+  one-more : (n : ℕ) → oneMore n ≤ 2147483648
+  unfolding oneMore
+  one-more n = omega arith
+
   -- "Num is the place in its list": so the place of a record that is claimed is below 2 ^ 31
   var-place : (k n o : ℕ) → varNumber f k n o ≡ 0 → n ≤ 2147483647
   unfolding varNumber
@@ -151,19 +156,18 @@ module _ (f : List ℕ) where
   pub within-turn : (w : W.Walk) → Within w → TurnWithin (turnOf f w)
   unfolding turnOf followed
   within-turn Start h =
-      cond-keeps TurnWithin (leb 20 (endOf f))
+      cond-keeps TurnWithin (gdrNamed f)
       (takes-within f (Vars 3 (gdrAt f + 8) 0 0) (λ z. record { kinds = inl refl; small = omega (arith, gdr-small f) })) (end-within f)
   within-turn (Vars t p n greatest) h =
       let s = h .small in
       link-keeps f TurnWithin p (end-within f)
-      (cond-keeps TurnWithin (gdrThere f) (over-within f (afterVars f t) (after-vars f t)) (end-within f))
+      (cond-keeps TurnWithin (gdrNamed f) (over-within f (afterVars f t) (after-vars f t)) (end-within f))
       (takes-within f (intoIndex f t n greatest (linkAt f p))
       (λ z. record { kinds = h .kinds; small = omega (arith, link-small f p, after-small f (linkAt f p + 16), var-place f t n (linkAt f p) z) }))
   within-turn (Chain u p x floor covered) h =
       let s = h .small in
       link-keeps f TurnWithin p (end-within f)
-      (cond-keeps TurnWithin (ltb (endOf f) (u .vdr + 28)) (end-within f)
-      (over-within f (Vars (u .kind) (u .vdr + 8) (u .place + 1) (u .greatest)) (record { kinds = h .kinds; small = omega arith })))
+      (over-within f (Vars (u .kind) (u .vdr + 8) (u .place + 1) (u .greatest)) (record { kinds = h .kinds; small = omega arith }))
       (takes-within f (entered f u (linkAt f p) 0 floor covered)
       (λ z. entered-within f u (linkAt f p) 0 floor covered (h .kinds) (omega arith) (omega (arith, link-small f p)) (omega arith)))
   within-turn (Entry u x i floor covered) h =
@@ -176,31 +180,17 @@ module _ (f : List ℕ) where
   within-turn (Attrs p n) h =
       let s = h .small in
       link-keeps f TurnWithin p (end-within f)
-      (cond-keeps TurnWithin (gdrThere f)
+      (cond-keeps TurnWithin (gdrNamed f)
       (over-within f (Unused (gdrAt f + 44) 0) (record { kinds = tt; small = omega (arith, gdr-small f) }))
       (end-within f))
       (takes-within f (Entries 5 (linkAt f p) n (linkAt f p + 12) 0 0)
       (λ z. record { kinds = inl refl; small = omega (arith, link-small f p, attr-place f n (linkAt f p) z) }))
-  within-turn (Entries t a n p e greatest) h = go (ltb (endOf f) (a + 48)) (ltb 2147483646 e) refl
-    where
-      s : Small (Entries t a n p e greatest)
-      s = h .small
-
-      go : (x y : Bool)
-          → ltb 2147483646 e ≡ y
-          → TurnWithin
-          (cond (x || y) (End 20)
-          (followed f p (Over (entriesTally f t a e greatest) (afterEntries t a n)) (entryTaken f t a n e greatest)))
-      go true y c = end-within f
-      go false true c = end-within f
-      go false false c =
-          link-keeps f TurnWithin p (end-within f)
-          (over-within f (afterEntries t a n) (after-entries f t a n (s .0) (s .1)))
-          (takes-within f (Entries t a n (linkAt f p + 8) (e + 1) (max (afterAt f (linkAt f p + 20)) greatest))
-          (λ z. record {
-            kinds = h .kinds;
-            small = omega (arith, s, link-small f p, after-small f (linkAt f p + 20), ltb-false 2147483646 e c);
-          }))
+  within-turn (Entries t a n p e greatest) h =
+      let s = h .small in
+      link-keeps f TurnWithin p (end-within f)
+      (over-within f (afterEntries t a n) (after-entries f t a n (s .0) (s .1)))
+      (takes-within f (Entries t a n (linkAt f p + 8) (oneMore e) (max (afterAt f (linkAt f p + 20)) greatest))
+      (λ z. record { kinds = h .kinds; small = omega (arith, s, link-small f p, after-small f (linkAt f p + 20), one-more f e) }))
   within-turn (Unused p b) h =
       link-keeps f TurnWithin p (end-within f) (end-within f)
       (takes-within f (Unused (linkAt f p + 8) (linkAt f p)) (λ z. record { kinds = tt; small = omega (arith, link-small f p) }))

@@ -3,20 +3,40 @@ use mathlib.Core.Path.{_≡_, refl}
 use mathlib.Core.Bool.{Bool, true, false, cond, _&&_, _||_}
 use mathlib.Core.List.{List}
 use Prim.Native.Nat.{ℕ, _+_, max}
-use lib.Dec.{ltb, leb, eqb}
-use borrow.Author.Tests.{ltb-false}
+use lib.Dec.{ltb, eqb}
+use borrow.Author.Tests.{ltb-false, le-ltb}
 use Rattle.format.specs.Fields.{endOf, afterAt, linkAt}
 use Rattle.records.specs.Opening.{gdrAt}
 use Rattle.records.specs.Index.{usedAt, entryOf}
 use Rattle.variables.specs.declared.vdr.Variable.{Variable}
-use Rattle.walk.specs.Walk.{followed, gdrThere, takes, afterVars, intoIndex, varTaken, varsOver, entered, covers, entriesTally, afterEntries, entryTaken, turnOf}
+use Rattle.walk.specs.Walk.{followed, gdrNamed, takes, afterVars, intoIndex, varTaken, varsOver, entered, covers, afterEntries, oneMore, turnOf}
 use Rattle.walk.specs.declared.places.Var.{Var}
 use Rattle.walk.specs.declared.places.Walk as W
 use Rattle.walk.specs.declared.places.Walk.the-variants.{Start, Vars, Chain, Entry, Attrs, Entries, Unused}
 use Rattle.walk.specs.declared.places.Turn as T
 use Rattle.walk.specs.declared.places.Turn.the-variants.{Over, End, Take}
-use Rattle.walk.specs.Known.{Known, Looked}
+use Rattle.walk.specs.Known.{knownOf, lookedOf, Known, Looked}
 use Rattle.walk.proofs.Closed.{cond-keeps, link-keeps}
+
+-- the variable that is known at a place is the one whose index is walked there
+pub known-is : (f : List ℕ) (w : W.Walk) → Known f (knownOf f w) w
+known-is f Start = tt
+known-is f (Vars k p n g) = tt
+known-is f (Chain u p x floor c) = refl
+known-is f (Entry u x i floor c) = refl
+known-is f (Attrs p n) = tt
+known-is f (Entries k a n p e g) = tt
+known-is f (Unused p b) = tt
+
+-- what is looked at where v is known
+pub looked-is : (f : List ℕ) (w : W.Walk) (v : Variable) → Known f v w → Looked f (lookedOf f w v) w
+looked-is f Start v h = tt
+looked-is f (Vars k p n g) v h = λ i. rw (le-ltb (endOf f) (p + 4) i)
+looked-is f (Chain u p x floor c) v h = h
+looked-is f (Entry u x i floor c) v h = h
+looked-is f (Attrs p n) v h = tt
+looked-is f (Entries k a n p e g) v h = tt
+looked-is f (Unused p b) v h = tt
 
 module _ (f : List ℕ) (v : Variable) where
   abbrev pub NextKnown : T.Turn → Type 0
@@ -50,7 +70,7 @@ module _ (f : List ℕ) (v : Variable) where
   -- the step of a link that was looked at leads to a place whose variable is known
   pub known-turn : (w : W.Walk) → Looked f v w → TurnKnown (turnOf f w)
   unfolding turnOf followed
-  known-turn Start h = cond-keeps TurnKnown (leb 20 (endOf f)) (takes-known (Vars 3 (gdrAt f + 8) 0 0) (none tt)) end-known
+  known-turn Start h = cond-keeps TurnKnown (gdrNamed f) (takes-known (Vars 3 (gdrAt f + 8) 0 0) (none tt)) end-known
   known-turn (Vars k p n greatest) h = go (ltb (endOf f) (p + 4)) refl
     where
       go : (b : Bool) → ltb (endOf f) (p + 4) ≡ b
@@ -58,13 +78,12 @@ module _ (f : List ℕ) (v : Variable) where
       go true e = end-known
       go false e =
           cond-keeps TurnKnown (eqb (linkAt f p) 0)
-          (cond-keeps TurnKnown (gdrThere f)
+          (cond-keeps TurnKnown (gdrNamed f)
           (over-known (afterVars f k) (cond-keeps At (eqb k 8) (none tt) (none tt))) end-known)
           (takes-known (intoIndex f k n greatest (linkAt f p)) (none (h (ltb-false (endOf f) (p + 4) e))))
   known-turn (Chain u p x floor c) h =
       link-keeps f TurnKnown p end-known
-      (cond-keeps TurnKnown (ltb (endOf f) (u .vdr + 28)) end-known
-      (over-known (Vars (u .kind) (u .vdr + 8) (u .place + 1) (u .greatest)) (none tt)))
+      (over-known (Vars (u .kind) (u .vdr + 8) (u .place + 1) (u .greatest)) (none tt))
       (takes-known (entered f u (linkAt f p) 0 floor c) (entered-known u (linkAt f p) 0 floor c (none h)))
   known-turn (Entry u x i floor c) h =
       let e = entryOf f x i floor in
@@ -72,11 +91,10 @@ module _ (f : List ℕ) (v : Variable) where
       takes-known (entered f u x (i + 1) (e .last + 1) d) (entered-known u x (i + 1) (e .last + 1) d (none h))
   known-turn (Attrs p n) h =
       link-keeps f TurnKnown p end-known
-      (cond-keeps TurnKnown (gdrThere f) (over-known (Unused (gdrAt f + 44) 0) (none tt)) end-known)
+      (cond-keeps TurnKnown (gdrNamed f) (over-known (Unused (gdrAt f + 44) 0) (none tt)) end-known)
       (takes-known (Entries 5 (linkAt f p) n (linkAt f p + 12) 0 0) (none tt))
   known-turn (Entries k a n p e greatest) h =
-      cond-keeps TurnKnown (ltb (endOf f) (a + 48) || ltb 2147483646 e) end-known
-      (link-keeps f TurnKnown p end-known
+      link-keeps f TurnKnown p end-known
       (over-known (afterEntries k a n) (cond-keeps At (eqb k 9) (none tt) (none tt)))
-      (takes-known (Entries k a n (linkAt f p + 8) (e + 1) (max (afterAt f (linkAt f p + 20)) greatest)) (none tt)))
+      (takes-known (Entries k a n (linkAt f p + 8) (oneMore e) (max (afterAt f (linkAt f p + 20)) greatest)) (none tt))
   known-turn (Unused p b) h = link-keeps f TurnKnown p end-known end-known (takes-known (Unused (linkAt f p + 8) (linkAt f p)) (none tt))

@@ -32,7 +32,7 @@ Small (Vars k p n g) = (p ≤ 2147483711) × (n ≤ 2147483648) × (g ≤ 214748
 Small (Chain u p x floor c) = SmallVar u × (p ≤ 2147483711) × (x ≤ 2147483647) × (floor ≤ 2147483648)
 Small (Entry u x i floor c) = SmallVar u × (x ≤ 2147483647) × (i ≤ 2147483647) × (floor ≤ 2147483648)
 Small (Attrs p n) = (p ≤ 2147483711) × (n ≤ 2147483648)
-Small (Entries k a n p e g) = (a ≤ 2147483647) × (n ≤ 2147483647) × (p ≤ 2147483711) × (e ≤ 2147483647) × (g ≤ 2147483648)
+Small (Entries k a n p e g) = (a ≤ 2147483647) × (n ≤ 2147483647) × (p ≤ 2147483711) × (e ≤ 2147483648) × (g ≤ 2147483648)
 Small (Unused p b) = (p ≤ 2147483711) × (b ≤ 2147483647)
 
 pub record Within (w : W.Walk) : Type 0 where

@@ -1,12 +1,38 @@
--- What is known of the variable that the walk is at. Assumes nothing.
+-- The variable that the walk is at. Assumes nothing.
 use mathlib.Core.Path.{_≡_}
+use mathlib.Core.Bool.{cond}
 use mathlib.Core.List.{List}
 use Prim.Native.Nat.{ℕ, _+_, _≤_}
+use lib.Dec.{ltb}
 use Rattle.format.specs.Fields.{endOf, linkAt}
-use Rattle.variables.specs.Vdr.{variableOf}
+use Rattle.variables.specs.Vdr.{vdrFault, variableOf}
 use Rattle.variables.specs.declared.vdr.Variable.{Variable}
 use Rattle.walk.specs.declared.places.Walk as W
 use Rattle.walk.specs.declared.places.Walk.the-variants.{Start, Vars, Chain, Entry, Attrs, Entries, Unused}
+
+-- the variable whose index is walked; elsewhere there is none, and a VDR that breaks a rule stands for it
+abbrev pub knownOf : List ℕ → W.Walk → Variable
+knownOf f Start = vdrFault 20
+knownOf f (Vars k p n g) = vdrFault 20
+knownOf f (Chain u p x floor c) = variableOf f (u .kind) (u .vdr)
+knownOf f (Entry u x i floor c) = variableOf f (u .kind) (u .vdr)
+knownOf f (Attrs p n) = vdrFault 20
+knownOf f (Entries k a n p e g) = vdrFault 20
+knownOf f (Unused p b) = vdrFault 20
+
+-- the VDR of a kind that the link at p leads to, or v where the link passes the file's end
+abbrev pub linkedOf : List ℕ → ℕ → ℕ → Variable → Variable
+linkedOf f k p v = cond (ltb (endOf f) (p + 4)) v (variableOf f k (linkAt f p))
+
+-- the variable that the next link leads to; elsewhere still v
+abbrev pub lookedOf : List ℕ → W.Walk → Variable → Variable
+lookedOf f Start v = v
+lookedOf f (Vars k p n g) v = linkedOf f k p v
+lookedOf f (Chain u p x floor c) v = v
+lookedOf f (Entry u x i floor c) v = v
+lookedOf f (Attrs p n) v = v
+lookedOf f (Entries k a n p e g) v = v
+lookedOf f (Unused p b) v = v
 
 -- v is the variable whose index is walked
 abbrev pub Known : List ℕ → Variable → W.Walk → Type 0

@@ -1,8 +1,7 @@
 -- The walk along the links, a step a link, without marks: document 01, "The check, step by step", 3. Assumes nothing.
-use Prim.Native.Nat.{ℕ, suc, _+_, _-_, _≤_, max}
-use mathlib.Core.Bool.{Bool, true, false, cond, _&&_, _||_}
+use Prim.Native.Nat.{ℕ, _+_, _-_, min, max}
+use mathlib.Core.Bool.{Bool, false, cond, _&&_, _||_}
 use mathlib.Core.List.{List, [], _∷_}
-use lib.ListN.{length}
 use lib.Dec.{ltb, leb, eqb}
 use lib.IntN.{ℤ, pos, negsuc}
 use Rattle.format.specs.Fields.{endOf, isAt, sameAt, atLeast, natAt, linkAt, afterAt, before}
@@ -42,24 +41,25 @@ followed f p zero taken = cond (ltb (endOf f) (p + 4)) (End 20) (cond (eqb (link
 unfoldable pub leadsTo : List ℕ → ℕ → L.Link
 leadsTo f p = cond (ltb (endOf f) (p + 4)) Past (cond (eqb (linkAt f p) 0) Zero (To (linkAt f p)))
 
--- the GDR's fields lie in the file, and the CDR's link to it
-unfoldable pub gdrThere : List ℕ → Bool
-gdrThere f = leb 20 (endOf f) && leb (gdrAt f + 60) (endOf f)
+-- the CDR's link to the GDR lies in the file
+unfoldable pub gdrNamed : List ℕ → Bool
+gdrNamed f = leb 20 (endOf f)
 
--- the bounds that this gives
-pub record Gdr (f : List ℕ) : Type 0 where
-  pub link : 20 ≤ length f
-  pub fields : gdrAt f + 60 ≤ length f
-
--- a list of the GDR is over: "counts equal lengths .. else 11"; 20 if the GDR does not lie in the file
+-- a list of the GDR is over; 20 if the link to the GDR passes the file's end
 abbrev pub overBy : List ℕ → ℕ → W.Walk → T.Turn
-overBy f number next = cond (gdrThere f) (Over number next) (End 20)
+overBy f number next = cond (gdrNamed f) (Over number next) (End 20)
+
+-- 11 unless the field at p is z; 20 if it passes the file's end
+unfoldable pub fieldNumber : List ℕ → ℕ → ℤ → ℕ
+fieldNumber f p z = cond (ltb (endOf f) (p + 4)) 20 (unless 11 (isAt f p z))
+
+-- "counts equal lengths, each maximum is the greatest ..": a list's count at p, then its maximum at q; greatest is one more
+unfoldable pub tallied : List ℕ → ℕ → ℕ → ℕ → ℕ → ℕ
+tallied f p n q greatest = first (fieldNumber f p (pos n) ∷ fieldNumber f q (before greatest) ∷ [])
 
 -- ---- variables: NrVars 24, NzVars 40; "rMaxRec is the greatest MaxRec of rVariables or -1"
 unfoldable pub varsTally : List ℕ → ℕ → ℕ → ℕ → ℕ
-varsTally f k n greatest =
-    unless 11
-    (cond (eqb k 8) (isAt f (gdrAt f + 40) (pos n)) (isAt f (gdrAt f + 24) (pos n) && isAt f (gdrAt f + 32) (before greatest)))
+varsTally f k n greatest = cond (eqb k 8) (fieldNumber f (gdrAt f + 40) (pos n)) (tallied f (gdrAt f + 24) n (gdrAt f + 32) greatest)
 
 -- "the GDR's heads r, z, ADR, UIR" at 8, 12, 16, 44
 abbrev pub afterVars : List ℕ → ℕ → W.Walk
@@ -82,12 +82,11 @@ varTaken f k n greatest o = takes 0 o (typeNumber f o (pos k)) (varNumber f k n 
 
 -- ---- an index chain. "VXRtail is the last VXR, or 0 if there is none; else 11. Then MaxRec is -1 or lies in some used entry's range; else 12"
 unfoldable pub chainTally : List ℕ → ℕ → ℕ → Bool → ℕ
-chainTally f v last covered = first (unless 11 (isAt f (v + 24) (pos last)) ∷ unless 12 (isAt f (v + 16) (negsuc 0) || covered) ∷ [])
+chainTally f v last covered = first (fieldNumber f (v + 24) (pos last) ∷ unless 12 (isAt f (v + 16) (negsuc 0) || covered) ∷ [])
 
 abbrev pub chainOver : List ℕ → Var → ℕ → Bool → T.Turn
 chainOver f u last covered =
-    cond (ltb (endOf f) (u .vdr + 28)) (End 20)
-    (Over (chainTally f (u .vdr) last covered) (Vars (u .kind) (u .vdr + 8) (u .place + 1) (u .greatest)))
+    Over (chainTally f (u .vdr) last covered) (Vars (u .kind) (u .vdr + 8) (u .place + 1) (u .greatest))
 
 -- "VXR: each used offset, next": entry i, or where there are no more the link to the next VXR
 abbrev pub entered : List ℕ → Var → ℕ → ℕ → ℕ → Bool → W.Walk
@@ -100,9 +99,9 @@ vxrTaken f u floor covered o = takes 0 o (typeNumber f o (pos 6)) (vxrRule f o) 
 abbrev pub covers : List ℕ → ℕ → Entry → Bool
 covers f v e = atLeast f (v + 16) (pos 0) && (leb (e .first) (natAt f (v + 16)) && leb (natAt f (v + 16)) (e .last))
 
--- the VVR's rule, with the record bytes of the variable; 20 if the VDR no longer keeps its rule
+-- the VVR's rule, with the record bytes of the variable; before it the VDR's, which these come from
 abbrev pub valuesNumber : List ℕ → Variable → Entry → ℕ
-valuesNumber f v e = cond (eqb (v .fault) 0) (vvrRule f (e .link) (e .last - e .first + 1) (v .bytes)) 20
+valuesNumber f v e = cond (eqb (v .fault) 0) (vvrRule f (e .link) (e .last - e .first + 1) (v .bytes)) (v .fault)
 
 abbrev pub entryRefused : Entry → ℕ → ℕ → T.Turn
 entryRefused e typed late = Take (e .fault) (e .link) typed late Start
@@ -117,7 +116,7 @@ unfoldable pub attrNumber : List ℕ → ℕ → ℕ → ℕ
 attrNumber f n o = first (adrRule f o ∷ unless 11 (isAt f (o + 20) (pos n)) ∷ [])
 
 abbrev pub attrsOver : List ℕ → ℕ → T.Turn
-attrsOver f n = overBy f (unless 11 (isAt f (gdrAt f + 28) (pos n))) (Unused (gdrAt f + 44) 0)
+attrsOver f n = overBy f (fieldNumber f (gdrAt f + 28) (pos n)) (Unused (gdrAt f + 44) 0)
 
 abbrev pub attrTaken : List ℕ → ℕ → ℕ → T.Turn
 attrTaken f n o = takes 0 o (typeNumber f o (pos 4)) (attrNumber f n o) (Entries 5 o n (o + 12) 0 0)
@@ -126,20 +125,29 @@ abbrev pub tallyPlace : ℕ → ℕ
 tallyPlace k = cond (eqb k 9) 40 24
 
 unfoldable pub entriesTally : List ℕ → ℕ → ℕ → ℕ → ℕ → ℕ
-entriesTally f k a n greatest =
-    unless 11 (isAt f (a + tallyPlace k) (pos n) && isAt f (a + tallyPlace k + 4) (before greatest))
+entriesTally f k a n greatest = tallied f (a + tallyPlace k) n (a + tallyPlace k + 4) greatest
 
 -- "ADR: AgrEDR head, AzEDR head, next" at 12, 36, 8
 abbrev pub afterEntries : ℕ → ℕ → ℕ → W.Walk
 afterEntries k a n = cond (eqb k 9) (Attrs (a + 8) (n + 1)) (Entries 9 a n (a + 36) 0 0)
 
--- the AEDR's rule; "an entry's Num is its attribute's"
+abbrev pub entriesOver : List ℕ → ℕ → ℕ → ℕ → ℕ → ℕ → T.Turn
+entriesOver f k a n e greatest = Over (entriesTally f k a e greatest) (afterEntries k a n)
+
+-- "an entry's Num is its attribute's"; 20 if that one passes the file's end
+unfoldable pub numNumber : List ℕ → ℕ → ℕ → ℕ
+numNumber f a o = cond (ltb (endOf f) (a + 24)) 20 (unless 11 (sameAt f (o + 12) (a + 20)))
+
 unfoldable pub entryNumber : List ℕ → ℕ → ℕ → ℕ
-entryNumber f a o = first (aedrRule f o ∷ unless 11 (sameAt f (o + 12) (a + 20)) ∷ [])
+entryNumber f a o = first (aedrRule f o ∷ numNumber f a o ∷ [])
+
+-- one more entry. The count stops at 2 ^ 31, which no field can say
+unfoldable pub oneMore : ℕ → ℕ
+oneMore n = min (n + 1) 2147483648
 
 abbrev pub entryTaken : List ℕ → ℕ → ℕ → ℕ → ℕ → ℕ → ℕ → T.Turn
 entryTaken f k a n e greatest o =
-    takes 0 o (typeNumber f o (pos k)) (entryNumber f a o) (Entries k a n (o + 8) (e + 1) (max (afterAt f (o + 20)) greatest))
+    takes 0 o (typeNumber f o (pos k)) (entryNumber f a o) (Entries k a n (o + 8) (oneMore e) (max (afterAt f (o + 20)) greatest))
 
 -- ---- unused records: "a UIR's previous is its predecessor, 0 for the first"
 unfoldable pub unusedNumber : List ℕ → ℕ → ℕ → ℕ
@@ -151,12 +159,10 @@ unusedTaken f b o = takes 0 o (typeNumber f o (negsuc 0)) (unusedNumber f b o) (
 -- THE WALK, a case for each kind of link
 unfoldable pub turnOf : List ℕ → W.Walk → T.Turn
 turnOf f Start =
-    cond (leb 20 (endOf f)) (takes 0 (gdrAt f) (typeNumber f (gdrAt f) (pos 2)) 0 (Vars 3 (gdrAt f + 8) 0 0)) (End 20)
+    cond (gdrNamed f) (takes 0 (gdrAt f) (typeNumber f (gdrAt f) (pos 2)) 0 (Vars 3 (gdrAt f + 8) 0 0)) (End 20)
 turnOf f (Vars k p n greatest) = followed f p (varsOver f k n greatest) (varTaken f k n greatest)
 turnOf f (Chain u p x floor covered) = followed f p (chainOver f u x covered) (vxrTaken f u floor covered)
 turnOf f (AtEntry u x i floor covered) = entryTurn f u x i covered (entryOf f x i floor)
 turnOf f (Attrs p n) = followed f p (attrsOver f n) (attrTaken f n)
-turnOf f (Entries k a n p e greatest) =
-    cond (ltb (endOf f) (a + 48) || ltb 2147483646 e) (End 20)
-    (followed f p (Over (entriesTally f k a e greatest) (afterEntries k a n)) (entryTaken f k a n e greatest))
+turnOf f (Entries k a n p e greatest) = followed f p (entriesOver f k a n e greatest) (entryTaken f k a n e greatest)
 turnOf f (Unused p b) = followed f p (End 0) (unusedTaken f b)

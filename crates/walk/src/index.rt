@@ -16,13 +16,14 @@ use records::index;
 use records::index::Entry;
 use variables::vdr::Variable;
 
-// 11 unless VXRtail is the last VXR, then 12 unless MaxRec is -1 or covered.
+// 11 unless VXRtail is the last VXR, 20 where it passes the file's end, then 12 unless MaxRec is -1 or covered.
 fn chain_tally(f: &[u8], v: u32, last: u32, covered: bool) -> u32
-    requires { ⌜ v + 28 ≤ length (now f) ⌝ }
+    requires { ⌜ v < 2147483648 ⌝ }
     ensures { λ r. ⌜ r ≡ chainTally (now (f .entry)) v last covered ⌝ }
 {
-    if !fields::is_nat(f, v as usize + 24, last) {
-        return 11;
+    let tail = links::field_number(f, v + 24, last);
+    if tail != 0 {
+        return tail;
     }
     links::unless_passed(12, fields::is(f, v as usize + 16, -1) | covered)
 }
@@ -33,9 +34,6 @@ fn chain_over(f: &[u8], u: Var, last: u32, covered: bool) -> Turn
     ensures { λ r. ⌜ r ≡ chainOver (now (f .entry)) u last covered ⌝ }
 {
     let v = u.vdr;
-    if fields::end(f) < v as usize + 28 {
-        return Turn::End { number: 20 };
-    }
     Turn::Over {
         number: chain_tally(f, v, last, covered),
         next: Walk::Vars {
@@ -111,13 +109,13 @@ fn is_covered(f: &[u8], v: u32, e: Entry) -> bool
     fields::at_least(f, v as usize + 16, 0) & ((e.first <= most) & (most <= e.last))
 }
 
-// 10 or 20 by the VVR's rule, 20 where the VDR does not keep its own.
+// 10 or 20 by the VDR's rule, then by the VVR's.
 fn values_number(f: &[u8], v: Variable, e: Entry) -> u32
     requires { ⌜ (v .bytes ≤ 2147483648) × (e .first ≤ e .last) × (e .last < 2147483648) ⌝ }
     ensures { λ r. ⌜ (r ≡ valuesNumber (now (f .entry)) v e) × (r ≡ 0 → v .fault ≡ 0) ⌝ }
 {
     if v.fault != 0 {
-        return 20;
+        return v.fault;
     }
     index::vvr(f, e.link, e.last - e.first + 1, v.bytes as u32)
 }

@@ -1,9 +1,6 @@
 // The variable that the walk is at: its VDR is judged once, before the link to it is taken, and kept while its index is walked.
-ghost use Prim.Native.Nat.{_+_, _≤_};
 ghost use mathlib.Core.Path.{_≡_};
-ghost use Rattle.format.specs.Fields.{endOf, linkAt};
-ghost use Rattle.variables.specs.Vdr.{variableOf};
-ghost use Rattle.walk.specs.Known.{Known, Looked};
+ghost use Rattle.walk.specs.Known.{knownOf, linkedOf, lookedOf};
 use crate::places::Walk;
 use format::fields;
 use variables::vdr;
@@ -11,7 +8,7 @@ use variables::vdr::Variable;
 
 // The variable whose index is walked. Elsewhere there is none, and the answer is a VDR that breaks a rule.
 pub fn known(f: &[u8], w: Walk) -> Variable
-    ensures { λ r. ⌜ Known (now (f .entry)) r w ⌝ }
+    ensures { λ r. ⌜ r ≡ knownOf (now (f .entry)) w ⌝ }
 {
     match w {
         Walk::Start => vdr::faulty(20),
@@ -24,9 +21,9 @@ pub fn known(f: &[u8], w: Walk) -> Variable
     }
 }
 
-// The VDR of a kind that a link leads to, or v where the link cannot be read.
+// The VDR of a kind that a link leads to, or v where the link passes the file's end.
 fn linked(f: &[u8], kind: u32, link: u32, v: Variable) -> Variable
-    ensures { λ r. ⌜ (link + 4 ≤ endOf (now (f .entry)) → r ≡ variableOf (now (f .entry)) kind (linkAt (now (f .entry)) link)) ⌝ }
+    ensures { λ r. ⌜ r ≡ linkedOf (now (f .entry)) kind link v ⌝ }
 {
     let p = link as usize;
     if fields::end(f) < p + 4 {
@@ -35,10 +32,9 @@ fn linked(f: &[u8], kind: u32, link: u32, v: Variable) -> Variable
     vdr::variable_at(f, kind, fields::link_at(f, p))
 }
 
-// The variable that the next link leads to, or whose index is walked: v.
+// The variable that the next link leads to; elsewhere still v, the one whose index is walked.
 pub fn looked(f: &[u8], w: Walk, v: Variable) -> Variable
-    requires { ⌜ Known (now f) v w ⌝ }
-    ensures { λ r. ⌜ Looked (now (f .entry)) r w ⌝ }
+    ensures { λ r. ⌜ r ≡ lookedOf (now (f .entry)) w v ⌝ }
 {
     match w {
         Walk::Start => v,

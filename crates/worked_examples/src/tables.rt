@@ -92,7 +92,7 @@ fn plane_line(f: &[u8], v: Variable, first: bool, second: bool, row: bool) {
 }
 
 // Single floats in dimensions of 3 and 5.
-pub fn plane(first: bool, second: bool) {
+pub(crate) fn plane(first: bool, second: bool) {
     let mut f = [0u8; 148];
     describe(&mut f, 148, 21, 1, 2);
     making::put(&mut f, 132, 3);
@@ -111,7 +111,7 @@ fn solid_line(f: &[u8], v: Variable, row: bool) {
 }
 
 // Five characters in dimensions of 2, 3 and 4, of which the second does not vary.
-pub fn solid() {
+pub(crate) fn solid() {
     let mut f = [0u8; 156];
     describe(&mut f, 156, 51, 5, 3);
     making::put(&mut f, 132, 2);

@@ -76,7 +76,7 @@ fn shown(f: &[u8]) {
     entries(f, used);
 }
 
-pub fn example() {
+pub(crate) fn example() {
     let mut f = [0u8; 140];
     header(&mut f);
     used_entries(&mut f);

@@ -21,39 +21,20 @@ returns-2 : tie.Need-returns-2
 unfolding carriedOf
 returns-2 c = simp (lt-ltb _ _ (c .if2 .taken), ← c .before .nat-at .ensures .0, le-ltb _ _ (c .before .before .if1 .left), ← c .before .before .before .end .ensures .0)
 
-add-if3 : tie.Need-add-if3
-add-if3 c = search needs
-
-returns-3 : tie.Need-returns-3
-unfolding carriedOf
-returns-3 c = simp (lt-ltb _ _ (c .if3 .taken), le-ltb _ _ (c .before .if2 .left), ← c .before .before .nat-at .ensures .0, le-ltb _ _ (c .before .before .before .if1 .left), ← c .before .before .before .before .end .ensures .0)
-
 add-bit : tie.Need-add-bit
 add-bit c = search needs
 
 bit-requires : tie.Need-bit-requires
 bit-requires c κs = search needs
 
+returns-3 : tie.Need-returns-3
+unfolding carriedOf
+returns-3 c = simp (c .if3 .taken, ← c .before .bit .ensures, le-ltb _ _ (c .before .before .if2 .left), ← c .before .before .before .nat-at .ensures .0, le-ltb _ _ (c .before .before .before .before .if1 .left), ← c .before .before .before .before .before .end .ensures .0)
+
 returns-4 : tie.Need-returns-4
 unfolding carriedOf
-returns-4 c = simp (c .if4 .taken, ← c .before .bit .ensures, le-ltb _ _ (c .before .before .if3 .left), le-ltb _ _ (c .before .before .before .if2 .left), ← c .before .before .before .before .nat-at .ensures .0, le-ltb _ _ (c .before .before .before .before .before .if1 .left), ← c .before .before .before .before .before .before .end .ensures .0)
-
-returns-5 : tie.Need-returns-5
-unfolding carriedOf
-returns-5 c = simp (c .if4 .left, ← c .before .bit .ensures, le-ltb _ _ (c .before .before .if3 .left), le-ltb _ _ (c .before .before .before .if2 .left), ← c .before .before .before .before .nat-at .ensures .0, le-ltb _ _ (c .before .before .before .before .before .if1 .left), ← c .before .before .before .before .before .before .end .ensures .0)
+returns-4 c = simp (c .if3 .left, ← c .before .bit .ensures, le-ltb _ _ (c .before .before .if2 .left), ← c .before .before .before .nat-at .ensures .0, le-ltb _ _ (c .before .before .before .before .if1 .left), ← c .before .before .before .before .before .end .ensures .0)
 
 pub carried-spec : {M : Type 1} → statement M
 carried-spec =
-    tie.close
-    (tie.spec
-    end-requires
-    add-if1
-    returns
-    nat-at-requires
-    returns-2
-    add-if3
-    returns-3
-    add-bit
-    bit-requires
-    returns-4
-    returns-5)
+    tie.close (tie.spec end-requires add-if1 returns nat-at-requires returns-2 add-bit bit-requires returns-3 returns-4)

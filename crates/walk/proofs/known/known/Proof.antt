@@ -45,10 +45,10 @@ faulty-requires-5 : tie.Need-faulty-requires-5
 faulty-requires-5 c κs = search needs
 
 returns : tie.Need-returns
-returns c = rw (c .before .enum-told .given .1) tt
+returns c = rw (c .before .enum-told .given .1) (c .faulty .ensures)
 
 returns-2 : tie.Need-returns-2
-returns-2 c = rw (c .before .enum-told2 .given .1) tt
+returns-2 c = rw (c .before .enum-told2 .given .1) (c .faulty2 .ensures)
 
 returns-3 : tie.Need-returns-3
 returns-3 c = rw (c .before .before .w .given .1) (c .variable-at .ensures)
@@ -57,13 +57,13 @@ returns-4 : tie.Need-returns-4
 returns-4 c = rw (c .before .before .w2 .given .1) (c .variable-at2 .ensures)
 
 returns-5 : tie.Need-returns-5
-returns-5 c = rw (c .before .enum-told3 .given .1) tt
+returns-5 c = rw (c .before .enum-told3 .given .1) (c .faulty3 .ensures)
 
 returns-6 : tie.Need-returns-6
-returns-6 c = rw (c .before .enum-told4 .given .1) tt
+returns-6 c = rw (c .before .enum-told4 .given .1) (c .faulty4 .ensures)
 
 returns-7 : tie.Need-returns-7
-returns-7 c = rw (c .before .enum-told5 .given .1) tt
+returns-7 c = rw (c .before .enum-told5 .given .1) (c .faulty5 .ensures)
 
 pub known-spec : {M : Type 1} → statement M
 known-spec =

@@ -27,25 +27,25 @@ enum-told-6 : tie.Need-enum-told-6
 enum-told-6 c = search needs
 
 returns : tie.Need-returns
-returns c = rw (c .enum-told .given .1) tt
+returns c = rw (c .enum-told .given .1)
 
 returns-2 : tie.Need-returns-2
 returns-2 c = rw (c .before .before .w .given .1) (c .linked .ensures)
 
 returns-3 : tie.Need-returns-3
-returns-3 c = let e = c .enum-told2 .given .1 in rw e (rw e at (c .before .before .before .pre))
+returns-3 c = rw (c .enum-told2 .given .1)
 
 returns-4 : tie.Need-returns-4
-returns-4 c = let e = c .enum-told3 .given .1 in rw e (rw e at (c .before .before .before .pre))
+returns-4 c = rw (c .enum-told3 .given .1)
 
 returns-5 : tie.Need-returns-5
-returns-5 c = rw (c .enum-told4 .given .1) tt
+returns-5 c = rw (c .enum-told4 .given .1)
 
 returns-6 : tie.Need-returns-6
-returns-6 c = rw (c .enum-told5 .given .1) tt
+returns-6 c = rw (c .enum-told5 .given .1)
 
 returns-7 : tie.Need-returns-7
-returns-7 c = rw (c .enum-told6 .given .1) tt
+returns-7 c = rw (c .enum-told6 .given .1)
 
 pub looked-spec : {M : Type 1} → statement M
 looked-spec =
