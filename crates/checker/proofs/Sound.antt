@@ -23,7 +23,7 @@ use Rattle.walk.proofs.Closed.{NextWithin, within-turn}
 use Rattle.checker.specs.declared.state.Stage.{Stage}
 use Rattle.checker.specs.declared.state.Stage.the-variants.{Fresh, Sweep, Walking, Done, Strange}
 use Rattle.checker.specs.declared.state.State.{State}
-use Rattle.checker.specs.Step.{Conf, conf, Run, fresh, finished, stepOf, runOf, plainRun}
+use Rattle.checker.specs.Step.{Conf, conf, Run, fresh, finished, stepOf, runOf}
 use Rattle.checker.specs.Saved.{save, lengthRange, offsetRange, linkRange, countRange, varRange, walkRange}
 use Rattle.checker.specs.Grant.{otherFile, worked, grantBy, grantOf}
 use Rattle.checker.proofs.Outcomes.{TurnGoes, Goes, step-by}

@@ -1,10 +1,9 @@
 // The saved state: twelve numbers.
 ghost use mathlib.Core.Path.{_≡_};
-ghost use Prim.Native.Nat.{_≤_};
 ghost use lib.ListN.{length};
 ghost use Rattle.checker.specs.Ready.{VerdictFits};
 ghost use Rattle.checker.specs.declared.state.Stage.the-variants.{Walking};
-ghost use Rattle.checker.specs.Saved.{bit, saveWalk, saveStage, save, varRange, walkRange, stageRange, varBy, laterBy, listBy, stageBy, sameNumbers, checked, verdictRange, load};
+ghost use Rattle.checker.specs.Saved.{bit, saveWalk, saveStage, save, varRange, walkRange, stageRange, varBy, laterBy, listBy, stageBy, sameNumbers, checked, load};
 use crate::state::Stage;
 use crate::state::State;
 use crate::steps;

@@ -4,10 +4,10 @@ use mathlib.Core.Bool.{Bool, true, false, cond, _||_}
 use mathlib.Core.List.{List}
 use Prim.Native.Nat.{ℕ, suc, _+_, _-_, _≤_, _<_, max}
 use native.Mathlib.Omega.{arith}
-use lib.Dec.{ltb, leb, eqb}
+use lib.Dec.{ltb, eqb}
 use lib.IntN.{pos, negsuc}
 use borrow.Author.Tests.{ltb-true}
-use Rattle.format.specs.Fields.{endOf, linkAt, isAt, sameAt, afterAt}
+use Rattle.format.specs.Fields.{linkAt, isAt, afterAt}
 use Rattle.records.specs.Rules.{sizeAt}
 use Rattle.records.specs.Opening.{gdrAt}
 use Rattle.records.specs.Attributes.{adrRight, adrRule, aedrRight, aedrRule}

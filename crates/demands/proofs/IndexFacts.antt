@@ -9,7 +9,7 @@ use lib.Dec.{ltb, leb, eqb}
 use lib.IntN.{ℤ, pos, negsuc}
 use lib.Signed.{leZ}
 use borrow.Author.Tests.{leb-true, le-leb, eqb-true, eq-eqb}
-use Rattle.format.specs.Fields.{endOf, fieldAt, eqZ, isAt, atLeast, atMost, inOrder, natAt}
+use Rattle.format.specs.Fields.{endOf, fieldAt, eqZ, isAt, atLeast, atMost, natAt}
 use Rattle.format.specs.Bytes.{bigAt}
 use Rattle.records.specs.Rules.{sizeAt}
 use Rattle.records.specs.Attributes.{elementSize}
@@ -17,7 +17,7 @@ use Rattle.records.specs.Index.{usedAt, vxrRight, vxrRule, vvrRule}
 use Rattle.variables.specs.Vdr.{vdrFields, layoutOf, recordBytes, variableOf}
 use Rattle.walk.specs.Numbers.{first, unless}
 use Rattle.walk.specs.Walk.{fieldNumber, chainTally, covers, valuesNumber}
-use Rattle.demands.specs.Acceptance.{_∈_, Each, Consecutive, lastOr0, Slot, slotsFrom, slotsOf, usedEntries, firstAt, lastAt, firstOf, lastOf, namedBy, namedByAll, indexOffsets, EntryRight, IndexRight}
+use Rattle.demands.specs.Acceptance.{_∈_, Each, Consecutive, lastOr0, Slot, slotsFrom, slotsOf, usedEntries, firstOf, lastOf, namedBy, namedByAll, indexOffsets, EntryRight, IndexRight}
 use Rattle.walk.proofs.Closed.{unless-zero}
 use Rattle.checker.proofs.Passed.{both}
 use Rattle.demands.proofs.Laws.{first-two}
@@ -271,7 +271,7 @@ module _ (f : List ℕ) (k v : ℕ) where
           typed = λ earlier later x q. type-reads f x (pos 6) (e earlier later x q .0 .0) .1;
           right = λ earlier later x q. vxr-reads x (e earlier later x q .0 .1);
           entries = λ earlier later s q. let r = row-each (usedEntries f xs) 0 g s (split-in (usedEntries f xs) earlier later s q) in slot-reads s (r .0) (r .1);
-          rise = row-rises (usedEntries f xs) g;
+          rise = λ earlier later a b e. omega (arith, row-rises (usedEntries f xs) g earlier later a b e);
           tail = t .0;
           covered = t .1;
         }
@@ -302,4 +302,4 @@ module _ (f : List ℕ) (k v : ℕ) where
             (each-in (EntryRight f k v) (usedEntries f xs) (r .entries) s m) h
 
         rows : Each xs (λ earlier x. rowOf (reverseAux earlier []) x)
-        rows = along-each rowOf xs (rows-along xs [] (rise-row (usedEntries f xs) 0 (λ s later e. omega arith) slot (r .rise)))
+        rows = along-each rowOf xs (rows-along xs [] (rise-row (usedEntries f xs) 0 (λ s later e. omega arith) slot (λ earlier later a b e. omega (arith, r .rise earlier later a b e))))

@@ -8,24 +8,23 @@ use Prim.Native.Nat.{ℕ, zero, suc, _+_, _≤_, min, max}
 use native.Mathlib.Nat.{le-refl}
 use native.Mathlib.Numerals.{add-one}
 use native.Mathlib.Omega.{arith}
-use lib.Dec.{ltb, leb, eqb}
+use lib.Dec.{ltb, eqb}
 use lib.IntN.{pos, negsuc}
 use lib.ListN.{length}
-use borrow.Author.Tests.{ltb-false, leb-true, eqb-true, eqb-false, lt-ltb, le-ltb, le-leb, ne-eqb}
-use Rattle.format.specs.Fields.{endOf, linkAt, isAt, afterAt}
+use borrow.Author.Tests.{ltb-false, eqb-true, eqb-false, lt-ltb, le-ltb, ne-eqb}
+use Rattle.format.specs.Fields.{endOf, linkAt, afterAt}
 use Rattle.records.specs.Opening.{gdrAt}
 use Rattle.records.specs.Index.{usedAt, vxrRule, entryOf}
 use Rattle.records.proofs.Ranges.{EntryParts, entry-is, entry-reads}
 use Rattle.records.specs.declared.index.Entry.{Entry}
 use Rattle.variables.specs.Vdr.{variableOf}
-use Rattle.walk.specs.Numbers.{unless}
 use Rattle.walk.specs.Walk.{turnOf, typeNumber, takes, followed, overBy, gdrNamed, fieldNumber, varsTally, afterVars, varNumber, intoIndex, chainOver, chainTally, entered, covers, valuesNumber, entryTurn, attrNumber, entriesTally, afterEntries, entriesOver, oneMore, entryNumber, unusedNumber}
 use Rattle.walk.specs.declared.places.Var.{Var}
 use Rattle.walk.specs.declared.places.Walk as W
 use Rattle.walk.specs.declared.places.Walk.the-variants.{Start, Vars, Chain, Attrs, Entries, Unused}
 use Rattle.walk.specs.declared.places.Turn as T
 use Rattle.walk.specs.declared.places.Turn.the-variants.{Over, End}
-use Rattle.demands.specs.Acceptance.{Slot, slotsFrom, slotsOf, firstAt, lastAt, firstOf, lastOf, namedBy, namedByAll, ListedVdr, ListedAdr, offsets, indexOffsets, variableOffsets, attributeOffsets}
+use Rattle.demands.specs.Acceptance.{Slot, slotsFrom, slotsOf, firstOf, lastOf, namedBy, namedByAll, ListedVdr, ListedAdr, offsets, indexOffsets, variableOffsets, attributeOffsets}
 use Rattle.demands.proofs.Turns.{EndsAt, EndsBy, Ends, Read, Leads, Rules, Listed, LinkEnds, list-leads, none-leads, then-leads, take-leads, claims-as, cons-split}
 
 -- ---- what stands before a record in its list is given nearest first

@@ -22,7 +22,6 @@ use Rattle.variables.specs.Place.{placeAfter, elementPlace, indicesRight, rowFi
 use Rattle.values.specs.Values.{rawAt, valueOf, bitsOf, isVax, isNothing, decodedOf}
 use Rattle.values.specs.declared.value.Value.{Value}
 use Rattle.values.specs.declared.value.Value.the-variants.{Signed, Unsigned, Single, Double, Code}
-use Rattle.values.specs.declared.value.Answer.{Answer}
 use Rattle.ways.specs.Lists.{opened, allowance, landsOn, vdrKept, ruleKept, meets, lastLink, sought, placeWay, variableWay}
 use Rattle.ways.specs.Indexes.{recordThere, recordRead, lookedUp, scanned, indexMet, lastIndex, indexed, valuesMet, recordWay}
 use Rattle.answers.specs.declared.Read.{Read}

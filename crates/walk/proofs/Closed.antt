@@ -1,11 +1,11 @@
 -- The numbers of a place of the walk stay in their ranges. Assumes nothing.
 use mathlib.Core.Path.{_≡_, refl, ap}
-use mathlib.Core.Logic.{_⊎_, inl, inr}
+use mathlib.Core.Logic.{inl, inr}
 use mathlib.Core.Bool.{Bool, true, false, cond, _&&_, _||_}
 use mathlib.Core.List.{List, [], _∷_}
 use Prim.Native.Nat.{ℕ, zero, suc, _+_, _-_, _^_, _≤_, _<_, max}
 use native.Mathlib.Omega.{arith}
-use lib.Dec.{ltb, leb, eqb}
+use lib.Dec.{ltb, eqb}
 use borrow.Author.Tests.{ltb-true, eqb-true}
 use lib.IntN.{pos, negsuc}
 use Rattle.format.specs.Bytes.{bigAt, signedOf}
@@ -23,7 +23,7 @@ use Rattle.walk.specs.declared.places.Turn as T
 use Rattle.walk.specs.declared.places.Turn.the-variants.{Over, End, Take}
 use Rattle.format.proofs.SignedTests.{eqZ-true}
 use Rattle.walk.specs.Numbers.{first, unless}
-use Rattle.walk.specs.Bounds.{VarKind, SmallVar, Small, Within}
+use Rattle.walk.specs.Bounds.{VarKind, SmallVar, Within}
 
 pub cond-keeps : {A : Type 0} (P : A → Type 0) (b : Bool) {x y : A} → P x → P y → P (cond b x y)
 cond-keeps P true p q = p

@@ -1,6 +1,4 @@
-use mathlib.Core.Path.{_∙_, sym}
 use native.Mathlib.Omega.{arith}
-use lib.Dec.{leb}
 use borrow.Author.Tests.{leb-true}
 use Rattle.walk.specs.Walk.{gdrNamed}
 use borrow.Author.Needs.{needs}
