@@ -130,7 +130,7 @@ module _ (f : List ℕ) where
   told-reach : (o n : ℕ) → Told (reachOf f o n)
   unfolding reachOf
   told-reach o n =
-      told-cond (ltb (endOf f) (o + 8)) told-20 (told-cond (ltb (sizeAt f o) n) told-10 (told-cond (ltb (endOf f) (o + n)) told-20 told-0))
+      told-cond (ltb (endOf f) (o + 4)) told-20 (told-cond (ltb (sizeAt f o) n) told-10 (told-cond (ltb (endOf f) (o + n)) told-20 told-0))
 
   told-judged : (o n : ℕ) (right : Bool) → Told (judged f o n right)
   unfolding judged

@@ -91,12 +91,9 @@ module _ (f : List ℕ) (o : ℕ) where
       let x : 1 * n ≤ valueBytes f o * n = mul-le-mul (value-some e) (le-refl n) in
       omega (arith, r .bytes, one-mul n)
 
--- dimensions by where their sizes and variances stand
-abbrev laid : ℕ → ℕ → ℕ → Layout
-laid p q n = record { count = n; sizes = p; variances = q }
-
 module _ (f : List ℕ) (k o : ℕ) (e : variableOf f k o .fault ≡ 0) where
   variable-right : (vdrFields f o ≡ true) × (countRight f (countPlace f k o) ≡ true) × (dimensioned f o (layoutOf f k o) ≡ variableOf f k o)
+      × (ltb (endOf f) (countPlace f k o + 4) ≡ false)
   unfolding variableOf
   variable-right =
       let start = reached (eqb (reachOf f o (headOf k)) 0) _ (reachOf f o (headOf k)) refl e in
@@ -105,7 +102,7 @@ module _ (f : List ℕ) (k o : ℕ) (e : variableOf f k o .fault ≡ 0) where
       let e = rw fields at e in
       let counted = failed (ltb (endOf f) (countPlace f k o + 4)) _ 19 e in
       let count = held (countRight f (countPlace f k o)) _ 9 (rw counted at e) in
-      (fields, count, simp (start, fields, counted, count))
+      (fields, count, simp (start, fields, counted, count), counted)
 
   pub fields-right : vdrFields f o ≡ true
   fields-right = variable-right .0
@@ -123,12 +120,5 @@ module _ (f : List ℕ) (k o : ℕ) (e : variableOf f k o .fault ≡ 0) where
 
   -- the number of its dimensions stands in the file
   pub count-inside : countPlace f k o + 4 ≤ length f
-  unfolding layoutOf layoutAt endOf
-  count-inside = go (eqb k 8) (right .sizes)
-    where
-      n : ℕ
-      n = natAt f (countPlace f k o)
-
-      go : (b : Bool) → cond b (laid (countPlace f k o + 4) (countPlace f k o + 4 + 4 * n) n) (laid (countPlace f k o + 24) (o + 128) n) .sizes + 4 * cond b (laid (countPlace f k o + 4) (countPlace f k o + 4 + 4 * n) n) (laid (countPlace f k o + 24) (o + 128) n) .count ≤ length f → countPlace f k o + 4 ≤ length f
-      go true e = omega (arith, e)
-      go false e = omega (arith, e)
+  unfolding endOf
+  count-inside = ltb-false (length f) (countPlace f k o + 4) (variable-right .3)

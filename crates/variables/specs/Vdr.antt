@@ -41,10 +41,14 @@ countPlace f k o = cond (eqb k 8) (o + 128) (gdrAt f + 36)
 unfoldable pub countRight : List ℕ → ℕ → Bool
 countRight f p = atLeast f p (pos 0) && atMost f p (pos 10)
 
--- n dimensions counted at p: where their sizes and variances stand
+-- n dimensions counted at p: where their sizes and variances stand. An rVariable's sizes stand in the GDR (60), if it has any
+abbrev pub rSizes : ℕ → ℕ → ℕ → ℕ
+rSizes o p n = cond (eqb n 0) (o + 128) (p + 24)
+
 unfoldable pub layoutAt : ℕ → ℕ → ℕ → ℕ → Layout
 layoutAt k o p n =
-    cond (eqb k 8) (record { count = n; sizes = p + 4; variances = p + 4 + 4 * n }) (record { count = n; sizes = p + 24; variances = o + 128 })
+    cond (eqb k 8) (record { count = n; sizes = p + 4; variances = p + 4 + 4 * n })
+    (record { count = n; sizes = rSizes o p n; variances = o + 128 })
 
 -- places that the code can count with
 abbrev pub layoutFits : Layout → Type 0

@@ -4,7 +4,7 @@ ghost use Prim.Native.Nat.{_+_, _*_, _≤_, _<_};
 ghost use lib.ListN.{length};
 ghost use Rattle.records.specs.Attributes.{elementSize};
 ghost use Rattle.variables.specs.Limit.{capped};
-ghost use Rattle.variables.specs.Vdr.{carriedOf, vdrFields, headOf, countPlace, countRight, layoutOf, layoutFits, valueBytes, factorOf, sizeExact, dimensionsRight, spread, vdrFault, dimensioned, variableOf};
+ghost use Rattle.variables.specs.Vdr.{carriedOf, vdrFields, headOf, countPlace, countRight, rSizes, layoutOf, layoutFits, valueBytes, factorOf, sizeExact, dimensionsRight, spread, vdrFault, dimensioned, variableOf};
 use crate::limit;
 use format::bytes;
 use format::fields;
@@ -85,6 +85,14 @@ fn count_right(f: &[u8], p: usize) -> bool
     fields::at_least(f, p, 0) & fields::at_most(f, p, 10)
 }
 
+// Where the sizes of the n dimensions of an rVariable stand: behind the GDR's other fields, if there are any.
+fn r_sizes(o: usize, p: usize, n: usize) -> usize
+    requires { ⌜ (o < 4294967296) × (p < 8589934592) ⌝ }
+    ensures { λ r. ⌜ (r ≡ rSizes o p n) × (r < 1099511627776) ⌝ }
+{
+    if n == 0 { o + 128 } else { p + 24 }
+}
+
 // The dimensions that are counted at p.
 fn dimensions_at(f: &[u8], kind: u32, o: usize, p: usize) -> Layout
     requires { ⌜ (o < 4294967296) × (p < 8589934592) × (p + 4 ≤ length (now f)) × (p ≡ countPlace (now f) kind o) ⌝ }
@@ -100,7 +108,7 @@ fn dimensions_at(f: &[u8], kind: u32, o: usize, p: usize) -> Layout
     } else {
         Layout {
             count: n,
-            sizes: p + 24,
+            sizes: r_sizes(o, p, n),
             variances: o + 128,
         }
     }
