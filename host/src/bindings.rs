@@ -142,7 +142,7 @@ mod c {
     }
 }
 
-/// Makes a state fresh: 0, or 20 and nothing changed if it has not 12 numbers.
+/// Makes a state fresh: -1, since there is no verdict yet, or 20 and nothing changed if it has not 12 numbers.
 pub fn check_begin(state: &mut [u32]) -> i32 {
     // SAFETY: pointer and length are one lent slice's.
     unsafe { c::tlz_check_begin(state.as_mut_ptr(), state.len()) }

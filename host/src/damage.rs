@@ -50,7 +50,7 @@ pub fn records(file: &[u8]) -> Vec<Found> {
         found.push(Found {
             offset: usize::try_from(offset).unwrap_or(0),
             size: usize::try_from(record.size).unwrap_or(0),
-            record_type: record.record_type,
+            record_type: record.record_type.unwrap_or(0),
         });
         offset += record.size;
     }
@@ -205,6 +205,16 @@ pub fn length_damages(file: &[u8]) -> Vec<Damage> {
     let cut = |length: usize| [false, true].map(|eof| Damage::Cut { length, eof });
     let grow = |by: usize| [false, true].map(|eof| Damage::Grow { by, eof });
     cuts.flat_map(cut).chain([1, 4, 7, 8, 9, 16].into_iter().flat_map(grow)).collect()
+}
+
+/// Magics, CDR and GDR at values that the opening tells apart.
+pub fn opening_damages(file: &[u8]) -> Vec<Damage> {
+    let gdr = usize::try_from(number(file, 16)).unwrap_or(312);
+    let magics = [(4, 0xCCCC_0001), (4, 0x0000_FFFE), (0, 0xCDF2_6001), (0, 0)];
+    let cdr = [(8, 305), (12, 3), (20, 3), (28, 8), (28, 10), (32, 0), (32, 1), (32, 7), (16, 311)];
+    let gdr_fields = [20, 24, 28, 32, 36, 40].map(|at| (gdr + at, -2));
+    let all = magics.into_iter().chain(cdr).chain(gdr_fields);
+    all.map(|(offset, value)| to_value(offset, value)).collect()
 }
 
 /// Damages of all kinds.

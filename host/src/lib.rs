@@ -1,5 +1,6 @@
 //! The host side of Tlepozaluh: a second checker and reader of CDF files, written
-//! from document 01 alone, a builder of good files and a source of damaged ones.
+//! from document 01 and docs/STATE.md alone, a builder of good files and sources of
+//! damaged ones, and of states that no check leaves.
 //!
 //! The proved checker and reader, behind `bindings`, are compared with `second`; the two share no code.
 
@@ -13,6 +14,8 @@ pub mod calls;
 pub mod damage;
 pub mod dump;
 pub mod fuzz;
+pub mod made_up;
+pub mod pair;
 pub mod questions;
 pub mod samples;
 pub mod second;

@@ -220,7 +220,7 @@ fn the_length_of_a_state() {
     assert_eq!(length, STATE_LENGTH);
     for other in 0..3 * length {
         let answer = check_begin(&mut vec![1; other]);
-        assert_eq!(answer, if other == length { 0 } else { 20 }, "{other}");
+        assert_eq!(answer, if other == length { -1 } else { 20 }, "{other}");
     }
     let in_code = numbers_behind(&sources(), "if state.len() != ");
     assert!(in_code.len() >= 2 && in_code.iter().all(|number| *number == length), "{in_code:?}");

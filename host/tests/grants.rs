@@ -2,7 +2,9 @@
 
 use tlepozaluh_host::build;
 use tlepozaluh_host::build::random::Random;
-use tlepozaluh_host::second::check::{run, Check, Granted, RUNNING};
+use tlepozaluh_host::second::check::{grant, run, Check, Granted, State, RUNNING};
+use tlepozaluh_host::second::check::{FRESH, STATE_LENGTH};
+use tlepozaluh_host::second::state::{finished, is_in_range};
 
 fn granted(verdict: i32, steps: u64) -> Granted {
     Granted { verdict, steps }
@@ -93,6 +95,75 @@ fn marks_outside_the_records_are_never_written() {
         let mut marks = vec![0x55; file.len() + 20];
         assert_eq!(run(&file, &mut marks).verdict, 0, "seed {seed}");
         assert!(marks[..8].iter().chain(&marks[file.len()..]).all(|mark| *mark == 0x55));
+    }
+}
+
+/// A check is its saved state: loaded anew before each step, it goes on as before.
+#[test]
+fn from_one_saved_state_to_the_next() {
+    for seed in 0..200 {
+        let (_, file) = build::any(seed);
+        let whole = run(&file, &mut vec![0; file.len()]);
+        let mut marks = vec![0; file.len()];
+        let mut state = FRESH;
+        let mut steps = 0;
+        while state[0] == 0 {
+            assert!(is_in_range(&state), "seed {seed}: {state:?}");
+            let mut check = Check::load(state);
+            check.step(&file, &mut marks);
+            state = check.state();
+            steps += 1;
+        }
+        assert_eq!((state, steps), (finished(whole.verdict), whole.steps), "seed {seed}");
+    }
+}
+
+#[test]
+fn states_of_another_length() {
+    let file = good_file();
+    let mut marks = vec![9; file.len()];
+    for length in (0..40).filter(|length| *length != STATE_LENGTH) {
+        for number in [0, 1, u32::MAX] {
+            let mut state = vec![number; length];
+            for steps in [0, 1, u64::MAX] {
+                assert_eq!(grant(&file, &mut marks, &mut state, steps), granted(20, 0));
+            }
+            assert_eq!(state, vec![number; length]);
+        }
+    }
+    assert!(marks.iter().all(|mark| *mark == 9));
+}
+
+/// What grants of 0, of 1 and of all steps answer on a state.
+fn answers(file: &[u8], state: State) -> [(Granted, State); 3] {
+    [0, 1, u64::MAX].map(|steps| {
+        let mut after = state;
+        let answer = grant(file, &mut vec![1; file.len()], &mut after, steps);
+        (answer, after)
+    })
+}
+
+/// A number out of its range: nothing for a grant of 0, else one step with 20; but 21 and finished states come first.
+#[test]
+fn numbers_out_of_range() {
+    let file = good_file();
+    let length = file.len() as u32;
+    let mut real = FRESH;
+    grant(&file, &mut vec![0; file.len()], &mut real, 3);
+    let changes = [(0, 16), (0, 20), (0, 22), (2, 9), (3, 1), (4, 7), (5, 1), (11, 1)];
+    for (place, number) in changes {
+        let mut state = real;
+        state[place] = number;
+        let refused = (granted(20, 1), finished(20));
+        assert_eq!(answers(&file, state), [(granted(RUNNING, 0), state), refused, refused]);
+        state[1] = length + 1;
+        let other = (granted(21, 0), state);
+        assert_eq!(answers(&file, state), [(granted(RUNNING, 0), state), other, other]);
+    }
+    for verdict in (0..=14).chain([20]) {
+        let mut state = [u32::MAX; STATE_LENGTH];
+        state[0] = verdict + 1;
+        assert_eq!(answers(&file, state), [(granted(verdict as i32, 0), state); 3]);
     }
 }
 

@@ -1,4 +1,5 @@
-//! The proved checker and the second one on built and damaged files: verdict, steps and every mark.
+//! The proved checker and the second one on built and damaged files: verdict, steps, every mark and, step by step, the
+//! saved state.
 
 use tlepozaluh_host::bindings::{self, check_grant, fresh, from_bytes, to_bytes, State};
 use tlepozaluh_host::build;
@@ -32,6 +33,7 @@ fn agreed_step_by_step(file: &[u8], what: &dyn Fn() -> String) -> i32 {
         let verdict = other.step(file, &mut other_marks);
         assert_eq!(answer, (verdict, 1), "step {}: {}", other.steps(), what());
         assert!(marks == other_marks, "marks at step {}: {}", other.steps(), what());
+        assert_eq!(state, other.state(), "state at step {}: {}", other.steps(), what());
         assert_eq!(state[0] != 0, verdict != RUNNING, "{}", what());
         kept = to_bytes(&state);
         if verdict != RUNNING {

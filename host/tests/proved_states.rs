@@ -3,6 +3,7 @@
 use tlepozaluh_host::bindings::{check_begin, check_grant, fresh, run, State, STATE_LENGTH};
 use tlepozaluh_host::build;
 use tlepozaluh_host::build::random::Random;
+use tlepozaluh_host::pair::{Compared, Pair};
 
 /// A good file of at least 20 steps, and its steps.
 fn good_file() -> (Vec<u8>, u64) {
@@ -22,7 +23,7 @@ fn finished(verdict: u32) -> State {
 #[test]
 fn fresh_is_twelve_zeros() {
     let mut state = [7; STATE_LENGTH];
-    assert_eq!(check_begin(&mut state), 0);
+    assert_eq!(check_begin(&mut state), -1);
     assert_eq!(state, [0; STATE_LENGTH]);
 }
 
@@ -147,28 +148,26 @@ fn marks_longer_than_the_file() {
     }
 }
 
-/// Bytes that change between grants: the check ends with a number of the table.
+/// Bytes that change between grants: the check goes on as the second one does, and ends with a number of the table.
 #[test]
 fn another_file_of_the_same_length() {
     let mut random = Random::seeded(22);
-    let mut past_the_end = 0;
+    let mut compared = Compared::default();
     for seed in 0..4000 {
         let (_, file) = build::any(seed);
-        let mut marks = vec![0; file.len()];
-        let whole = run(&file, &mut marks).1;
+        let whole = run(&file, &mut vec![0; file.len()]).1;
         let mut other = file.clone();
         for _ in 0..random.between(1, 40) {
             let at = random.place(other.len());
             other[at] = random.byte();
         }
-        let mut state = fresh();
+        let mut pair = Pair::fresh(&vec![0; file.len() + 1]);
         let made = 1 + random.below(whole as i64 - 1) as u64;
-        check_grant(&file, &mut marks, &mut state, made);
+        assert_eq!(pair.grant(&file, made, &mut compared), Ok((-1, made)), "seed {seed}");
         let most = 2 * file.len() as u64 + 10;
-        let (answer, steps) = check_grant(&other, &mut marks, &mut state, most);
+        let (answer, steps) = pair.grant(&other, most, &mut compared).expect("the same");
         assert!((0..=14).contains(&answer) || answer == 20, "seed {seed}: {answer}");
         assert!(steps < most, "seed {seed}");
-        past_the_end += u64::from(answer == 20);
     }
-    assert!(past_the_end > 0);
+    assert!([0, 7, 8, 10, 11, 13, 20].iter().all(|answer| compared.answers.contains_key(answer)));
 }

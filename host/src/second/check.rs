@@ -1,32 +1,55 @@
-//! The check, step by step (document 01, section of that name).
+//! The check, step by step (document 01, section of that name), from one saved state to the next.
+//!
+//! A step looks at the state, the file and the marks that it is lent, and at nothing else; docs/STATE.md gives the
+//! order in which it does so.
 
 use super::bytes::length;
-use super::rules::{self, Record};
-use super::walk::Walk;
+use super::rules::{self, Breach, Record};
+use super::state::{self, Link, Phase, Point};
+use super::walk;
+
+pub use super::state::{State, FRESH, STATE_LENGTH};
 
 /// No verdict yet.
 pub const RUNNING: i32 = -1;
 /// The file is accepted.
 pub const ACCEPTED: i32 = 0;
+/// A saved state of another length, a saved number out of its range, or a needed field past the file's end.
+pub const BAD_STATE: i32 = 20;
 /// The file length differs from the one noted at opening, or the marks are now shorter than it.
 pub const OTHER_FILE: i32 = 21;
 
 const FIRST_RECORD: i64 = 8;
 
-/// A check under way: fresh, running or finished.
-#[derive(Clone, Debug, PartialEq, Eq)]
-pub struct Check {
-    verdict: i32,
-    steps: u64,
-    noted_length: Option<i64>,
-    phase: Phase,
+/// How a step finishes the check.
+#[derive(Clone, Copy, Debug, PartialEq, Eq)]
+pub enum End {
+    /// 0, or the number of a refusal that speaks of the file.
+    Verdict(i32),
+    /// 20: a saved number is out of its range.
+    OutOfRange,
+    /// 20: what is named here lies past the file's end.
+    PastEnd(&'static str),
 }
 
-#[derive(Clone, Debug, PartialEq, Eq)]
-enum Phase {
-    Opening,
-    Sweep { offset: i64 },
-    Walk(Walk),
+impl End {
+    /// The verdict that the check is finished with.
+    pub fn verdict(self) -> i32 {
+        match self {
+            End::Verdict(verdict) => verdict,
+            End::OutOfRange | End::PastEnd(_) => BAD_STATE,
+        }
+    }
+}
+
+impl From<Breach> for End {
+    fn from(breach: Breach) -> End {
+        match breach {
+            Breach::Rule => End::Verdict(10),
+            Breach::Ranges => End::Verdict(12),
+            Breach::PastEnd(what) => End::PastEnd(what),
+        }
+    }
 }
 
 /// What a grant answers.
@@ -38,6 +61,13 @@ pub struct Granted {
     pub steps: u64,
 }
 
+/// A check under way: its saved state, and the steps made since it began or was loaded.
+#[derive(Clone, Debug, PartialEq, Eq)]
+pub struct Check {
+    state: State,
+    steps: u64,
+}
+
 impl Default for Check {
     fn default() -> Check {
         Check::fresh()
@@ -47,15 +77,25 @@ impl Default for Check {
 impl Check {
     /// The check before its first step.
     pub fn fresh() -> Check {
-        Check { verdict: RUNNING, steps: 0, noted_length: None, phase: Phase::Opening }
+        Check::load(FRESH)
+    }
+
+    /// The check that a saved state says, whatever its numbers are.
+    pub fn load(state: State) -> Check {
+        Check { state, steps: 0 }
+    }
+
+    /// The saved state.
+    pub fn state(&self) -> State {
+        self.state
     }
 
     /// -1 while running, 0 accepted, or the number of the refusing step.
     pub fn verdict(&self) -> i32 {
-        self.verdict
+        state::verdict(&self.state).unwrap_or(RUNNING)
     }
 
-    /// Steps made since the fresh check, the finishing one included.
+    /// Steps made since the check began or was loaded, the finishing one included.
     pub fn steps(&self) -> u64 {
         self.steps
     }
@@ -67,40 +107,9 @@ impl Check {
 
     /// Makes as many steps as are granted or as remain.
     pub fn grant(&mut self, file: &[u8], marks: &mut [u8], steps: u64) -> Granted {
-        if self.verdict != RUNNING || steps == 0 {
-            return Granted { verdict: self.verdict, steps: 0 };
-        }
-        if self.is_other_file(file, marks) {
-            return Granted { verdict: OTHER_FILE, steps: 0 };
-        }
-        let mut made = 0;
-        while made < steps && self.verdict == RUNNING {
-            self.make_step(file, marks);
-            made += 1;
-        }
-        Granted { verdict: self.verdict, steps: made }
-    }
-
-    /// 21: looked for once a length is noted.
-    fn is_other_file(&self, file: &[u8], marks: &[u8]) -> bool {
-        self.noted_length.is_some_and(|noted| noted != length(file) || length(marks) < noted)
-    }
-
-    /// One step: the next phase, or the verdict that finishes the check.
-    fn make_step(&mut self, file: &[u8], marks: &mut [u8]) {
-        self.steps = self.steps.saturating_add(1);
-        let next = match &self.phase {
-            Phase::Opening => open(file, marks),
-            Phase::Sweep { offset } => sweep(file, marks, *offset),
-            Phase::Walk(walk) => walk.step(file, marks).map(Phase::Walk),
-        };
-        match next {
-            Ok(phase) => {
-                self.noted_length = Some(length(file));
-                self.phase = phase;
-            }
-            Err(verdict) => self.verdict = verdict,
-        }
+        let granted = grant(file, marks, &mut self.state, steps);
+        self.steps = self.steps.saturating_add(granted.steps);
+        granted
     }
 }
 
@@ -109,32 +118,84 @@ pub fn run(file: &[u8], marks: &mut [u8]) -> Granted {
     Check::fresh().grant(file, marks, u64::MAX)
 }
 
+/// A grant of steps on a saved state of any length.
+pub fn grant(file: &[u8], marks: &mut [u8], state: &mut [u32], steps: u64) -> Granted {
+    watched_grant(file, marks, state, steps, &mut |_, _| {})
+}
+
+/// The same, each step being shown: the state before it, and how it finishes the check if it does.
+pub fn watched_grant(
+    file: &[u8],
+    marks: &mut [u8],
+    state: &mut [u32],
+    steps: u64,
+    watch: &mut dyn FnMut(&State, Option<End>),
+) -> Granted {
+    let Ok(state) = <&mut State>::try_from(state) else {
+        return Granted { verdict: BAD_STATE, steps: 0 };
+    };
+    if let Some(verdict) = state::verdict(state) {
+        return Granted { verdict, steps: 0 };
+    }
+    if steps == 0 {
+        return Granted { verdict: RUNNING, steps: 0 };
+    }
+    if is_other_file(file, marks, state) {
+        return Granted { verdict: OTHER_FILE, steps: 0 };
+    }
+    let mut made = 0;
+    while made < steps && state::verdict(state).is_none() {
+        let after = step(file, marks, state);
+        watch(state, after.err());
+        *state = after.unwrap_or_else(|end| state::finished(end.verdict()));
+        made += 1;
+    }
+    Granted { verdict: state::verdict(state).unwrap_or(RUNNING), steps: made }
+}
+
+/// 21: looked for once a length is noted.
+fn is_other_file(file: &[u8], marks: &[u8], state: &State) -> bool {
+    let noted = i64::from(state[1]);
+    noted != 0 && (noted != length(file) || length(marks) < noted)
+}
+
+/// One step: the state after it, or how it finishes the check.
+fn step(file: &[u8], marks: &mut [u8], state: &State) -> Result<State, End> {
+    let now = Point::load(state).ok_or(End::OutOfRange)?;
+    let next = match now.phase {
+        Phase::Fresh => open(file, marks),
+        Phase::Sweep => sweep(file, marks, now.link),
+        Phase::Walk(link) => walk::step(file, marks, link, &now),
+    };
+    next.map(|next| next.save())
+}
+
 /// The opening: 1, 2, then 3, 4, 5, 14, 6.
-fn open(file: &[u8], marks: &[u8]) -> Result<Phase, i32> {
+fn open(file: &[u8], marks: &[u8]) -> Result<Point, End> {
     if !rules::length_carried(file) {
-        return Err(1);
+        return Err(End::Verdict(1));
     }
     if marks.len() < file.len() {
-        return Err(2);
+        return Err(End::Verdict(2));
     }
-    rules::opening(file)?;
-    Ok(Phase::Sweep { offset: FIRST_RECORD })
+    rules::opening(file).map_err(End::Verdict)?;
+    Ok(Point::new(length(file), Phase::Sweep, 0, FIRST_RECORD))
 }
 
 /// One step of the sweep: 7, then 14 for types 10 to 13, then the record's marks.
-fn sweep(file: &[u8], marks: &mut [u8], offset: i64) -> Result<Phase, i32> {
-    let record = Record::at(file, offset).filter(Record::is_inside).ok_or(7)?;
+fn sweep(file: &[u8], marks: &mut [u8], offset: i64) -> Result<Point, End> {
+    let record = Record::at(file, offset).filter(Record::is_inside).ok_or(End::Verdict(7))?;
     match record.record_type {
-        -1 | 1..=9 => {}
-        10..=13 => return Err(14),
-        _ => return Err(7),
+        Some(-1 | 1..=9) => {}
+        Some(10..=13) => return Err(End::Verdict(14)),
+        _ => return Err(End::Verdict(7)),
     }
     let end = offset.saturating_add(record.size);
     set_marks(marks, offset, end);
     if end == length(file) {
-        return Ok(Phase::Walk(Walk::fresh()));
+        return Ok(Point::new(end, Phase::Walk(Link::Gdr), 0, 0));
     }
-    Ok(Phase::Sweep { offset: end })
+    Ok(Point::new(length(file), Phase::Sweep, 0, end))
 }
 
 /// Mark 1 at the record's start, 0 at its other bytes.

@@ -1,14 +1,16 @@
-//! The second implementation of document 01.
+//! The second implementation of document 01, with the saved state of docs/STATE.md.
 //!
 //! `bytes`, `tables` and `rules` say what fields, numbers and records are;
-//! `check` makes the steps, `read` gives values and descriptors, and `dump`
-//! writes all that the reader finds in a file as text.
+//! `check` makes the steps from one saved state (`state`) to the next, `read`
+//! gives values and descriptors, and `dump` writes all that the reader finds
+//! in a file as text.
 
 pub mod bytes;
 pub mod check;
 pub mod dump;
 pub mod read;
 pub mod rules;
+pub mod state;
 pub mod tables;
 mod walk;
 mod way;

@@ -1,15 +1,18 @@
-//! Each record's rule (document 01, "Records"), for the checker and the reader alike.
+//! Each record's rule (document 01, "Records"), for the checker and the reader alike, judged in the order of docs/STATE.md.
 
 use super::bytes::{field, length};
 use super::tables::{self, record_type, DataType, Encoding, VariableKind, GREATEST};
+use std::ops::RangeInclusive;
 
-/// Why a record does not meet its rule.
+/// Why a record or an index entry does not meet its rule.
 #[derive(Clone, Copy, Debug, PartialEq, Eq)]
 pub(crate) enum Breach {
     /// Its fields or its size are wrong, or its own size ends before a field it is judged by.
     Rule,
-    /// A field lies inside the record's own size, but past the end of the file.
-    PastEnd,
+    /// The entry's range is wrong.
+    Ranges,
+    /// What is named here lies past the end of the file.
+    PastEnd(&'static str),
 }
 
 /// A record: where it starts, its own size and its type.
@@ -20,15 +23,15 @@ pub(crate) struct Record<'a> {
     pub offset: i64,
     /// The size it states.
     pub size: i64,
-    /// The type it states.
-    pub record_type: i64,
+    /// The type it states, if that lies in the file.
+    pub record_type: Option<i64>,
 }
 
 impl<'a> Record<'a> {
-    /// The record at this offset, if its size and type lie in the file.
+    /// The record at this offset, if its size lies in the file.
     pub fn at(file: &'a [u8], offset: i64) -> Option<Record<'a>> {
         let size = field(file, offset)?;
-        let record_type = field(file, offset.checked_add(4)?)?;
+        let record_type = field(file, offset.checked_add(4)?);
         Some(Record { file, offset, size, record_type })
     }
 
@@ -37,15 +40,18 @@ impl<'a> Record<'a> {
         self.size >= 8 && self.offset.saturating_add(self.size) <= length(self.file)
     }
 
-    /// The field at this place of the record: own size first, the file's end second.
-    pub fn field(&self, at: i64) -> Result<i64, Breach> {
-        demand(self.size >= at.saturating_add(4))?;
-        field(self.file, self.offset.saturating_add(at)).ok_or(Breach::PastEnd)
+    /// It has so many bytes, which hold the fields it is judged by: own size first, the file's end second.
+    fn holds(&self, bytes: i64) -> Result<(), Breach> {
+        demand(self.size >= bytes)?;
+        if self.offset.saturating_add(bytes) > length(self.file) {
+            return Err(Breach::PastEnd("fields"));
+        }
+        Ok(())
     }
 
-    /// `count` fields in a row.
-    fn fields(&self, at: i64, count: i64) -> Result<Vec<i64>, Breach> {
-        (0..count).map(|n| self.field(at + 4 * n)).collect()
+    /// The field at this place of the record.
+    fn field(&self, at: i64) -> Result<i64, Breach> {
+        needed(self.file, self.offset.saturating_add(at), "fields")
     }
 
     /// The name of up to 64 bytes that stands here.
@@ -64,6 +70,16 @@ fn demand(met: bool) -> Result<(), Breach> {
     } else {
         Err(Breach::Rule)
     }
+}
+
+/// A field that must lie in the file.
+fn needed(file: &[u8], offset: i64, what: &'static str) -> Result<i64, Breach> {
+    field(file, offset).ok_or(Breach::PastEnd(what))
+}
+
+/// So many fields in a row.
+fn row(file: &[u8], offset: i64, count: i64, what: &'static str) -> Result<Vec<i64>, Breach> {
+    (0..count).map(|number| needed(file, offset.saturating_add(4 * number), what)).collect()
 }
 
 /// A name: where it stands in the file, and its length up to the NUL.
@@ -99,6 +115,11 @@ const PLAIN: i64 = 0x0000_FFFF;
 const COMPRESSED: i64 = 0xCCCC_0001_u32 as i32 as i64;
 const CDR_OFFSET: i64 = 8;
 const CDR_SIZE: i64 = 304;
+/// The GDR's dimension count of the rVariables, and where their sizes begin.
+const GDR_DIMENSIONS: i64 = 36;
+const GDR_SIZES: i64 = 60;
+/// How many dimensions a variable may have.
+const DIMENSIONS: RangeInclusive<i64> = 0..=10;
 
 /// The opening from refusal 3 on: 3, 4, 5, 14, 6 in that order.
 pub(crate) fn opening(file: &[u8]) -> Result<Header, i32> {
@@ -133,7 +154,7 @@ fn cdr(file: &[u8]) -> Option<(i64, Encoding)> {
     let version = record.field(12).ok()?;
     let encoding = tables::encoding(record.field(20).ok()?)?;
     let flags = record.field(24).ok()?;
-    let met = record.record_type == record_type::CDR
+    let met = record.record_type == Some(record_type::CDR)
         && record.size == CDR_SIZE
         && version == 2
         && (0..=3).contains(&flags);
@@ -145,7 +166,7 @@ fn gdr(file: &[u8], row_majority: bool, encoding: Encoding) -> Option<Header> {
     let offset = field(file, CDR_OFFSET + 8)?;
     let record = Record::at(file, offset)?;
     let number = |at: i64| record.field(at).ok();
-    let sizes = r_sizes(&record).ok()?;
+    let dimensions = number(GDR_DIMENSIONS).filter(|count| DIMENSIONS.contains(count))?;
     let header = Header {
         gdr: offset,
         row_majority,
@@ -153,25 +174,18 @@ fn gdr(file: &[u8], row_majority: bool, encoding: Encoding) -> Option<Header> {
         r_variables: number(24)?,
         z_variables: number(40)?,
         attributes: number(28)?,
-        sizes,
+        sizes: row(file, offset + GDR_SIZES, dimensions, "sizes").ok()?,
     };
     let counts = [header.r_variables, header.z_variables, header.attributes];
     let met = offset >= CDR_OFFSET + CDR_SIZE
-        && record.record_type == record_type::GDR
+        && record.record_type == Some(record_type::GDR)
         && record.is_inside()
-        && record.size == 60 + 4 * number(36)?
+        && record.size == GDR_SIZES + 4 * dimensions
         && header.sizes.iter().all(|size| *size >= 1)
         && counts.iter().all(|count| *count >= 0)
         && number(32)? >= -1
         && number(20)? == length(file);
     met.then_some(header)
-}
-
-/// The rVariables' dimension sizes as the GDR has them, 0 to 10.
-pub(crate) fn r_sizes(gdr: &Record) -> Result<Vec<i64>, Breach> {
-    let count = gdr.field(36)?;
-    demand((0..=10).contains(&count))?;
-    gdr.fields(60, count)
 }
 
 /// A VDR's fields.
@@ -214,34 +228,29 @@ impl Variable {
     }
 }
 
-/// Flags bit 2, looked at only in a VDR of 32 bytes or more.
-pub(crate) fn is_compressed(vdr: &Record) -> Result<bool, Breach> {
-    Ok(vdr.size >= 32 && vdr.field(28)? & 4 != 0)
+/// Flags bit 2, looked at only in a VDR of 32 bytes or more, and only if Flags lie in the file.
+pub(crate) fn is_compressed(vdr: &Record) -> bool {
+    vdr.size >= 32 && vdr.field(28).is_ok_and(|flags| flags & 4 != 0)
 }
 
-/// The VDR's rule, Flags bit 2 aside.
-pub(crate) fn variable(
-    vdr: &Record,
-    kind: &VariableKind,
-    r_sizes: &[i64],
-) -> Result<Variable, Breach> {
-    let fixed = if kind.own_dimensions { 132 } else { 128 };
-    demand(vdr.size >= fixed)?;
+/// The VDR's rule, Flags bit 2 aside: its own size, its fields, then its dimensions.
+pub(crate) fn variable(vdr: &Record, kind: &VariableKind, gdr: i64) -> Result<Variable, Breach> {
+    vdr.holds(fixed_bytes(kind))?;
     let data_type = tables::data_type(vdr.field(12)?).ok_or(Breach::Rule)?;
-    let flags = vdr.field(28)?;
-    let elements = vdr.field(48)?;
+    let (flags, elements) = (vdr.field(28)?, vdr.field(48)?);
+    let (max_rec, s_records) = (vdr.field(16)?, vdr.field(32)?);
     demand(elements == 1 || elements > 1 && data_type.form == tables::Form::Character)?;
-    demand((0..=7).contains(&flags))?;
+    demand((0..=7).contains(&flags) && max_rec >= -1 && (0..=2).contains(&s_records))?;
     let pad_bytes = if flags & 2 != 0 { elements * data_type.size } else { 0 };
-    let (sizes, variances) = dimensions(vdr, kind, r_sizes, fixed, pad_bytes)?;
-    let found = Variable {
+    let (sizes, variances) = dimensions(vdr, kind, gdr, pad_bytes)?;
+    Ok(Variable {
         offset: vdr.offset,
         data_type,
-        max_rec: vdr.field(16)?,
+        max_rec,
         vxr_head: vdr.field(20)?,
         vxr_tail: vdr.field(24)?,
         flags,
-        s_records: vdr.field(32)?,
+        s_records,
         elements,
         number: vdr.field(52)?,
         name: vdr.name(64),
@@ -249,33 +258,41 @@ pub(crate) fn variable(
         sizes,
         variances,
         pad: (flags & 2 != 0).then_some(vdr.offset + vdr.size - pad_bytes),
-    };
-    demand(found.max_rec >= -1 && (0..=2).contains(&found.s_records))?;
-    Ok(found)
+    })
 }
 
-/// The exact size of a VDR, then its dimension sizes and variances.
+/// Bytes of a VDR before its sizes and variances.
+fn fixed_bytes(kind: &VariableKind) -> i64 {
+    if kind.own_dimensions {
+        132
+    } else {
+        128
+    }
+}
+
+/// A VDR's dimension count, its exact size, then its dimension sizes and variances. The count and the sizes of an
+/// rVariable stand in the GDR.
 fn dimensions(
     vdr: &Record,
     kind: &VariableKind,
-    r_sizes: &[i64],
-    fixed: i64,
+    gdr: i64,
     pad_bytes: i64,
 ) -> Result<(Vec<i64>, Vec<bool>), Breach> {
-    let own = if kind.own_dimensions { vdr.field(128)? } else { 0 };
-    demand((0..=10).contains(&own))?;
-    let all = if kind.own_dimensions { own } else { length_of(r_sizes) };
-    demand(vdr.size == fixed + 4 * own + 4 * all + pad_bytes)?;
-    let sizes = if kind.own_dimensions { vdr.fields(132, own)? } else { r_sizes.to_vec() };
-    let variances = vdr.fields(fixed + 4 * own, all)?;
+    let (count_at, sizes_at) = if kind.own_dimensions {
+        (vdr.offset + 128, vdr.offset + 132)
+    } else {
+        (gdr + GDR_DIMENSIONS, gdr + GDR_SIZES)
+    };
+    let count = needed(vdr.file, count_at, "dimension count")?;
+    demand(DIMENSIONS.contains(&count))?;
+    let own_sizes = if kind.own_dimensions { 4 * count } else { 0 };
+    let variances_at = fixed_bytes(kind) + own_sizes;
+    demand(vdr.size == variances_at + 4 * count + pad_bytes)?;
+    let sizes = row(vdr.file, sizes_at, count, "dimension sizes")?;
+    let variances = row(vdr.file, vdr.offset + variances_at, count, "variances")?;
     demand(sizes.iter().all(|size| *size >= 1))?;
     demand(variances.iter().all(|variance| (-1..=0).contains(variance)))?;
     Ok((sizes, variances.iter().map(|variance| *variance == -1).collect()))
-}
-
-/// How many sizes there are.
-fn length_of(sizes: &[i64]) -> i64 {
-    i64::try_from(sizes.len()).unwrap_or(i64::from(u32::MAX))
 }
 
 /// Bytes of one record: the value's bytes times the sizes of varying dimensions.
@@ -317,30 +334,35 @@ impl IndexEntry {
     pub fn covers(&self, record: i64) -> bool {
         (self.first..=self.last).contains(&record)
     }
-
-    /// First at least 0 and above the previous Last (-1 if there is none), Last at least First.
-    pub fn rises_above(&self, previous_last: i64) -> bool {
-        self.first >= 0 && self.first > previous_last && self.last >= self.first
-    }
 }
 
 impl Index {
-    /// The used entry of this number, if it lies in the file.
-    pub fn entry(&self, file: &[u8], number: i64) -> Option<IndexEntry> {
+    /// What the VXR at this offset says, unjudged; nothing if it does not lie in the file.
+    pub fn at(file: &[u8], offset: i64) -> Option<Index> {
+        let entries = field(file, offset.checked_add(12)?)?;
+        let used = field(file, offset.checked_add(16)?)?;
+        Some(Index { offset, entries, used })
+    }
+
+    /// The entry of this number: First at least 0 and at least the floor, Last at least First; then its offset.
+    pub fn entry(&self, file: &[u8], number: i64, floor: i64) -> Result<IndexEntry, Breach> {
         let at = |column: i64| self.offset + 20 + 4 * (column * self.entries + number);
-        Some(IndexEntry {
-            first: field(file, at(0))?,
-            last: field(file, at(1))?,
-            values: field(file, at(2))?,
-        })
+        let first = needed(file, at(0), "First")?;
+        if first < 0 || first < floor {
+            return Err(Breach::Ranges);
+        }
+        let last = needed(file, at(1), "Last")?;
+        if last < first {
+            return Err(Breach::Ranges);
+        }
+        Ok(IndexEntry { first, last, values: needed(file, at(2), "Offset")? })
     }
 }
 
 /// The VXR's rule.
 pub(crate) fn index(vxr: &Record) -> Result<Index, Breach> {
-    demand(vxr.size >= 20)?;
-    let entries = vxr.field(12)?;
-    let used = vxr.field(16)?;
+    vxr.holds(20)?;
+    let (entries, used) = (vxr.field(12)?, vxr.field(16)?);
     demand((0..=entries).contains(&used) && vxr.size == 20 + 12 * entries)?;
     Ok(Index { offset: vxr.offset, entries, used })
 }
@@ -373,6 +395,7 @@ pub struct Attribute {
 
 /// The ADR's rule.
 pub(crate) fn attribute(adr: &Record) -> Result<Attribute, Breach> {
+    adr.holds(116)?;
     demand(adr.size == 116)?;
     let scope = adr.field(16)?;
     demand(scope == 1 || scope == 2)?;
@@ -405,7 +428,7 @@ pub struct Entry {
 
 /// The AEDR's rule.
 pub(crate) fn entry(aedr: &Record) -> Result<Entry, Breach> {
-    demand(aedr.size >= 48)?;
+    aedr.holds(48)?;
     let data_type = tables::data_type(aedr.field(16)?).ok_or(Breach::Rule)?;
     let number = aedr.field(20)?;
     let elements = aedr.field(24)?;
@@ -417,6 +440,6 @@ pub(crate) fn entry(aedr: &Record) -> Result<Entry, Breach> {
 
 /// The rule of a listed UIR: 16 bytes or more. Gives the previous UIR it names.
 pub(crate) fn unused(uir: &Record) -> Result<i64, Breach> {
-    demand(uir.size >= 16)?;
+    uir.holds(16)?;
     uir.field(12)
 }

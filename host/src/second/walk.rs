@@ -1,347 +1,291 @@
-//! The walk (document 01, "The check, step by step", 3): one step a link.
+//! The walk (document 01, "The check, step by step", 3): one step a link, each test in the order of docs/STATE.md.
 
 use super::bytes::{field, length};
-use super::rules::{self, Breach, Index, IndexEntry, Record};
+use super::check::{End, ACCEPTED};
+use super::rules::{self, Index, Record};
+use super::state::{Link, Phase, Point};
 use super::tables::{
-    record_type, EntryKind, VariableKind, GR_ENTRIES, R_VARIABLES, Z_ENTRIES, Z_VARIABLES,
+    entry_kind, record_type, variable_kind, EntryKind, VariableKind, GR_ENTRIES, R_VARIABLES,
+    Z_ENTRIES, Z_VARIABLES,
 };
 
-/// The walk before one of its links.
-#[derive(Clone, Debug, PartialEq, Eq)]
-pub struct Walk {
-    link: Link,
-    /// File offset of the GDR, 0 before it is claimed.
-    gdr: i64,
-    /// The list of variables, attributes or unused records.
-    outer: List,
-    /// The variable's index chain or the attribute's list of entries.
-    inner: List,
-    chain: Chain,
-}
+/// File offset of the CDR's link to the GDR.
+const GDR_LINK: i64 = 16;
+/// File offset of the CDR, which is the first record.
+const CDR: i64 = 8;
+/// What a negative link stands for: an offset where no record starts.
+const NO_START: i64 = 1;
+/// The count of entries at which counting stops.
+const MOST_ENTRIES: i64 = 2_147_483_648;
 
-/// The link that the next step takes.
-#[derive(Clone, Copy, Debug, PartialEq, Eq)]
-enum Link {
-    Gdr,
-    Variable(&'static VariableKind),
-    Index(&'static VariableKind),
-    Values(&'static VariableKind, Index, i64),
-    Attribute,
-    Entry(&'static EntryKind),
-    Unused,
-}
-
-/// A list as far as it is walked.
-#[derive(Clone, Copy, Debug, PartialEq, Eq)]
-struct List {
-    length: i64,
-    /// The greatest MaxRec or entry number met, or -1.
-    greatest: i64,
-    /// File offset of the last record met, or 0.
-    last: i64,
-}
-
-impl List {
-    const EMPTY: List = List { length: 0, greatest: -1, last: 0 };
-
-    fn with(&self, record: &Record, number: i64) -> List {
-        List {
-            length: self.length.saturating_add(1),
-            greatest: self.greatest.max(number),
-            last: record.offset,
-        }
+/// Takes one link: the point after it, or how it finishes the check.
+pub(super) fn step(file: &[u8], marks: &mut [u8], link: Link, now: &Point) -> Result<Point, End> {
+    let (claimed, next) = Step { file, marks, now }.take(link)?;
+    let claimed = claimed.and_then(|offset| usize::try_from(offset).ok());
+    if let Some(mark) = claimed.and_then(|at| marks.get_mut(at)) {
+        *mark = 2;
     }
-
-    /// Where the next link stands: in the last record, or in the head.
-    fn link_field(&self, head: i64) -> i64 {
-        if self.last == 0 {
-            head
-        } else {
-            self.last + 8
-        }
-    }
+    Ok(next)
 }
 
-/// A variable's index chain: what its VDR says and what the entries taken so far leave.
-#[derive(Clone, Copy, Debug, PartialEq, Eq)]
-struct Chain {
-    record_bytes: i64,
-    max_rec: i64,
-    previous_last: i64,
-    /// MaxRec lies in the range of an entry taken.
-    covered: bool,
-}
+/// What a step leads to: the offset of the record it claims, if it does, and the point after it.
+type Taken = (Option<i64>, Point);
 
-impl Chain {
-    const NONE: Chain = Chain { record_bytes: 0, max_rec: -1, previous_last: -1, covered: false };
-}
-
-/// The refusal of a claimed record that breaks its rule.
-fn refusal(breach: Breach) -> i32 {
-    match breach {
-        Breach::Rule => 10,
-        Breach::PastEnd => 20,
-    }
-}
-
-/// A field that the walk needs: 20 past the end.
-fn needed(file: &[u8], offset: i64) -> Result<i64, i32> {
-    field(file, offset).ok_or(20)
+/// A step of the walk: the file and the marks that it is lent, and where it stands.
+struct Step<'a> {
+    file: &'a [u8],
+    marks: &'a [u8],
+    now: &'a Point,
 }
 
 /// The refusal of this number unless the clause is met.
-fn demand(met: bool, number: i32) -> Result<(), i32> {
+fn demand(met: bool, number: i32) -> Result<(), End> {
     if met {
         Ok(())
     } else {
-        Err(number)
+        Err(End::Verdict(number))
     }
 }
 
-/// The mark at a file offset.
-fn mark_at(marks: &[u8], offset: i64) -> Option<u8> {
-    usize::try_from(offset).ok().and_then(|at| marks.get(at)).copied()
-}
-
-impl Walk {
-    /// Before the CDR's link to the GDR.
-    pub fn fresh() -> Walk {
-        Walk { link: Link::Gdr, gdr: 0, outer: List::EMPTY, inner: List::EMPTY, chain: Chain::NONE }
-    }
-
-    /// Takes one link: the walk after it, or the verdict that ends the check.
-    pub fn step(&self, file: &[u8], marks: &mut [u8]) -> Result<Walk, i32> {
-        let link = needed(file, self.link_field())?;
-        let entry = self.index_entry(file)?;
-        if link == 0 {
-            return self.end_of_list(file, marks);
-        }
-        let record = self.record_start(file, marks, link)?;
-        let next = self.claim(file, &record, entry)?;
-        let mark = usize::try_from(link).ok().and_then(|at| marks.get_mut(at));
-        if let Some(mark) = mark {
-            *mark = 2;
-        }
-        Ok(next)
-    }
-
-    /// File offset of the link that is taken now.
-    fn link_field(&self) -> i64 {
-        match self.link {
-            Link::Gdr => 16,
-            Link::Variable(kind) => self.outer.link_field(self.gdr + kind.head),
-            Link::Index(_) => self.inner.link_field(self.outer.last + 20),
-            Link::Values(_, index, number) => index.offset + 20 + 8 * index.entries + 4 * number,
-            Link::Attribute => self.outer.link_field(self.gdr + 16),
-            Link::Entry(kind) => self.inner.link_field(self.outer.last + kind.head),
-            Link::Unused => self.outer.link_field(self.gdr + 44),
+impl<'a> Step<'a> {
+    fn take(&self, link: Link) -> Result<Taken, End> {
+        match link {
+            Link::Gdr => self.take_gdr(),
+            Link::Variable => self.take_variable(),
+            Link::Index => self.take_index(),
+            Link::Values => self.take_values(),
+            Link::Attribute => self.take_attribute(),
+            Link::Entry => self.take_entry(),
+            Link::Unused => self.take_unused(),
         }
     }
 
-    /// The type of record the link must lead to.
-    fn wanted_type(&self) -> i64 {
-        match self.link {
-            Link::Gdr => record_type::GDR,
-            Link::Variable(kind) => kind.record_type,
-            Link::Index(_) => record_type::VXR,
-            Link::Values(..) => record_type::VVR,
-            Link::Attribute => record_type::ADR,
-            Link::Entry(kind) => kind.record_type,
-            Link::Unused => record_type::UIR,
-        }
+    /// A field that the step needs: 20 past the end.
+    fn needed(&self, offset: i64, what: &'static str) -> Result<i64, End> {
+        field(self.file, offset).ok_or(End::PastEnd(what))
     }
 
-    /// The index entry whose offset is the link, if it is one: 12 if its range does not rise.
-    fn index_entry(&self, file: &[u8]) -> Result<Option<IndexEntry>, i32> {
-        let Link::Values(_, index, number) = self.link else {
-            return Ok(None);
-        };
-        let entry = index.entry(file, number).ok_or(20)?;
-        demand(entry.rises_above(self.chain.previous_last), 12)?;
-        Ok(Some(entry))
+    /// The link that is taken now.
+    fn link(&self) -> Result<i64, End> {
+        self.needed(self.now.link, "link")
     }
 
-    /// 8 for place, 8 for type, 9.
-    fn record_start<'a>(&self, file: &'a [u8], marks: &[u8], link: i64) -> Result<Record<'a>, i32> {
-        demand(link >= 8 && link < length(file), 8)?;
-        let mark = mark_at(marks, link);
+    /// File offset of the GDR: where the CDR's link says.
+    fn gdr(&self) -> Result<i64, End> {
+        let link = self.needed(GDR_LINK, "CDR's link")?;
+        Ok(if link < 0 { NO_START } else { link })
+    }
+
+    /// The kind of the variables whose list or index is walked.
+    fn variable_kind(&self) -> Result<&'static VariableKind, End> {
+        variable_kind(self.now.kind).ok_or(End::OutOfRange)
+    }
+
+    /// The kind of the entries whose list is walked.
+    fn entry_kind(&self) -> Result<&'static EntryKind, End> {
+        entry_kind(self.now.kind).ok_or(End::OutOfRange)
+    }
+
+    fn mark_at(&self, offset: i64) -> Option<u8> {
+        usize::try_from(offset).ok().and_then(|at| self.marks.get(at)).copied()
+    }
+
+    /// The record that a link leads to: 8 for place, 8 for type, 9.
+    fn record(&self, link: i64, wanted_type: i64) -> Result<Record<'a>, End> {
+        demand(link >= CDR && link < length(self.file), 8)?;
+        let mark = self.mark_at(link);
         demand(matches!(mark, Some(1 | 2)), 8)?;
-        let record = Record::at(file, link).ok_or(20)?;
-        demand(record.record_type == self.wanted_type(), 8)?;
+        let record = self.record_start(link, "size and type")?;
+        demand(record.record_type == Some(wanted_type), 8)?;
         demand(mark == Some(1), 9)?;
         Ok(record)
     }
 
-    /// 14, 10, 11, then the walk goes on with the record's own links.
-    fn claim(&self, file: &[u8], record: &Record, entry: Option<IndexEntry>) -> Result<Walk, i32> {
-        match self.link {
-            Link::Gdr => Ok(Walk { gdr: record.offset, ..self.list(Link::Variable(&R_VARIABLES)) }),
-            Link::Variable(kind) => self.claim_variable(file, record, kind),
-            Link::Index(kind) => self.claim_index(record, kind),
-            Link::Values(kind, index, number) => {
-                let entry = entry.ok_or(20)?;
-                self.claim_values(record, entry, self.after_entry(kind, index, number))
-            }
-            Link::Attribute => self.claim_attribute(record),
-            Link::Entry(kind) => self.claim_entry(file, record, kind),
-            Link::Unused => self.claim_unused(record),
-        }
+    /// The record at an offset: 20 if its size and type do not lie in the file.
+    fn record_start(&self, offset: i64, what: &'static str) -> Result<Record<'a>, End> {
+        let has_type = |record: &Record| record.record_type.is_some();
+        Record::at(self.file, offset).filter(has_type).ok_or(End::PastEnd(what))
     }
 
-    /// The walk before the head of another of the GDR's lists.
-    fn list(&self, link: Link) -> Walk {
-        Walk { link, outer: List::EMPTY, inner: List::EMPTY, chain: Chain::NONE, gdr: self.gdr }
+    /// The point at the head of one of the GDR's lists.
+    fn head(&self, link: Link, kind: i64, at: i64) -> Point {
+        Point::new(self.now.length, Phase::Walk(link), kind, at)
+    }
+
+    /// The CDR's link to the GDR; a zero one is no start.
+    fn take_gdr(&self) -> Result<Taken, End> {
+        let link = self.needed(GDR_LINK, "CDR's link")?;
+        let gdr = self.record(link, record_type::GDR)?;
+        let head = gdr.offset + R_VARIABLES.head;
+        Ok((Some(gdr.offset), self.head(Link::Variable, R_VARIABLES.record_type, head)))
     }
 
     /// A VDR: 14 for Flags bit 2, its rule, its number; then its VXRhead.
-    fn claim_variable(
-        &self,
-        file: &[u8],
-        record: &Record,
-        kind: &'static VariableKind,
-    ) -> Result<Walk, i32> {
-        demand(!rules::is_compressed(record).map_err(refusal)?, 14)?;
-        let r_sizes = if kind.own_dimensions { Vec::new() } else { self.r_sizes(file)? };
-        let variable = rules::variable(record, kind, &r_sizes).map_err(refusal)?;
-        demand(variable.number == self.outer.length, 11)?;
-        Ok(Walk {
-            link: Link::Index(kind),
-            gdr: self.gdr,
-            outer: self.outer.with(record, variable.max_rec),
-            inner: List::EMPTY,
-            chain: Chain {
-                record_bytes: variable.record_bytes,
-                max_rec: variable.max_rec,
-                ..Chain::NONE
-            },
-        })
-    }
-
-    /// The rVariables' dimension sizes.
-    fn r_sizes(&self, file: &[u8]) -> Result<Vec<i64>, i32> {
-        let gdr = Record::at(file, self.gdr).ok_or(20)?;
-        rules::r_sizes(&gdr).map_err(|_| 20)
-    }
-
-    /// A VXR: its rule; then its used offsets.
-    fn claim_index(&self, record: &Record, kind: &'static VariableKind) -> Result<Walk, i32> {
-        let index = rules::index(record).map_err(refusal)?;
-        let link = self.after_entry(kind, index, -1);
-        Ok(Walk { link, inner: self.inner.with(record, -1), ..self.clone() })
-    }
-
-    /// The link after a VXR's used entry `number`: the next used one's, or the VXR's next.
-    fn after_entry(&self, kind: &'static VariableKind, index: Index, number: i64) -> Link {
-        if number + 1 < index.used {
-            Link::Values(kind, index, number + 1)
-        } else {
-            Link::Index(kind)
+    fn take_variable(&self) -> Result<Taken, End> {
+        let kind = self.variable_kind()?;
+        let link = self.link()?;
+        if link == 0 {
+            return self.end_of_variables(kind);
         }
-    }
-
-    /// A VVR: its size; then the link after its index entry.
-    fn claim_values(&self, record: &Record, entry: IndexEntry, link: Link) -> Result<Walk, i32> {
-        rules::values(record, &entry, self.chain.record_bytes).map_err(refusal)?;
-        let chain = Chain {
-            previous_last: entry.last,
-            covered: self.chain.covered || entry.covers(self.chain.max_rec),
-            ..self.chain
+        let vdr = self.record(link, kind.record_type)?;
+        demand(!rules::is_compressed(&vdr), 14)?;
+        let variable = rules::variable(&vdr, kind, self.gdr()?)?;
+        demand(variable.number == self.now.count, 11)?;
+        let next = Point {
+            phase: Phase::Walk(Link::Index),
+            link: vdr.offset + 20,
+            greatest: self.now.greatest.max(variable.max_rec + 1),
+            owner: vdr.offset,
+            ..*self.now
         };
-        Ok(Walk { link, chain, ..self.clone() })
+        Ok((Some(vdr.offset), next))
     }
 
-    /// An ADR: its rule, its number; then its AgrEDR head.
-    fn claim_attribute(&self, record: &Record) -> Result<Walk, i32> {
-        let attribute = rules::attribute(record).map_err(refusal)?;
-        demand(attribute.number == self.outer.length, 11)?;
-        let outer = self.outer.with(record, -1);
-        Ok(Walk { link: Link::Entry(&GR_ENTRIES), outer, inner: List::EMPTY, ..self.clone() })
-    }
-
-    /// An AEDR: its rule, its attribute's number; then its next.
-    fn claim_entry(
-        &self,
-        file: &[u8],
-        record: &Record,
-        kind: &'static EntryKind,
-    ) -> Result<Walk, i32> {
-        let entry = rules::entry(record).map_err(refusal)?;
-        let attribute = needed(file, self.outer.last + 20)?;
-        demand(entry.attribute == attribute, 11)?;
-        let inner = self.inner.with(record, entry.number);
-        Ok(Walk { link: Link::Entry(kind), inner, ..self.clone() })
-    }
-
-    /// A listed UIR: its size, the previous one; then its next.
-    fn claim_unused(&self, record: &Record) -> Result<Walk, i32> {
-        let previous = rules::unused(record).map_err(refusal)?;
-        demand(previous == self.outer.last, 11)?;
-        Ok(Walk { outer: self.outer.with(record, -1), ..self.clone() })
-    }
-
-    /// A zero link: the ended list is judged, and the walk goes on behind it.
-    fn end_of_list(&self, file: &[u8], marks: &[u8]) -> Result<Walk, i32> {
-        match self.link {
-            Link::Gdr | Link::Values(..) => Err(8),
-            Link::Variable(kind) => self.end_of_variables(file, kind),
-            Link::Index(kind) => self.end_of_chain(file, kind),
-            Link::Attribute => {
-                demand(needed(file, self.gdr + 28)? == self.outer.length, 11)?;
-                Ok(self.list(Link::Unused))
-            }
-            Link::Entry(kind) => self.end_of_entries(file, kind),
-            Link::Unused => Err(last_verdict(file, marks)),
-        }
-    }
-
-    /// The GDR's count, and rMaxRec for rVariables.
-    fn end_of_variables(&self, file: &[u8], kind: &VariableKind) -> Result<Walk, i32> {
-        demand(needed(file, self.gdr + kind.count)? == self.outer.length, 11)?;
+    /// The GDR's count, and rMaxRec for rVariables; then the next of the GDR's lists.
+    fn end_of_variables(&self, kind: &VariableKind) -> Result<Taken, End> {
+        let gdr = self.gdr()?;
+        demand(self.needed(gdr + kind.count, "count of variables")? == self.now.count, 11)?;
         if let Some(at) = kind.greatest {
-            demand(needed(file, self.gdr + at)? == self.outer.greatest, 11)?;
+            demand(self.needed(gdr + at, "rMaxRec")? == self.now.greatest - 1, 11)?;
         }
-        let is_r = kind.record_type == record_type::RVDR;
-        Ok(self.list(if is_r { Link::Variable(&Z_VARIABLES) } else { Link::Attribute }))
+        let next = if kind.record_type == record_type::RVDR {
+            self.head(Link::Variable, Z_VARIABLES.record_type, gdr + Z_VARIABLES.head)
+        } else {
+            self.head(Link::Attribute, 0, gdr + 16)
+        };
+        Ok((None, next))
+    }
+
+    /// A VXR: its rule; then its used offsets, or its next if there are none.
+    fn take_index(&self) -> Result<Taken, End> {
+        let link = self.link()?;
+        if link == 0 {
+            return self.end_of_chain();
+        }
+        let vxr = self.record(link, record_type::VXR)?;
+        let index = rules::index(&vxr)?;
+        let claimed = Point { before: vxr.offset, ..*self.now };
+        Ok((Some(vxr.offset), at_entry(&claimed, &index, 0)))
     }
 
     /// VXRtail, then MaxRec; then the VDR's next.
-    fn end_of_chain(&self, file: &[u8], kind: &'static VariableKind) -> Result<Walk, i32> {
-        demand(needed(file, self.outer.last + 24)? == self.inner.last, 11)?;
-        demand(self.chain.max_rec == -1 || self.chain.covered, 12)?;
-        Ok(Walk {
-            link: Link::Variable(kind),
-            inner: List::EMPTY,
-            chain: Chain::NONE,
-            ..self.clone()
-        })
+    fn end_of_chain(&self) -> Result<Taken, End> {
+        let vdr = self.now.owner;
+        demand(self.needed(vdr + 24, "VXRtail")? == self.now.before, 11)?;
+        demand(self.needed(vdr + 16, "MaxRec")? == -1 || self.now.covered, 12)?;
+        let next = Point {
+            count: self.now.count + 1,
+            greatest: self.now.greatest,
+            ..self.head(Link::Variable, self.now.kind, vdr + 8)
+        };
+        Ok((None, next))
+    }
+
+    /// A used offset of a VXR: its range, then the VVR it leads to, judged with the record bytes of the VDR.
+    fn take_values(&self) -> Result<Taken, End> {
+        let kind = self.variable_kind()?;
+        let index = Index::at(self.file, self.now.before).ok_or(End::PastEnd("First"))?;
+        let entry = index.entry(self.file, self.now.entry, self.now.floor)?;
+        let vvr = self.record(entry.values, record_type::VVR)?;
+        let vdr = Record::at(self.file, self.now.owner).ok_or(End::PastEnd("VDR's size"))?;
+        let variable = rules::variable(&vdr, kind, self.gdr()?)?;
+        rules::values(&vvr, &entry, variable.record_bytes)?;
+        let claimed = Point {
+            floor: entry.last + 1,
+            covered: self.now.covered || entry.covers(variable.max_rec),
+            ..*self.now
+        };
+        Ok((Some(vvr.offset), at_entry(&claimed, &index, self.now.entry + 1)))
+    }
+
+    /// An ADR: its rule, its number; then its AgrEDR head.
+    fn take_attribute(&self) -> Result<Taken, End> {
+        let link = self.link()?;
+        if link == 0 {
+            let gdr = self.gdr()?;
+            demand(self.needed(gdr + 28, "NumAttr")? == self.now.count, 11)?;
+            return Ok((None, self.head(Link::Unused, 0, gdr + 44)));
+        }
+        let adr = self.record(link, record_type::ADR)?;
+        let attribute = rules::attribute(&adr)?;
+        demand(attribute.number == self.now.count, 11)?;
+        Ok((Some(adr.offset), self.entries(adr.offset, &GR_ENTRIES)))
+    }
+
+    /// The point at the head of one of an ADR's lists of entries.
+    fn entries(&self, adr: i64, kind: &EntryKind) -> Point {
+        let head = self.head(Link::Entry, kind.record_type, adr + kind.head);
+        Point { count: self.now.count, owner: adr, ..head }
+    }
+
+    /// An AEDR: its rule, its attribute's number; then its next.
+    fn take_entry(&self) -> Result<Taken, End> {
+        let kind = self.entry_kind()?;
+        let link = self.link()?;
+        if link == 0 {
+            return self.end_of_entries(kind);
+        }
+        let aedr = self.record(link, kind.record_type)?;
+        let entry = rules::entry(&aedr)?;
+        demand(entry.attribute == self.needed(self.now.owner + 20, "ADR's Num")?, 11)?;
+        let next = Point {
+            link: aedr.offset + 8,
+            entry: (self.now.entry + 1).min(MOST_ENTRIES),
+            floor: self.now.floor.max(entry.number + 1),
+            ..*self.now
+        };
+        Ok((Some(aedr.offset), next))
     }
 
     /// The ADR's count and maximum; then its zEntries, or its next.
-    fn end_of_entries(&self, file: &[u8], kind: &EntryKind) -> Result<Walk, i32> {
-        demand(needed(file, self.outer.last + kind.count)? == self.inner.length, 11)?;
-        demand(needed(file, self.outer.last + kind.maximum)? == self.inner.greatest, 11)?;
-        let is_gr = kind.record_type == record_type::AGREDR;
-        let link = if is_gr { Link::Entry(&Z_ENTRIES) } else { Link::Attribute };
-        Ok(Walk { link, inner: List::EMPTY, ..self.clone() })
+    fn end_of_entries(&self, kind: &EntryKind) -> Result<Taken, End> {
+        let adr = self.now.owner;
+        demand(self.needed(adr + kind.count, "count of entries")? == self.now.entry, 11)?;
+        let maximum = self.needed(adr + kind.maximum, "greatest entry number")?;
+        demand(maximum == self.now.floor - 1, 11)?;
+        let next = if kind.record_type == record_type::AGREDR {
+            self.entries(adr, &Z_ENTRIES)
+        } else {
+            Point { count: self.now.count + 1, ..self.head(Link::Attribute, 0, adr + 8) }
+        };
+        Ok((None, next))
+    }
+
+    /// A listed UIR: its size, the previous one; then its next.
+    fn take_unused(&self) -> Result<Taken, End> {
+        let link = self.link()?;
+        if link == 0 {
+            self.last_look()?;
+            return Err(End::Verdict(ACCEPTED));
+        }
+        let uir = self.record(link, record_type::UIR)?;
+        let previous = rules::unused(&uir)?;
+        demand(previous == self.now.before, 11)?;
+        let next = Point { link: uir.offset + 8, before: uir.offset, ..*self.now };
+        Ok((Some(uir.offset), next))
+    }
+
+    /// From record to record: 13 if one in use other than the CDR is unclaimed.
+    fn last_look(&self) -> Result<(), End> {
+        let mut offset = CDR;
+        while offset != length(self.file) {
+            let record = self.record_start(offset, "size and type, from record to record")?;
+            if !record.is_inside() {
+                return Err(End::PastEnd("next record, from record to record"));
+            }
+            let in_use = offset != CDR && record.record_type != Some(record_type::UIR);
+            demand(!in_use || self.mark_at(offset) == Some(2), 13)?;
+            offset += record.size;
+        }
+        Ok(())
     }
 }
 
-/// 13 if a record in use other than the CDR is unclaimed, else accepted.
-fn last_verdict(file: &[u8], marks: &[u8]) -> i32 {
-    const CDR: i64 = 8;
-    let mut offset = CDR;
-    while offset != length(file) {
-        let Some(record) = Record::at(file, offset) else {
-            return 20;
-        };
-        let in_use = offset != CDR && record.record_type != record_type::UIR;
-        if in_use && mark_at(marks, offset) != Some(2) {
-            return 13;
-        }
-        if !record.is_inside() {
-            return 20;
-        }
-        offset += record.size;
+/// The point before a VXR's entry of this number, or before its next if the entry is not in use.
+fn at_entry(now: &Point, index: &Index, entry: i64) -> Point {
+    if entry < index.used {
+        Point { phase: Phase::Walk(Link::Values), link: 0, entry, ..*now }
+    } else {
+        Point { phase: Phase::Walk(Link::Index), link: index.offset + 8, entry: 0, ..*now }
     }
-    0
 }

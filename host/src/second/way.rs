@@ -65,7 +65,7 @@ impl<'a> Way<'a> {
             return Err(BROKEN);
         }
         Record::at(self.file, link)
-            .filter(|record| record.record_type == record_type && record.is_inside())
+            .filter(|record| record.record_type == Some(record_type) && record.is_inside())
             .ok_or(BROKEN)
     }
 
@@ -108,10 +108,10 @@ impl<'a> Way<'a> {
     ) -> Result<(&'static VariableKind, Variable), u32> {
         let kind = variable_kind(kind).ok_or(NO_PLACE)?;
         let judge = |record: &Record, header: &Header| {
-            if rules::is_compressed(record).unwrap_or(true) {
+            if rules::is_compressed(record) {
                 return Err(BROKEN);
             }
-            rules::variable(record, kind, &header.sizes).map_err(|_| BROKEN)
+            rules::variable(record, kind, header.gdr).map_err(|_| BROKEN)
         };
         let variable = self.place(kind.head, kind.record_type, number, judge)?;
         Ok((kind, variable))
@@ -167,19 +167,16 @@ impl<'a> Way<'a> {
     /// The used entry that covers the record; 17 at the chain's end.
     fn covering_entry(&mut self, head: i64, record: i64) -> Result<IndexEntry, u32> {
         let mut link = head;
-        let mut previous_last = -1;
+        let mut floor = 0;
         while link != 0 {
             let vxr = self.meet(link, record_type::VXR)?;
             let index = rules::index(&vxr).map_err(|_| BROKEN)?;
             for number in 0..index.used {
-                let entry = index.entry(self.file, number).ok_or(BROKEN)?;
-                if !entry.rises_above(previous_last) {
-                    return Err(BROKEN);
-                }
+                let entry = index.entry(self.file, number, floor).map_err(|_| BROKEN)?;
                 if entry.covers(record) {
                     return Ok(entry);
                 }
-                previous_last = entry.last;
+                floor = entry.last + 1;
             }
             link = self.needed(link + 8)?;
         }

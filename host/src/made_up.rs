@@ -1,0 +1,277 @@
+//! Saved states, marks and changes of a file that no check makes by itself, for the comparison of the two checkers.
+
+use crate::build::random::Random;
+use crate::build::records::put;
+use crate::damage::{self, Found};
+use crate::second::bytes::field;
+use crate::second::check::{Check, State, RUNNING, STATE_LENGTH};
+use crate::second::state::{self, GREATEST_COUNT, GREATEST_LINK, GREATEST_OFFSET};
+
+/// Marks behind the file that nobody may write.
+pub const BEYOND: usize = 5;
+
+/// Numbers at the edges of ranges and meanings.
+pub fn edges() -> Vec<u32> {
+    let tops = [GREATEST_OFFSET, GREATEST_COUNT, GREATEST_LINK, u32::MAX - 1];
+    let about_tops = tops.into_iter().flat_map(|top| top - 1..=top + 1);
+    let small = (0..=10).chain(15..=23).chain([312, 371, 372, 373]);
+    small.chain(about_tops).collect()
+}
+
+/// The length of the shortest file that can be accepted.
+const SHORTEST: usize = 372;
+
+/// File offset of the CDR's link to the GDR.
+const GDR_LINK: usize = 16;
+
+/// How near to the file's end a number is that may put a record's fields past it.
+const NEAR_THE_END: usize = 140;
+
+/// A point of a check: state and marks.
+pub type Point = (State, Vec<u8>);
+
+/// State and marks after 0, 1, 2 .. steps of the check, the finishing step left out.
+pub fn points(file: &[u8]) -> Vec<Point> {
+    let mut check = Check::fresh();
+    let mut marks = vec![0; file.len()];
+    let mut points = vec![(check.state(), marks.clone())];
+    while check.step(file, &mut marks) == RUNNING {
+        points.push((check.state(), marks.clone()));
+    }
+    points
+}
+
+/// A file and what is made up from it.
+#[derive(Clone, Debug)]
+pub struct Source {
+    file: Vec<u8>,
+    points: Vec<Point>,
+    records: Vec<Found>,
+    fields: Vec<usize>,
+    links: Vec<usize>,
+    edges: Vec<u32>,
+}
+
+impl Source {
+    /// The source that a file is.
+    pub fn new(file: &[u8]) -> Source {
+        let records = damage::records(file);
+        Source {
+            file: file.to_vec(),
+            points: points(file),
+            fields: records.iter().flat_map(|of| damage::control_fields(file, of)).collect(),
+            links: damage::links(file),
+            edges: edges(),
+            records,
+        }
+    }
+
+    /// The file.
+    pub fn file(&self) -> &[u8] {
+        &self.file
+    }
+
+    /// The points of the file's check.
+    pub fn points(&self) -> &[Point] {
+        &self.points
+    }
+
+    /// Any point of the file's check.
+    pub fn any_point(&self, random: &mut Random) -> &Point {
+        let place = random.place(self.points.len());
+        &self.points[place]
+    }
+
+    fn any_start(&self, random: &mut Random) -> usize {
+        random.one_of(&self.records).map_or(8, |record| record.offset)
+    }
+
+    /// A place so near to the file's end that a record's fields may pass it.
+    fn near_the_end(&self, random: &mut Random) -> usize {
+        self.file.len().saturating_sub(random.place(NEAR_THE_END))
+    }
+
+    /// An edge, a place about the file's end, a record's start or one behind it, a field's value, any number.
+    pub fn any_number(&self, random: &mut Random) -> u32 {
+        let number = match random.below(12) {
+            0 | 1 => random.one_of(&self.edges).copied().map_or(0, i64::from),
+            2 => self.file.len() as i64 + random.between(-8, 8),
+            3 => self.near_the_end(random) as i64,
+            4..=6 => self.any_start(random) as i64,
+            7 => self.any_start(random) as i64 + random.below(65),
+            8 => random.one_of(&self.fields).map_or(0, |at| self.value(*at)),
+            9 => i64::from(random.number() as u32),
+            _ => random.below(4),
+        };
+        number as u32
+    }
+
+    /// The control field at an offset, 0 past the end.
+    fn value(&self, at: usize) -> i64 {
+        i64::try_from(at).ok().and_then(|at| field(&self.file, at)).unwrap_or(0)
+    }
+
+    /// A state of the file's check with one to three numbers changed, most of them within their ranges.
+    pub fn near(&self, state: &State, random: &mut Random) -> State {
+        let mut state = *state;
+        for _ in 0..random.between(1, 3) {
+            let meant = meant(state[2]);
+            let place = match random.one_of(&meant) {
+                Some(place) if !random.once_in(12) => *place,
+                _ => random.place(STATE_LENGTH),
+            };
+            let number = self.any_number(random);
+            let most = greatest(&state, place);
+            state[place] = if random.once_in(6) { number } else { number.min(most) };
+        }
+        state
+    }
+
+    /// Numbers in their ranges, of the file's length.
+    pub fn in_range(&self, random: &mut Random) -> State {
+        let phase = u32::try_from(random.between(1, 8)).unwrap_or(1);
+        let mut state = [0; STATE_LENGTH];
+        state[1] = self.file.len() as u32;
+        state[2] = phase;
+        state[3] = random.one_of(state::kinds(phase)).copied().unwrap_or(0);
+        for place in meant(phase) {
+            state[place] = self.any_number(random).min(greatest(&state, place));
+        }
+        if phase == 1 {
+            state[4] = state[4].max(8);
+        }
+        state
+    }
+
+    /// Any numbers, half of them of the file's length.
+    pub fn anything(&self, random: &mut Random) -> State {
+        let mut state = [0; STATE_LENGTH];
+        for number in &mut state {
+            *number = if random.once_in(2) { 0 } else { self.any_number(random) };
+        }
+        if random.once_in(2) {
+            state[1] = self.file.len() as u32;
+        }
+        state[2] %= if random.once_in(2) { 10 } else { u32::MAX };
+        state
+    }
+
+    /// Marks of a point, changed here and there or altogether, and some behind the file.
+    pub fn any_marks(&self, real: &[u8], random: &mut Random) -> Vec<u8> {
+        let mut marks = real.to_vec();
+        match random.below(8) {
+            0 => marks.fill(1),
+            1 => marks.iter_mut().for_each(|mark| *mark = random.byte() % 4),
+            2 | 3 => {
+                for _ in 0..random.between(1, 6) {
+                    let places = [self.any_start(random), self.near_the_end(random)];
+                    let mark = random.byte() % 4;
+                    random.one_of(&places).into_iter().for_each(|at| set(&mut marks, *at, mark));
+                }
+            }
+            _ => {}
+        }
+        marks.resize(real.len() + BEYOND, 0x55);
+        marks
+    }
+
+    /// The file with one to four fields changed, or bytes anywhere.
+    pub fn changed(&self, random: &mut Random) -> Vec<u8> {
+        let mut file = self.file.clone();
+        if random.once_in(8) {
+            for _ in 0..random.between(1, 40) {
+                let at = random.place(file.len());
+                set(&mut file, at, random.byte());
+            }
+            return file;
+        }
+        for _ in 0..random.between(1, 4) {
+            let (at, value) = self.any_change(random);
+            put(&mut file, at, value);
+        }
+        file
+    }
+
+    /// A field and another value for it: the CDR's link, a record's size, any link or any field.
+    fn any_change(&self, random: &mut Random) -> (usize, i64) {
+        let at = match random.below(12) {
+            0 => GDR_LINK,
+            1 => self.any_start(random),
+            2..=4 => random.one_of(&self.links).copied().unwrap_or(GDR_LINK),
+            _ => random.one_of(&self.fields).copied().unwrap_or(GDR_LINK),
+        };
+        let value = match random.below(8) {
+            0 => self.value(at) + random.between(-4, 4),
+            1 => self.value(at) ^ 1 << random.below(8),
+            2 => -random.between(1, 3),
+            3 => any_size(random),
+            _ => i64::from(self.any_number(random)),
+        };
+        (at, value)
+    }
+
+    /// The file and a point of its check as if a record stood at the file's end and not all of it in the file: its
+    /// first bytes stand there too, and what led to the record leads there.
+    pub fn moved_to_the_end(&self, point: &Point, random: &mut Random) -> (Vec<u8>, Point) {
+        let (mut file, (mut state, mut marks)) = (self.file.clone(), point.clone());
+        let Some(record) = random.one_of(&self.records) else {
+            return (file, (state, marks));
+        };
+        let bytes = 1 + random.place(record.size.min(NEAR_THE_END));
+        let to = file.len() - bytes;
+        file.copy_within(record.offset..record.offset + bytes, to);
+        if random.once_in(3) {
+            put(&mut file, to, any_size(random));
+        }
+        for at in self.links.iter().copied().filter(|at| at + 4 <= to) {
+            if self.value(at) == record.offset as i64 {
+                put(&mut file, at, to as i64);
+            }
+        }
+        for number in &mut state[7..9] {
+            if *number == record.offset as u32 {
+                *number = to as u32;
+            }
+        }
+        let mark = marks.get(record.offset).copied().unwrap_or(0);
+        set(&mut marks, to, mark);
+        (file, (state, marks))
+    }
+
+    /// The file, changed or not, and a point of its check, as if the file ended earlier.
+    pub fn cut(&self, point: &Point, random: &mut Random) -> (Vec<u8>, Point) {
+        let file = if random.once_in(2) { self.file.clone() } else { self.changed(random) };
+        let most = file.len().saturating_sub(SHORTEST).min(2 * NEAR_THE_END);
+        shortened(&file, point, file.len() - random.place(most + 1))
+    }
+}
+
+/// A file and a point of its check as if the file were of this length, which is noted if one was.
+pub fn shortened(file: &[u8], point: &Point, length: usize) -> (Vec<u8>, Point) {
+    let (mut file, (mut state, mut marks)) = (file.to_vec(), point.clone());
+    file.truncate(length);
+    marks.truncate(length);
+    state[1] = if state[1] == 0 { 0 } else { length as u32 };
+    (file, (state, marks))
+}
+
+/// The numbers 4 to 11 that have a meaning in a phase.
+fn meant(phase: u32) -> Vec<usize> {
+    let most = state::greatest(phase);
+    (4..STATE_LENGTH).zip(most).filter(|(_, most)| *most > 0).map(|(place, _)| place).collect()
+}
+
+/// The greatest that a number may be in the state's phase; those before number 4 may be any.
+fn greatest(state: &State, place: usize) -> u32 {
+    let most = state::greatest(state[2]);
+    place.checked_sub(4).and_then(|place| most.get(place)).copied().unwrap_or(u32::MAX)
+}
+
+/// A size that a record may state.
+fn any_size(random: &mut Random) -> i64 {
+    random.below(NEAR_THE_END as i64)
+}
+
+fn set(bytes: &mut [u8], at: usize, byte: u8) {
+    bytes.get_mut(at).into_iter().for_each(|place| *place = byte);
+}

@@ -1,0 +1,192 @@
+//! The saved state of a check: 12 numbers, with the names, phases and ranges of docs/STATE.md.
+
+/// How many numbers a saved state has.
+pub const STATE_LENGTH: usize = 12;
+
+/// A saved state of the right length.
+pub type State = [u32; STATE_LENGTH];
+
+/// A fresh state.
+pub const FRESH: State = [0; STATE_LENGTH];
+
+/// The greatest offset, and the greatest place in a list.
+pub const GREATEST_OFFSET: u32 = 2_147_483_647;
+/// The greatest count, and the greatest number + 1.
+pub const GREATEST_COUNT: u32 = 2_147_483_648;
+/// The greatest place where a link stands.
+pub const GREATEST_LINK: u32 = 2_147_483_711;
+
+/// The shortest file whose length is noted.
+const SHORTEST_FILE: u32 = 372;
+/// The least offset of a record.
+const FIRST_RECORD: u32 = 8;
+
+/// The state of a finished check.
+pub fn finished(verdict: i32) -> State {
+    let mut state = FRESH;
+    state[0] = u32::try_from(verdict).map_or(u32::MAX, |verdict| verdict + 1);
+    state
+}
+
+/// The verdict of a finished state; number 0 alone says it.
+pub fn verdict(state: &State) -> Option<i32> {
+    match state[0] {
+        1..=15 | 21 => i32::try_from(state[0] - 1).ok(),
+        _ => None,
+    }
+}
+
+/// The kinds that a phase may have.
+pub fn kinds(phase: u32) -> &'static [u32] {
+    match phase {
+        3..=5 => &[3, 8],
+        7 => &[5, 9],
+        _ => &[0],
+    }
+}
+
+/// The greatest of each of the numbers 4 to 11 in a phase, 0 where a number has no meaning.
+pub fn greatest(phase: u32) -> [u32; 8] {
+    const OFFSET: u32 = GREATEST_OFFSET;
+    const COUNT: u32 = GREATEST_COUNT;
+    const LINK: u32 = GREATEST_LINK;
+    match phase {
+        1 => [OFFSET, 0, 0, 0, 0, 0, 0, 0],
+        3 => [LINK, COUNT, COUNT, 0, 0, 0, 0, 0],
+        4 => [LINK, OFFSET, COUNT, OFFSET, OFFSET, 0, COUNT, 1],
+        5 => [0, OFFSET, COUNT, OFFSET, OFFSET, OFFSET, COUNT, 1],
+        6 => [LINK, COUNT, 0, 0, 0, 0, 0, 0],
+        7 => [LINK, OFFSET, 0, OFFSET, 0, COUNT, COUNT, 0],
+        8 => [LINK, 0, 0, 0, OFFSET, 0, 0, 0],
+        _ => [0; 8],
+    }
+}
+
+/// Every number of a state that is not finished is in its range.
+pub fn is_in_range(state: &State) -> bool {
+    let [verdict, length, phase, kind, link, ..] = *state;
+    let noted = match phase {
+        0 => length == 0,
+        _ => (SHORTEST_FILE..=GREATEST_OFFSET).contains(&length),
+    };
+    let rest = state.iter().skip(4).zip(greatest(phase)).all(|(number, most)| *number <= most);
+    let swept = phase != 1 || link >= FIRST_RECORD;
+    verdict == 0 && phase <= 8 && noted && kinds(phase).contains(&kind) && rest && swept
+}
+
+/// What the next step does.
+#[derive(Clone, Copy, Debug, PartialEq, Eq)]
+pub(super) enum Phase {
+    Fresh,
+    Sweep,
+    Walk(Link),
+}
+
+/// The link that a step of the walk takes, by the record it leads to; each has its phase's number.
+#[derive(Clone, Copy, Debug, PartialEq, Eq)]
+pub(super) enum Link {
+    Gdr = 2,
+    Variable = 3,
+    Index = 4,
+    Values = 5,
+    Attribute = 6,
+    Entry = 7,
+    Unused = 8,
+}
+
+impl Phase {
+    fn of(number: u32) -> Option<Phase> {
+        Some(match number {
+            0 => Phase::Fresh,
+            1 => Phase::Sweep,
+            2 => Phase::Walk(Link::Gdr),
+            3 => Phase::Walk(Link::Variable),
+            4 => Phase::Walk(Link::Index),
+            5 => Phase::Walk(Link::Values),
+            6 => Phase::Walk(Link::Attribute),
+            7 => Phase::Walk(Link::Entry),
+            8 => Phase::Walk(Link::Unused),
+            _ => return None,
+        })
+    }
+
+    fn number(self) -> i64 {
+        match self {
+            Phase::Fresh => 0,
+            Phase::Sweep => 1,
+            Phase::Walk(link) => link as i64,
+        }
+    }
+}
+
+/// A state that is not finished and whose numbers are in range; docs/STATE.md says what each of them is.
+#[derive(Clone, Copy, Debug, PartialEq, Eq)]
+pub(super) struct Point {
+    pub length: i64,
+    pub phase: Phase,
+    pub kind: i64,
+    pub link: i64,
+    pub count: i64,
+    pub greatest: i64,
+    pub owner: i64,
+    pub before: i64,
+    pub entry: i64,
+    pub floor: i64,
+    pub covered: bool,
+}
+
+impl Point {
+    /// The point before a link of this kind; all numbers not named are 0.
+    pub fn new(length: i64, phase: Phase, kind: i64, link: i64) -> Point {
+        Point {
+            length,
+            phase,
+            kind,
+            link,
+            count: 0,
+            greatest: 0,
+            owner: 0,
+            before: 0,
+            entry: 0,
+            floor: 0,
+            covered: false,
+        }
+    }
+
+    /// The point that a state says; nothing if a number is out of its range.
+    pub fn load(state: &State) -> Option<Point> {
+        let phase = Phase::of(state[2])?;
+        is_in_range(state).then(|| Point {
+            length: i64::from(state[1]),
+            phase,
+            kind: i64::from(state[3]),
+            link: i64::from(state[4]),
+            count: i64::from(state[5]),
+            greatest: i64::from(state[6]),
+            owner: i64::from(state[7]),
+            before: i64::from(state[8]),
+            entry: i64::from(state[9]),
+            floor: i64::from(state[10]),
+            covered: state[11] == 1,
+        })
+    }
+
+    /// The state that says this point.
+    pub fn save(&self) -> State {
+        let numbers = [
+            0,
+            self.length,
+            self.phase.number(),
+            self.kind,
+            self.link,
+            self.count,
+            self.greatest,
+            self.owner,
+            self.before,
+            self.entry,
+            self.floor,
+            i64::from(self.covered),
+        ];
+        numbers.map(|number| u32::try_from(number).unwrap_or(u32::MAX))
+    }
+}
