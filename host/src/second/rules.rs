@@ -344,9 +344,11 @@ impl Index {
         Some(Index { offset, entries, used })
     }
 
-    /// The entry of this number: First at least 0 and at least the floor, Last at least First; then its offset.
+    /// The entry of this number: First at least 0 and at least the floor, Last at least First; then its offset. A negative
+    /// number of entries gives the places that none gives.
     pub fn entry(&self, file: &[u8], number: i64, floor: i64) -> Result<IndexEntry, Breach> {
-        let at = |column: i64| self.offset + 20 + 4 * (column * self.entries + number);
+        let entries = self.entries.max(0);
+        let at = |column: i64| self.offset + 20 + 4 * (column * entries + number);
         let first = needed(file, at(0), "First")?;
         if first < 0 || first < floor {
             return Err(Breach::Ranges);
