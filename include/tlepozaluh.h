@@ -97,10 +97,10 @@ int32_t tlz_check_begin(uint32_t *state, size_t state_len);
  * verdict. A finished state gives its verdict again, in 0 steps and whatever is lent; no mark changes. Begin again to check
  * another file with it. A grant of 0 changes nothing and gives TLZ_RUNNING or the verdict.
  *
- * TLZ_ACCEPTED comes only from a check that made all its steps: one that was stopped, was lent another length, has a state
- * of a wrong length or was granted 0 steps never gives it. State and marks are believed, though: state[0] == 1 is how a state
- * says "finished and accepted", and a state with numbers of the caller's own is stepped by the same rules. Keep both where
- * nothing else writes to them.
+ * TLZ_ACCEPTED comes only from a check that made all its steps: an unfinished one that was stopped, was lent another length
+ * or was granted 0 steps never gives it, nor does a state of a wrong length. State and marks are believed, though:
+ * state[0] == 1 is how a state says "finished and accepted", and a state with numbers of the caller's own is stepped by the
+ * same rules. Keep both where nothing else writes to them.
  *
  * From a fresh state, a check of n bytes ends within n / 4 + 1 steps. A step looks at one record or link; the sweep's steps
  * also clear the marks of their record, and the last step goes once over all records.

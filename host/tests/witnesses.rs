@@ -228,3 +228,35 @@ fn an_index_entry_at_the_end() {
         refuses(&file, &marks, state, number);
     }
 }
+
+/// A value record of fewer than 8 bytes is 10, also where the VDR lies past the end.
+#[test]
+fn a_value_record_too_short() {
+    let file = file_h();
+    let marks = swept(&file);
+    let state = |vdr: u32| -> State { [0, 550, 5, 8, 0, 0, 3, vdr, 504, 0, 0, 0] };
+    refuses(&file, &marks, state(549), 20);
+    let short = changed(&file, &[(536, 7)]);
+    refuses(&short, &marks, state(549), 10);
+    refuses(&short, &marks, state(372), 10);
+}
+
+/// The last step looks at a record's type and mark before it needs its size.
+#[test]
+fn an_unclaimed_record_that_leaves_the_file() {
+    let mut file = in_order(&base());
+    file.resize(380, 0);
+    let file = changed(&file, &[(332, 380), (372, 8), (376, 7)]);
+    let state = [0, 380, 8, 0, 356, 0, 0, 0, 0, 0, 0, 0];
+    let mut marks = vec![0; 380];
+    marks[8] = 1;
+    marks[312] = 2;
+    marks[372] = 1;
+    for size in [8, 7, 0, 9, 1000, -1] {
+        refuses(&changed(&file, &[(372, size)]), &marks, state, 13);
+    }
+    marks[372] = 2;
+    for size in [7, 0, 9, 1000, -1] {
+        refuses(&changed(&file, &[(372, size)]), &marks, state, 20);
+    }
+}

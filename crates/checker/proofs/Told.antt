@@ -197,7 +197,10 @@ module _ (f : List ℕ) where
   told-vvr o n bytes = told-judged o 8 (eqb (sizeAt f o) (8 + n * bytes))
 
   told-values : (v : Variable) (e : E.Entry) → ToldVar v → Told (valuesNumber f v e)
-  told-values v e h = told-cond (eqb (v .fault) 0) (told-vvr (e .link) (e .last - e .first + 1) (v .bytes)) (h .told)
+  unfolding valuesNumber
+  told-values v e h =
+      told-first (reachOf f (e .link) 8 ∷ v .fault ∷ vvrRule f (e .link) (e .last - e .first + 1) (v .bytes) ∷ [])
+      (told-reach (e .link) 8, (h .told, (told-vvr (e .link) (e .last - e .first + 1) (v .bytes), tt)))
 
   told-range : (first last offset floor : ℕ) → Told (rangeNumber f first last offset floor)
   unfolding rangeNumber
@@ -246,7 +249,8 @@ module _ (f : List ℕ) where
   told-left m zero o = told-20
   told-left m (suc n) o =
       told-cond (eqb o (endOf f)) told-0
-      (told-cond (followedAt f o) (told-cond (unclaimedAt f m o) (record { in-range = refl }) (told-left m n (o + sizeAt f o))) told-20)
+      (told-cond (ltb (endOf f) (o + 8)) told-20
+      (told-cond (unclaimedAt f m o) (record { in-range = refl }) (told-cond (followedAt f o) (told-left m n (o + sizeAt f o)) told-20)))
 
   pub told-last : (m : List ℕ) (v : ℕ) → Told v → Told (first (v ∷ leftOf f m ∷ []))
   unfolding leftOf

@@ -21,7 +21,7 @@ use Rattle.demands.specs.Acceptance.{_∈_, Each, Consecutive, lastOr0, 
 use Rattle.walk.proofs.Closed.{unless-zero}
 use Rattle.checker.proofs.Passed.{both}
 use Rattle.demands.proofs.Laws.{first-two}
-use Rattle.demands.proofs.Records.{Stands, stands-reach, stands-begins, stands-nonzero, judged-reads, judged-makes, type-reads, type-makes, field-reads, field-makes, vxr-size, VdrParts, vdr-bytes}
+use Rattle.demands.proofs.Records.{Reach, reach-makes, Stands, stands-reach, stands-begins, stands-nonzero, judged-reads, judged-makes, type-reads, type-makes, field-reads, field-makes, vxr-size, VdrParts, values-read, vdr-bytes}
 use Rattle.demands.proofs.Turns.{Listed}
 use Rattle.demands.proofs.Nested.{headOr0, entryIs, SlotGood, RowGood, floorAfter, coveredAfter, chainFloor, chainCovered, chainRules}
 use Rattle.demands.proofs.Splits.{Along, split-in, in-left, in-right, in-either, along-each, each-along, each-in, listed-reads, listed-makes, is-moved, last-back, offset-in}
@@ -146,15 +146,21 @@ module _ (f : List ℕ) (k v : ℕ) where
   valueSize s = 8 + (lastOf f s - firstOf f s + 1) * recordBytes f v (layoutOf f k v)
 
   module _ (vdr : VdrParts f k v) where
-    values-are : (s : Slot)
-        → valuesNumber f (variableOf f k v) (entryIs f s) ≡ vvrRule f (namedBy f s) (lastOf f s - firstOf f s + 1) (recordBytes f v (layoutOf f k v))
-    values-are s = let b = vdr-bytes f k v vdr in rw (b .0, b .1)
+    vvr-is : (s : Slot)
+        → vvrRule f (namedBy f s) (lastOf f s - firstOf f s + 1) (variableOf f k v .bytes) ≡ vvrRule f (namedBy f s) (lastOf f s - firstOf f s + 1) (recordBytes f v (layoutOf f k v))
+    vvr-is s = ap (vvrRule f (namedBy f s) (lastOf f s - firstOf f s + 1)) (vdr-bytes f k v vdr .1)
+
+    values-make : (s : Slot) → Reach f (namedBy f s) 8
+        → vvrRule f (namedBy f s) (lastOf f s - firstOf f s + 1) (recordBytes f v (layoutOf f k v)) ≡ 0
+        → valuesNumber f (variableOf f k v) (entryIs f s) ≡ 0
+    unfolding valuesNumber
+    values-make s r e = rw (reach-makes f (namedBy f s) 8 r, vdr-bytes f k v vdr .0, vvr-is s ∙ e)
 
     slot-reads : (s : Slot) (floor : ℕ) → SlotGood f k v floor s → EntryRight f k v s
     unfolding vvrRule
     slot-reads s floor g =
         let r = g .range in
-        let w = judged-reads f (namedBy f s) 8 (eqb (sizeAt f (namedBy f s)) (valueSize s)) (sym (values-are s) ∙ g .values) in
+        let w = judged-reads f (namedBy f s) 8 (eqb (sizeAt f (namedBy f s)) (valueSize s)) (sym (vvr-is s) ∙ values-read f k v (entryIs f s) (g .values)) in
         record {
           first = r .least;
           last = r .order;
@@ -174,9 +180,9 @@ module _ (f : List ℕ) (k v : ℕ) where
         record {
           range = record { least = e .first; above = h; last-lies = omega arith; order = e .last; offset-lies = omega arith };
           typed = type-makes f (namedBy f s) (pos 7) (stands-begins f (namedBy f s) n) (e .typed);
-          values = values-are s
-              ∙ judged-makes f (namedBy f s) 8 (eqb (sizeAt f (namedBy f s)) (valueSize s)) (stands-reach f (namedBy f s) 8 n (n .wide))
-              (eq-eqb (sizeAt f (namedBy f s)) (valueSize s) (e .size));
+          values = values-make s (stands-reach f (namedBy f s) 8 n (n .wide))
+              (judged-makes f (namedBy f s) 8 (eqb (sizeAt f (namedBy f s)) (valueSize s)) (stands-reach f (namedBy f s) 8 n (n .wide))
+              (eq-eqb (sizeAt f (namedBy f s)) (valueSize s) (e .size)));
         }
 
     -- ranges that rise

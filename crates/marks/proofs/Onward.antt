@@ -4,7 +4,7 @@ use mathlib.Core.Bool.{Bool, true, false, cond}
 use mathlib.Core.List.{List}
 use Prim.Native.Nat.{ℕ, suc, _+_, _-_, _≤_, _<_}
 use native.Mathlib.Omega.{arith}
-use borrow.Author.Tests.{eq-eqb, ne-eqb}
+use borrow.Author.Tests.{eq-eqb, ne-eqb, lt-ltb, le-ltb}
 use Rattle.format.specs.Fields.{endOf}
 use Rattle.records.specs.Rules.{sizeAt}
 use Rattle.marks.specs.Marks.{leftFrom, followedAt, unclaimedAt}
@@ -17,18 +17,22 @@ module _ (f m : List ℕ) (n o : ℕ) where
   unfolding leftFrom
   at-end h e = rw (← more h, eq-eqb o (endOf f) e)
 
-  pub not-followed : 0 < n → (o ≡ endOf f → ⊥) → followedAt f o ≡ false → 20 ≡ leftFrom f m n o
+  pub past-end : 0 < n → (o ≡ endOf f → ⊥) → endOf f < o + 8 → 20 ≡ leftFrom f m n o
   unfolding leftFrom
-  not-followed h e k = rw (← more h, ne-eqb o (endOf f) e, k)
+  past-end h e k = rw (← more h, ne-eqb o (endOf f) e, lt-ltb (endOf f) (o + 8) k)
 
-  module _ (h : 0 < n) (e : o ≡ endOf f → ⊥) (k : followedAt f o ≡ true) where
+  module _ (h : 0 < n) (e : o ≡ endOf f → ⊥) (k : o + 8 ≤ endOf f) where
     pub not-claimed : unclaimedAt f m o ≡ true → 13 ≡ leftFrom f m n o
     unfolding leftFrom
-    not-claimed u = rw (← more h, ne-eqb o (endOf f) e, k, u)
+    not-claimed u = rw (← more h, ne-eqb o (endOf f) e, le-ltb (endOf f) (o + 8) k, u)
 
-    pub next-one : unclaimedAt f m o ≡ false → leftFrom f m n o ≡ leftFrom f m (n - 1) (o + sizeAt f o)
+    pub not-followed : unclaimedAt f m o ≡ false → followedAt f o ≡ false → 20 ≡ leftFrom f m n o
     unfolding leftFrom
-    next-one u = sym (more h) ∙ rw (ne-eqb o (endOf f) e, k, u)
+    not-followed u l = rw (← more h, ne-eqb o (endOf f) e, le-ltb (endOf f) (o + 8) k, u, l)
+
+    pub next-one : unclaimedAt f m o ≡ false → followedAt f o ≡ true → leftFrom f m n o ≡ leftFrom f m (n - 1) (o + sizeAt f o)
+    unfolding leftFrom
+    next-one u l = sym (more h) ∙ rw (ne-eqb o (endOf f) e, le-ltb (endOf f) (o + 8) k, u, l)
 
   pub none-left : n ≤ 0 → 20 ≡ leftFrom f m n o
   unfolding leftFrom

@@ -1,5 +1,5 @@
 -- Marks: what the sweep writes, and what the walk's last step looks at. Assumes nothing.
-use Prim.Native.Nat.{ℕ, zero, suc, _+_, _≤_}
+use Prim.Native.Nat.{ℕ, zero, suc, _+_}
 use mathlib.Core.Bool.{Bool, cond, not, _&&_, _||_}
 use mathlib.Core.List.{List, [], _∷_, _++_}
 use lib.ListN.{length, getD, take, drop, set, replicate}
@@ -24,21 +24,16 @@ startAt f m t = leb 8 t && ltb t (endOf f) && (eqb (getD m t 0) 1 || eqb (getD m
 unfoldable pub unclaimedAt : List ℕ → List ℕ → ℕ → Bool
 unclaimedAt f m o = not (eqb o 8) && not (typedAt f o (negsuc 0)) && not (eqb (getD m o 0) 2)
 
--- a record that the next one follows: 8 bytes or more, and not past the end
+-- a record that another or the end follows: 8 bytes or more, and not past the end
 unfoldable pub followedAt : List ℕ → ℕ → Bool
-followedAt f o = leb (o + 8) (endOf f) && (leb 8 (sizeAt f o) && leb (o + sizeAt f o) (endOf f))
+followedAt f o = leb 8 (sizeAt f o) && leb (o + sizeAt f o) (endOf f)
 
--- the bounds that this gives
-pub record Followed (f : List ℕ) (o : ℕ) : Type 0 where
-  pub fields : o + 8 ≤ length f
-  pub next : o + sizeAt f o ≤ length f
-
--- from record to record, n at most: 13 at the first that is unclaimed, 20 where a record is not followed by another, 0 at the end
+-- from record to record, n at most: 0 at the end; 20 if size and type pass it; 13 if the record is unclaimed; 20 if nothing follows it
 unfoldable pub leftFrom : List ℕ → List ℕ → ℕ → ℕ → ℕ
 leftFrom f m zero o = 20
 leftFrom f m (suc n) o =
     let rest = leftFrom f m n (o + sizeAt f o) in
-    cond (eqb o (endOf f)) 0 (cond (followedAt f o) (cond (unclaimedAt f m o) 13 rest) 20)
+    cond (eqb o (endOf f)) 0 (cond (ltb (endOf f) (o + 8)) 20 (cond (unclaimedAt f m o) 13 (cond (followedAt f o) rest 20)))
 
 -- "At the UIR end: 13 if a record .. is unclaimed, else accepted"
 unfoldable pub leftOf : List ℕ → List ℕ → ℕ

@@ -3,7 +3,8 @@ ghost use mathlib.Core.Path.{_≡_};
 ghost use Prim.Native.Nat.{_+_, _≤_, _<_};
 ghost use lib.ListN.{length, replicate};
 ghost use mathlib.Core.Bool.{true};
-ghost use Rattle.marks.specs.Marks.{cleared, marked, startAt, unclaimedAt, followedAt, Followed, leftOf};
+ghost use Rattle.marks.specs.Marks.{cleared, marked, startAt, unclaimedAt, followedAt, leftOf};
+ghost use Rattle.records.specs.Rules.{sizeAt};
 use format::fields;
 
 // Zeros in every place of a slice.
@@ -61,21 +62,18 @@ fn is_unclaimed(f: &[u8], m: &[u8], o: usize) -> bool
 
 // The record at an offset has 8 bytes or more and ends in the file.
 fn is_followed(f: &[u8], o: usize) -> bool
-    requires { ⌜ o ≤ 4611686018427387904 ⌝ }
-    ensures { λ r. ⌜ (r ≡ followedAt (now (f .entry)) o) × (r ≡ true → Followed (now (f .entry)) o) ⌝ }
+    requires { ⌜ o + 8 ≤ length (now f) ⌝ }
+    ensures { λ r. ⌜ (r ≡ followedAt (now (f .entry)) o) × (r ≡ true → o + sizeAt (now (f .entry)) o ≤ length (now (f .entry))) ⌝ }
 {
-    let end = fields::end(f);
-    if end < o + 8 {
-        return false;
-    }
     let size = fields::nat_at(f, o) as usize;
     if size < 8 {
         return false;
     }
-    o + size <= end
+    o + size <= fields::end(f)
 }
 
-// What the walk's last step finds: 13 for a record in use that no link claimed, 20 where a record is not followed by another, or 0.
+// What the walk's last step finds: 13 for a record in use that no link claimed, 20 where size and type pass the end or no
+// record follows, or 0.
 pub fn left(f: &[u8], m: &[u8]) -> u32
     requires { ⌜ (length (now f) ≤ length (now m)) × (length (now f) ≤ 2147483647) ⌝ }
     ensures { λ r. ⌜ r ≡ leftOf (now (f .entry)) (now (m .entry)) ⌝ }
@@ -87,11 +85,14 @@ pub fn left(f: &[u8], m: &[u8]) -> u32
         if o == end {
             return 0;
         }
-        if !is_followed(f, o) {
+        if end < o + 8 {
             return 20;
         }
         if is_unclaimed(f, m, o) {
             return 13;
+        }
+        if !is_followed(f, o) {
+            return 20;
         }
         o += fields::nat_at(f, o) as usize;
         n -= 1;

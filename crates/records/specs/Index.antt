@@ -48,7 +48,7 @@ rangeNumber f first last offset floor =
 abbrev pub entryFault : ℕ → Entry
 entryFault v = record { fault = v; first = 0; last = 0; link = 0 }
 
--- its range and what it names, or that number
+-- its range and what it names, or the number that refuses it
 abbrev pub entryBy : List ℕ → ℕ → ℕ → ℕ → ℕ → Entry
 entryBy f first last offset number =
     cond (eqb number 0) (record { fault = 0; first = natAt f first; last = natAt f last; link = linkAt f offset }) (entryFault number)

@@ -27,7 +27,7 @@ use Rattle.ways.specs.Indexes.{recordThere, recordRead, lookedUp, scanned, inde
 use Rattle.answers.specs.declared.Read.{Read}
 use Rattle.answers.specs.declared.Read.the-variants.{Value as Given, Refused}
 use Rattle.answers.specs.Answers.{elementThere, elementRead, inRecord, inVariable, valueRead}
-use Rattle.walk.specs.Walk.{typeNumber, followed, gdrNamed, fieldNumber, tallied, varsTally, varNumber, chainTally, attrNumber, entriesTally, numNumber, entryNumber, oneMore, unusedNumber, turnOf}
+use Rattle.walk.specs.Walk.{typeNumber, followed, gdrNamed, fieldNumber, tallied, varsTally, varNumber, chainTally, attrNumber, valuesNumber, entriesTally, numNumber, entryNumber, oneMore, unusedNumber, turnOf}
 use Rattle.marks.specs.Marks.{cleared, marked, startAt, unclaimedAt, followedAt, leftFrom, leftOf}
 use Rattle.checker.specs.Step.{Run, answerOf, openNumber, linkNumber, turned, stepBy, runOf, plainRun}
 
@@ -177,7 +177,7 @@ unfolding bigAt endOf fieldAt isAt atLeast atMost inOrder sameAt eachWithin natA
     tileFields tileRight typeUncarried tile adrRight adrRule elementSize aedrRight aedrRule vxrRight vxrRule rises rangeNumber
     entryOf vvrRule uirRule capped carriedOf vdrFields countPlace countRight layoutAt layoutOf valueBytes padBytes
     sizeExact dimensionsRight factorOf spread recordBytes dimensioned variableOf typeNumber followed gdrNamed fieldNumber tallied varsTally
-    varNumber chainTally attrNumber entriesTally numNumber entryNumber oneMore unusedNumber turnOf cleared marked startAt unclaimedAt
+    varNumber chainTally attrNumber valuesNumber entriesTally numNumber entryNumber oneMore unusedNumber turnOf cleared marked startAt unclaimedAt
     followedAt leftFrom leftOf openNumber linkNumber turned stepBy runOf littleAt placeAfter elementPlace indicesRight
     rowFits placed placeOf rawAt valueOf bitsOf isVax isNothing decodedOf opened allowance landsOn vdrKept ruleKept meets
     lastLink sought placeWay variableWay recordThere recordRead lookedUp scanned indexMet lastIndex indexed valuesMet

@@ -41,7 +41,8 @@ countPlace f k o = cond (eqb k 8) (o + 128) (gdrAt f + 36)
 unfoldable pub countRight : List ℕ → ℕ → Bool
 countRight f p = atLeast f p (pos 0) && atMost f p (pos 10)
 
--- n dimensions counted at p: where their sizes and variances stand. An rVariable's sizes stand in the GDR (60), if it has any
+-- n dimensions counted at p: where their sizes and variances stand. An rVariable's sizes stand in the GDR (60); where it has no
+-- dimensions nothing more of the GDR is needed, and their place is that of the variances
 abbrev pub rSizes : ℕ → ℕ → ℕ → ℕ
 rSizes o p n = cond (eqb n 0) (o + 128) (p + 24)
 

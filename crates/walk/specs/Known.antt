@@ -1,4 +1,4 @@
--- The variable that the walk is at. Assumes nothing.
+-- The variable that the code keeps beside the walk; no rule speaks of it. Assumes nothing.
 use mathlib.Core.Path.{_≡_}
 use mathlib.Core.Bool.{cond}
 use mathlib.Core.List.{List}
@@ -20,7 +20,7 @@ knownOf f (Attrs p n) = vdrFault 20
 knownOf f (Entries k a n p e g) = vdrFault 20
 knownOf f (Unused p b) = vdrFault 20
 
--- the VDR of a kind that the link at p leads to, or v where the link passes the file's end
+-- the VDR of a kind at the offset that the link at p says, 0 too, or v where the link passes the file's end
 abbrev pub linkedOf : List ℕ → ℕ → ℕ → Variable → Variable
 linkedOf f k p v = cond (ltb (endOf f) (p + 4)) v (variableOf f k (linkAt f p))
 

@@ -5,7 +5,7 @@ use mathlib.Core.List.{List, [], _∷_}
 use lib.Dec.{ltb, leb, eqb}
 use lib.IntN.{ℤ, pos, negsuc}
 use Rattle.format.specs.Fields.{endOf, isAt, sameAt, atLeast, natAt, linkAt, afterAt, before}
-use Rattle.records.specs.Rules.{typedAt}
+use Rattle.records.specs.Rules.{typedAt, reachOf}
 use Rattle.records.specs.Opening.{gdrAt}
 use Rattle.records.specs.Attributes.{adrRule, aedrRule}
 use Rattle.records.specs.Index.{usedAt, vxrRule, entryOf, vvrRule}
@@ -26,7 +26,7 @@ use Rattle.walk.specs.declared.places.Turn.the-variants.{Over, End, Take
 unfoldable pub typeNumber : List ℕ → ℕ → ℤ → ℕ
 typeNumber f o t = cond (ltb (endOf f) (o + 8)) 20 (unless 8 (typedAt f o t))
 
--- a link to the record o that goes on at next if nothing refuses it
+-- a link to the record o that goes on at next if nothing refuses it; where something does, next means nothing and is Start
 abbrev pub takes : ℕ → ℕ → ℕ → ℕ → W.Walk → T.Turn
 takes early o typed late next = Take early o typed late (cond (eqb early 0 && eqb late 0) next Start)
 
@@ -41,7 +41,7 @@ followed f p zero taken = cond (ltb (endOf f) (p + 4)) (End 20) (cond (eqb (link
 unfoldable pub leadsTo : List ℕ → ℕ → L.Link
 leadsTo f p = cond (ltb (endOf f) (p + 4)) Past (cond (eqb (linkAt f p) 0) Zero (To (linkAt f p)))
 
--- the CDR's link to the GDR lies in the file
+-- the CDR's link to the GDR lies in the file; so it does in every file that an opening noted
 unfoldable pub gdrNamed : List ℕ → Bool
 gdrNamed f = leb 20 (endOf f)
 
@@ -53,7 +53,7 @@ overBy f number next = cond (gdrNamed f) (Over number next) (End 20)
 unfoldable pub fieldNumber : List ℕ → ℕ → ℤ → ℕ
 fieldNumber f p z = cond (ltb (endOf f) (p + 4)) 20 (unless 11 (isAt f p z))
 
--- "counts equal lengths, each maximum is the greatest ..": a list's count at p, then its maximum at q; greatest is one more
+-- "counts equal lengths, each maximum is the greatest ..": a list's count at p, then its maximum at q; greatest is the maximum + 1
 unfoldable pub tallied : List ℕ → ℕ → ℕ → ℕ → ℕ → ℕ
 tallied f p n q greatest = first (fieldNumber f p (pos n) ∷ fieldNumber f q (before greatest) ∷ [])
 
@@ -99,9 +99,9 @@ vxrTaken f u floor covered o = takes 0 o (typeNumber f o (pos 6)) (vxrRule f o) 
 abbrev pub covers : List ℕ → ℕ → Entry → Bool
 covers f v e = atLeast f (v + 16) (pos 0) && (leb (e .first) (natAt f (v + 16)) && leb (natAt f (v + 16)) (e .last))
 
--- the VVR's rule, with the record bytes of the variable; before it the VDR's, which these come from
-abbrev pub valuesNumber : List ℕ → Variable → Entry → ℕ
-valuesNumber f v e = cond (eqb (v .fault) 0) (vvrRule f (e .link) (e .last - e .first + 1) (v .bytes)) (v .fault)
+-- the VVR's own size; then the VDR's rule, which the record bytes come from; then the VVR's rule
+unfoldable pub valuesNumber : List ℕ → Variable → Entry → ℕ
+valuesNumber f v e = first (reachOf f (e .link) 8 ∷ v .fault ∷ vvrRule f (e .link) (e .last - e .first + 1) (v .bytes) ∷ [])
 
 abbrev pub entryRefused : Entry → ℕ → ℕ → T.Turn
 entryRefused e typed late = Take (e .fault) (e .link) typed late Start

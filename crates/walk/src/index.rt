@@ -13,6 +13,7 @@ use crate::places::Walk;
 use format::fields;
 use records::index;
 use records::index::Entry;
+use records::rules;
 use variables::vdr::Variable;
 
 // 11 unless VXRtail is the last VXR, 20 where it passes the file's end, then 12 unless MaxRec is -1 or covered.
@@ -108,11 +109,15 @@ fn is_covered(f: &[u8], v: u32, e: Entry) -> bool
     fields::at_least(f, v as usize + 16, 0) & ((e.first <= most) & (most <= e.last))
 }
 
-// 10 or 20 by the VDR's rule, then by the VVR's.
+// 10 by the VVR's own size, 10 or 20 by the VDR's rule, then 10 by the VVR's.
 fn values_number(f: &[u8], v: Variable, e: Entry) -> u32
     requires { ⌜ (v .bytes ≤ 2147483648) × (e .first ≤ e .last) × (e .last < 2147483648) ⌝ }
     ensures { λ r. ⌜ (r ≡ valuesNumber (now (f .entry)) v e) × (r ≡ 0 → v .fault ≡ 0) ⌝ }
 {
+    let reached = rules::reach(f, e.link, 8);
+    if reached != 0 {
+        return reached;
+    }
     if v.fault != 0 {
         return v.fault;
     }

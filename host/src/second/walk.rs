@@ -187,6 +187,7 @@ impl<'a> Step<'a> {
         let index = Index::at(self.file, self.now.before).ok_or(End::PastEnd("First"))?;
         let entry = index.entry(self.file, self.now.entry, self.now.floor)?;
         let vvr = self.record(entry.values, record_type::VVR)?;
+        demand(vvr.size >= 8, 10)?;
         let vdr = Record::at(self.file, self.now.owner).ok_or(End::PastEnd("VDR's size"))?;
         let variable = rules::variable(&vdr, kind, self.gdr()?)?;
         rules::values(&vvr, &entry, variable.record_bytes)?;
@@ -270,11 +271,11 @@ impl<'a> Step<'a> {
         let mut offset = CDR;
         while offset != length(self.file) {
             let record = self.record_start(offset, "size and type, from record to record")?;
+            let in_use = offset != CDR && record.record_type != Some(record_type::UIR);
+            demand(!in_use || self.mark_at(offset) == Some(2), 13)?;
             if !record.is_inside() {
                 return Err(End::PastEnd("next record, from record to record"));
             }
-            let in_use = offset != CDR && record.record_type != Some(record_type::UIR);
-            demand(!in_use || self.mark_at(offset) == Some(2), 13)?;
             offset += record.size;
         }
         Ok(())

@@ -3,7 +3,7 @@ use Prim.Native.Nat.{_+_, _≤_}
 use lib.ListN.{length}
 use borrow.Author.Tests.{not-true, not-false}
 use Rattle.marks.specs.Marks.{leftOf, leftFrom}
-use Rattle.marks.proofs.Onward.{at-end, not-followed, not-claimed, next-one, none-left}
+use Rattle.marks.proofs.Onward.{at-end, past-end, not-claimed, not-followed, next-one, none-left}
 use borrow.Author.Needs.{needs}
 use native.Mathlib.Omega.{arith}
 use Rattle.marks.proofs.left.Statement.{statement}
@@ -23,36 +23,52 @@ unfolding leftOf
 loop-holds c = search needs
 
 returns : tie.Need-returns Inv-loop μ-loop
-returns c = let l = c .before .before .loop in let a = c .before .before .before .before .before .before .args in at-end (a .f .now) (a .m .now) (l .n) (l .o) (c .before .loop-test .taken) (c .if1 .taken ∙ c .before .before .before .end .ensures .0) ∙ sym (l .inv .1)
+returns c =
+    let l = c .before .before .loop in
+    let a = c .before .before .before .before .before .before .args in
+    at-end (a .f .now) (a .m .now) (l .n) (l .o) (c .before .loop-test .taken) (c .if1 .taken ∙ c .before .before .before .end .ensures .0) ∙ sym (l .inv .1)
 
-is-followed-requires : tie.Need-is-followed-requires Inv-loop μ-loop
-is-followed-requires c κs = omega arith
+add-if2 : tie.Need-add-if2 Inv-loop μ-loop
+add-if2 c = omega arith
 
 returns-2 : tie.Need-returns-2 Inv-loop μ-loop
 returns-2 c =
-    let l = c .before .before .before .before .loop in
-    let a = c .before .before .before .before .before .before .before .before .args in
-    let k = c .before .is-followed in
-    not-followed (a .f .now) (a .m .now) (l .n) (l .o) (c .before .before .before .loop-test .taken) (λ e. c .before .before .if1 .left (e ∙ sym (c .before .before .before .before .before .end .ensures .0))) (sym (k .ensures .0) ∙ not-true (k .result) (c .if2 .taken)) ∙ sym (l .inv .1)
+    let l = c .before .before .before .loop in
+    let a = c .before .before .before .before .before .before .before .args in
+    let end = c .before .before .before .before .end .ensures .0 in
+    past-end (a .f .now) (a .m .now) (l .n) (l .o) (c .before .before .loop-test .taken) (λ e. c .before .if1 .left (e ∙ sym end)) (rw end at (c .if2 .taken)) ∙ sym (l .inv .1)
 
 is-unclaimed-requires : tie.Need-is-unclaimed-requires Inv-loop μ-loop
-is-unclaimed-requires c κs = let k = c .before .is-followed in (search needs, k .ensures .1 (not-false (k .result) (c .if2 .left)) .fields)
+is-unclaimed-requires c κs = (search needs, omega (arith, c .if2 .left, c .before .before .before .before .end .ensures .1))
 
 returns-3 : tie.Need-returns-3 Inv-loop μ-loop
 returns-3 c =
-    let l = c .before .before .before .before .before .before .loop in
-    let a = c .before .before .before .before .before .before .before .before .before .before .args in
-    let k = c .before .before .before .is-followed in
-    not-claimed (a .f .now) (a .m .now) (l .n) (l .o) (c .before .before .before .before .before .loop-test .taken) (λ e. c .before .before .before .before .if1 .left (e ∙ sym (c .before .before .before .before .before .before .before .end .ensures .0))) (sym (k .ensures .0) ∙ not-false (k .result) (c .before .before .if2 .left)) (sym (c .before .is-unclaimed .ensures) ∙ c .if3 .taken) ∙ sym (l .inv .1)
+    let l = c .before .before .before .before .before .loop in
+    let a = c .before .before .before .before .before .before .before .before .before .args in
+    let end = c .before .before .before .before .before .before .end .ensures .0 in
+    not-claimed (a .f .now) (a .m .now) (l .n) (l .o) (c .before .before .before .before .loop-test .taken) (λ e. c .before .before .before .if1 .left (e ∙ sym end)) (rw end at (c .before .before .if2 .left))
+    (sym (c .before .is-unclaimed .ensures) ∙ c .if3 .taken) ∙ sym (l .inv .1)
+
+is-followed-requires : tie.Need-is-followed-requires Inv-loop μ-loop
+is-followed-requires c κs = omega (arith, c .before .before .if2 .left, c .before .before .before .before .before .before .end .ensures .1)
+
+returns-4 : tie.Need-returns-4 Inv-loop μ-loop
+returns-4 c =
+    let l = c .before .before .before .before .before .before .before .loop in
+    let a = c .before .before .before .before .before .before .before .before .before .before .before .args in
+    let end = c .before .before .before .before .before .before .before .before .end .ensures .0 in
+    let k = c .before .is-followed in
+    not-followed (a .f .now) (a .m .now) (l .n) (l .o) (c .before .before .before .before .before .before .loop-test .taken) (λ e. c .before .before .before .before .before .if1 .left (e ∙ sym end)) (rw end at (c .before .before .before .before .if2 .left))
+    (sym (c .before .before .before .is-unclaimed .ensures) ∙ c .before .before .if3 .left) (sym (k .ensures .0) ∙ not-true (k .result) (c .if4 .taken)) ∙ sym (l .inv .1)
 
 nat-at-requires : tie.Need-nat-at-requires Inv-loop μ-loop
-nat-at-requires c κs = let k = c .before .before .before .is-followed in omega (arith, k .ensures .1 (not-false (k .result) (c .before .before .if2 .left)) .fields)
+nat-at-requires c κs = omega (arith, c .before .before .before .before .if2 .left, c .before .before .before .before .before .before .before .before .end .ensures .1)
 
 cast-o : tie.Need-cast-o Inv-loop μ-loop
 cast-o c = search needs
 
 add-o : tie.Need-add-o Inv-loop μ-loop
-add-o c = search needs
+add-o c = omega arith
 
 sub-n : tie.Need-sub-n Inv-loop μ-loop
 sub-n c = search needs
@@ -62,14 +78,22 @@ loop-less c = search needs
 
 loop-again : tie.Need-loop-again Inv-loop μ-loop
 loop-again c =
-    let l = c .before .before .before .before .before .before .before .loop in
-    let a = c .before .before .before .before .before .before .before .before .before .before .before .args in
-    let k = c .before .before .before .before .is-followed in
-    let t = not-false (k .result) (c .before .before .before .if2 .left) in
-    (omega (arith, k .ensures .1 t .next, c .nat-at .ensures .0), l .inv .1 ∙ next-one (a .f .now) (a .m .now) (l .n) (l .o) (c .before .before .before .before .before .before .loop-test .taken) (λ e. c .before .before .before .before .before .if1 .left (e ∙ sym (c .before .before .before .before .before .before .before .before .end .ensures .0))) (sym (k .ensures .0) ∙ t) (sym (c .before .before .is-unclaimed .ensures) ∙ c .before .if3 .left) ∙ rw (c .nat-at .ensures .0))
+    let l = c .before .before .before .before .before .before .before .before .loop in
+    let a = c .before .before .before .before .before .before .before .before .before .before .before .before .args in
+    let end = c .before .before .before .before .before .before .before .before .before .end .ensures .0 in
+    let k = c .before .before .is-followed in
+    let t = not-false (k .result) (c .before .if4 .left) in (
+      omega (arith, k .ensures .1 t, c .nat-at .ensures .0),
+      l .inv .1
+          ∙ next-one (a .f .now) (a .m .now) (l .n) (l .o) (c .before .before .before .before .before .before .before .loop-test .taken) (λ e. c .before .before .before .before .before .before .if1 .left (e ∙ sym end)) (rw end at (c .before .before .before .before .before .if2 .left))
+          (sym (c .before .before .before .before .is-unclaimed .ensures) ∙ c .before .before .before .if3 .left) (sym (k .ensures .0) ∙ t) ∙ rw (c .nat-at .ensures .0),
+    )
 
-returns-4 : tie.Need-returns-4 Inv-loop μ-loop
-returns-4 c = let l = c .before .loop in let a = c .before .before .before .before .before .args in none-left (a .f .now) (a .m .now) (l .n) (l .o) (c .loop-test .left) ∙ sym (l .inv .1)
+returns-5 : tie.Need-returns-5 Inv-loop μ-loop
+returns-5 c =
+    let l = c .before .loop in
+    let a = c .before .before .before .before .before .args in
+    none-left (a .f .now) (a .m .now) (l .n) (l .o) (c .loop-test .left) ∙ sym (l .inv .1)
 
 pub left-spec : {M : Type 1} → statement M
 left-spec =
@@ -80,14 +104,16 @@ left-spec =
     end-requires
     loop-holds
     returns
-    is-followed-requires
+    add-if2
     returns-2
     is-unclaimed-requires
     returns-3
+    is-followed-requires
+    returns-4
     nat-at-requires
     cast-o
     add-o
     sub-n
     loop-less
     loop-again
-    returns-4)
+    returns-5)
