@@ -1,14 +1,12 @@
 -- Two's complement, once for every width: `if n < HALF { n as iN } else { -1 - ((ONES - n) as iN) }` is `signedOf`. Assumes nothing.
-use mathlib.Core.Path.{_≡_, refl, sym, ap, _∙_}
-use mathlib.Core.Bool.{Bool, true, false, cond}
+use mathlib.Core.Path.{_≡_, refl, ap, _∙_}
 use Prim.Native.Nat.{ℕ, zero, suc, _-_, _*_, _^_, _≤_, _<_}
 use native.Mathlib.Nat.{zero-add}
 use native.Mathlib.Omega.{arith}
-use borrow.Author.Tests.{le-ltb}
-use lib.Dec.{ltb}
+use borrow.Author.Tests.{lt-ltb, le-ltb}
 use lib.IntN.{ℤ, pos, negsuc, _-ℤ_}
 use mir.Syntax.{Width, w8, w16, w32, w64, w128}
-use mir.Val.{SFits, toZ, ofZ, bits, hbits, sel}
+use mir.Val.{SFits, toZ, ofZ, bits, hbits}
 use mir.Facts.{toZ-pos, toZ-ofZ}
 use Rattle.format.specs.Bytes.{signedOf}
 
@@ -19,16 +17,15 @@ twice w32 = refl
 twice w64 = refl
 twice w128 = refl
 
-same-cond : (b : Bool) (x y : ℤ) → cond b x y ≡ sel b x y
-same-cond true x y = refl
-same-cond false x y = refl
+double : (w : Width) → 2 ^ suc (hbits w) ≡ 2 ^ bits w
+double w8 = refl
+double w16 = refl
+double w32 = refl
+double w64 = refl
+double w128 = refl
 
-signed-is : (w : Width) (n : ℕ) → signedOf (hbits w) n ≡ toZ w n
-signed-is w8 n = same-cond (ltb n (2 ^ 7)) _ _
-signed-is w16 n = same-cond (ltb n (2 ^ 15)) _ _
-signed-is w32 n = same-cond (ltb n (2 ^ 31)) _ _
-signed-is w64 n = same-cond (ltb n (2 ^ 63)) _ _
-signed-is w128 n = same-cond (ltb n (2 ^ 127)) _ _
+pub pos-is : (w : Width) (n : ℕ) → n < 2 ^ hbits w → toZ w n ≡ signedOf (hbits w) n
+pos-is w n low = toZ-pos w low ∙ rw (lt-ltb n (2 ^ hbits w) low)
 
 less-one : (m : ℕ) → negsuc 0 -ℤ pos m ≡ negsuc m
 less-one zero = refl
@@ -45,8 +42,4 @@ module _ (w : Width) (n : ℕ) (high : 2 ^ hbits w ≤ n) (fits : n < 2 ^ bits w
   neg-fits = rw is-neg (record { sfits = small })
 
   pub neg-is : toZ w (ofZ w (negsuc 0 -ℤ toZ w (2 ^ bits w - 1 - n))) ≡ signedOf (hbits w) n
-  neg-is =
-      toZ-ofZ neg-fits ∙ is-neg
-      ∙ ap negsuc (omega arith)
-      ∙ sym (ap (λ (b : Bool). sel b (pos n) (negsuc (2 ^ bits w - suc n))) (le-ltb n (2 ^ hbits w) high))
-      ∙ sym (signed-is w n)
+  neg-is = toZ-ofZ neg-fits ∙ is-neg ∙ rw (le-ltb n (2 ^ hbits w) high) (ap negsuc (omega (arith, double w)))

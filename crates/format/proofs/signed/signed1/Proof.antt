@@ -1,5 +1,5 @@
 use mir.Syntax.{w8}
-use Rattle.format.proofs.Complement.{neg-fits, neg-is}
+use Rattle.format.proofs.Complement.{pos-is, neg-fits, neg-is}
 use borrow.Author.Needs.{needs}
 use Rattle.format.proofs.signed.signed1.Statement.{statement}
 use Rattle.format.proofs.signed.signed1.Tie as tie
@@ -17,7 +17,7 @@ sub-result-2 : tie.Need-sub-result-2
 sub-result-2 c = neg-fits w8 (c .before .args .n) (c .if1 .left) (c .before .fits .n .fits)
 
 returns : tie.Need-returns
-returns c = search needs
+returns c = pos-is w8 (c .before .args .n) (c .if1 .taken)
 
 returns-2 : tie.Need-returns-2
 returns-2 c = neg-is w8 (c .before .args .n) (c .if1 .left) (c .before .fits .n .fits)
