@@ -1,11 +1,11 @@
-use Prim.Native.Nat.{ℕ, _+_, _≤_, _<_}
+use Prim.Native.Nat.{ℕ, _+_, _/_, _%_, _≤_, _<_}
 use mathlib.Core.List.{List}
 use mathlib.Core.Path.{_≡_, sym}
-use lib.ListN.{length, length-set}
+use lib.ListN.{length, set, length-set}
 use native.Mathlib.Omega.{arith}
 use borrow.Author.Needs.{needs}
 use borrow.Author.Tests.{lt-leb, le-leb}
-use Rattle.making.specs.Stored.{written, stored}
+use Rattle.making.specs.Stored.{stored}
 use Rattle.making.proofs.put.Statement.{statement}
 use Rattle.making.proofs.put.Tie as tie
 
@@ -14,9 +14,10 @@ stored-past : (f : List ℕ) (at n : ℕ) → length f < at + 4 → stored f at 
 unfolding stored
 stored-past f at n h = simp (lt-leb _ _ h)
 
-stored-in : (f : List ℕ) (at n : ℕ) → at + 4 ≤ length f → stored f at n ≡ written f at n
+stored-in : (f : List ℕ) (at n third : ℕ) → at + 4 ≤ length f → third ≡ n / 256 % 256
+    → set (set (set (set f at (n / 16777216)) (at + 1) (n / 65536 % 256)) (at + 2) third) (at + 3) (n % 256) ≡ stored f at n
 unfolding stored
-stored-in f at n h = simp (le-leb _ _ h)
+stored-in f at n third h e = simp (le-leb _ _ h, e)
 
 returns : tie.Need-returns
 returns c = sym (stored-past _ _ _ (omega arith))
@@ -64,7 +65,7 @@ same-length : tie.Need-same-length
 same-length c = search needs
 
 returns-3 : tie.Need-returns-3
-returns-3 c = sym (stored-in _ _ _ (omega arith))
+returns-3 c = stored-in _ _ _ _ (omega arith) (omega arith)
 
 pub put-spec : {M : Type 1} → statement M
 put-spec =

@@ -1,4 +1,5 @@
 use Rattle.variables.proofs.Capped.{capped-over, capped-under}
+use native.Mathlib.Omega.{arith}
 use borrow.Author.Tests.{lt-ltb, le-ltb, not-true, not-false}
 use Rattle.variables.specs.Vdr.{dimensioned, recordBytes}
 use borrow.Author.Needs.{needs}
@@ -65,14 +66,14 @@ faulty-requires-5 c κs = search needs
 
 returns-5 : tie.Need-returns-5
 unfolding dimensioned recordBytes
-returns-5 c = simp (c .faulty5 .ensures, capped-over _ _ (c .before .before .record-bytes .ensures .0) (c .before .if5 .taken), not-false (c .before .before .before .before .dimensions-right .result) (c .before .before .before .if4 .left), ← c .before .before .before .before .dimensions-right .ensures, le-ltb _ _ (c .before .before .before .before .before .if3 .left), le-ltb _ _ (c .before .before .before .before .before .before .before .if2 .left), not-false (c .before .before .before .before .before .before .before .before .before .before .size-exact .result) (c .before .before .before .before .before .before .before .before .before .if1 .left), ← c .before .before .before .before .before .before .before .before .before .before .size-exact .ensures, ← c .before .before .before .before .before .before .before .before .before .before .before .before .end .ensures .0, ← c .before .before .before .before .before .before .before .before .before .before .before .value-bytes .ensures .0)
+returns-5 c = simp (c .faulty5 .ensures, capped-over _ _ (c .before .before .record-bytes .ensures .0) (omega arith), not-false (c .before .before .before .before .dimensions-right .result) (c .before .before .before .if4 .left), ← c .before .before .before .before .dimensions-right .ensures, le-ltb _ _ (c .before .before .before .before .before .if3 .left), le-ltb _ _ (c .before .before .before .before .before .before .before .if2 .left), not-false (c .before .before .before .before .before .before .before .before .before .before .size-exact .result) (c .before .before .before .before .before .before .before .before .before .if1 .left), ← c .before .before .before .before .before .before .before .before .before .before .size-exact .ensures, ← c .before .before .before .before .before .before .before .before .before .before .before .before .end .ensures .0, ← c .before .before .before .before .before .before .before .before .before .before .before .value-bytes .ensures .0)
 
 cap-requires : tie.Need-cap-requires
 cap-requires c κs = search needs
 
 returns-6 : tie.Need-returns-6
 unfolding dimensioned recordBytes
-returns-6 c = simp (← c .cap .ensures .0, ← c .before .before .before .before .before .before .before .before .before .before .before .value-bytes .ensures .0, capped-under _ _ (c .before .before .record-bytes .ensures .0) (c .before .if5 .left), ← c .before .before .record-bytes .ensures .0, not-false (c .before .before .before .before .dimensions-right .result) (c .before .before .before .if4 .left), ← c .before .before .before .before .dimensions-right .ensures, le-ltb _ _ (c .before .before .before .before .before .if3 .left), le-ltb _ _ (c .before .before .before .before .before .before .before .if2 .left), not-false (c .before .before .before .before .before .before .before .before .before .before .size-exact .result) (c .before .before .before .before .before .before .before .before .before .if1 .left), ← c .before .before .before .before .before .before .before .before .before .before .size-exact .ensures, ← c .before .before .before .before .before .before .before .before .before .before .before .before .end .ensures .0)
+returns-6 c = simp (← c .cap .ensures .0, ← c .before .before .before .before .before .before .before .before .before .before .before .value-bytes .ensures .0, capped-under _ _ (c .before .before .record-bytes .ensures .0) (omega arith), ← c .before .before .record-bytes .ensures .0, not-false (c .before .before .before .before .dimensions-right .result) (c .before .before .before .if4 .left), ← c .before .before .before .before .dimensions-right .ensures, le-ltb _ _ (c .before .before .before .before .before .if3 .left), le-ltb _ _ (c .before .before .before .before .before .before .before .if2 .left), not-false (c .before .before .before .before .before .before .before .before .before .before .size-exact .result) (c .before .before .before .before .before .before .before .before .before .if1 .left), ← c .before .before .before .before .before .before .before .before .before .before .size-exact .ensures, ← c .before .before .before .before .before .before .before .before .before .before .before .before .end .ensures .0)
 
 pub dimensioned-vdr-spec : {M : Type 1} → statement M
 dimensioned-vdr-spec =
