@@ -1,7 +1,8 @@
 # Tlepozaluh. `make run`: the tools on a good file and on rings, then the worked examples. `make test`: the gate.
 # `make lib`: the static libraries for C. `make tools`: the programs. `make bench`: the speed of check and reader against the
 # same in plain C. `make install`: header, libraries, programs and manual pages below PREFIX, with DESTDIR before it.
-.PHONY: run examples test lib tools bench install clean build/tlepozaluh.pc build/tlepozaluh_read.pc
+# `make neighbours`: each must-fail edit is refused, and its true neighbour is not.
+.PHONY: run examples test neighbours lib tools bench install clean build/tlepozaluh.pc build/tlepozaluh_read.pc
 
 VERSION = 0.1.0
 PREFIX = /usr/local
@@ -34,6 +35,10 @@ examples:
 
 test:
 	.ci/run
+
+neighbours:
+	rt check
+	tests/neighbours/run
 
 lib: $(LIBRARIES)
 

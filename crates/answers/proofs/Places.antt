@@ -5,13 +5,12 @@ use mathlib.Core.List.{List}
 use Prim.Native.Nat.{ℕ, _≤_}
 use native.Mathlib.Omega.{arith}
 use lib.IntN.{ℤ}
-use Rattle.format.specs.Fields.{bitAt}
 use Rattle.variables.specs.Limit.{capped}
 use Rattle.variables.specs.Place.{elementPlace, placed, placeOf}
 use Rattle.variables.specs.declared.vdr.Variable.{Variable}
 use Rattle.variables.specs.declared.place.Place.{Place}
 use Rattle.variables.specs.declared.place.Place.the-variants.{At, Wrong}
-use Rattle.answers.specs.Answers.{atPlace, inRecord}
+use Rattle.answers.specs.Answers.{rowMajority, atPlace, inRecord}
 
 capped-small : (n : ℕ) → capped n ≤ 2147483648
 unfolding capped
@@ -30,6 +29,6 @@ place-small f u row is n e = go (placed f (u .dimensions) is) e
     go false e = absurd (let z : _≡_ {A = ℕ} 0 1 = cc in omega arith)
 
 -- the value at the place that the indices give
-pub place-read : (f : List ℕ) (v : ℕ) (u : Variable) (at : ℕ) (is : List ℤ) (x : ℤ) {row : Bool} {p : Place} → row ≡ bitAt f 32 1 → p ≡ placeOf f u row is → atPlace f v (u .value) at x p ≡ inRecord f v u at is x
+pub place-read : (f : List ℕ) (v : ℕ) (u : Variable) (at : ℕ) (is : List ℤ) (x : ℤ) {row : Bool} {p : Place} → row ≡ rowMajority f → p ≡ placeOf f u row is → atPlace f v (u .value) at x p ≡ inRecord f v u at is x
 unfolding inRecord
 place-read f v u at is x e h = ap (atPlace f v (u .value) at x) (h ∙ ap (λ (b : Bool). placeOf f u b is) e)

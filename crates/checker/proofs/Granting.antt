@@ -28,7 +28,10 @@ module _ (f m l : List ℕ) (n : ℕ) (twelve : length l ≡ 12) (s : State) (is
     unfolding grantBy
     other e = rw (running, ne-eqb n 0 some, e)
 
-    works : otherFile f m (s .length) ≡ false → grantBy f m l n s ≡ worked (runOf f (conf s m) n)
+    abbrev lentRun : Run
+    lentRun = runOf f (conf s m) n
+
+    works : otherFile f m (s .length) ≡ false → grantBy f m l n s ≡ worked lentRun
     unfolding grantBy
     works e = rw (running, ne-eqb n 0 some, e)
 
@@ -37,15 +40,15 @@ module _ (f m l : List ℕ) (n : ℕ) (twelve : length l ≡ 12) (s : State) (is
 
     pub of-run : otherFile f m (s .length) ≡ false
         → (r : Run)
-        → r ≡ runOf f (conf s m) n
+        → r ≡ lentRun
         → (a : ℤ)
         → a ≡ answerOf (r .at .state .stage)
         → (l′ : List ℕ)
         → l′ ≡ save (r .at .state)
-        → granted a (r .made) l′ (r .at .marks) ≡ grantOf f m l n
+        → granted a (worked r .steps) l′ (r .at .marks) ≡ grantOf f m l n
     of-run e r k a h l′ g =
-        ap (λ (z : ℤ). granted z (r .made) l′ (r .at .marks)) h
-        ∙ ap (λ (x : List ℕ). granted (answerOf (r .at .state .stage)) (r .made) x (r .at .marks)) g
+        ap (λ (z : ℤ). granted z (worked r .steps) l′ (r .at .marks)) h
+        ∙ ap (λ (x : List ℕ). granted (answerOf (r .at .state .stage)) (worked r .steps) x (r .at .marks)) g
         ∙ ap worked k
         ∙ sym (works e)
         ∙ by-state

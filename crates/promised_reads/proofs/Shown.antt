@@ -171,8 +171,6 @@ module _ (f : List ℕ) (k n r : ℤ) (is : List ℤ) (x : ℤ) (N : ℕ → Typ
         (λ h. let b = inside h in omega (arith, b, loc .is, loc .size, loc .lies .inside))
         (λ a h i d.
         let b = inside h in
-        let q : a .offset ≡ namedBy f (loc .slot) + 8 + (recordRead f v r - firstOf f (loc .slot)) * recordBytes f v l + place * valueBytes f v + natOr 0 x * elementSize f (v + 12)
-        = i ∙ ap (λ (at : ℕ). at + place * valueBytes f v + natOr 0 x * elementSize f (v + 12)) (loc .is) in
         record {
           kind = found .kind;
           number = found .listed .least;
@@ -189,8 +187,8 @@ module _ (f : List ℕ) (k n r : ℤ) (is : List ℤ) (x : ℤ) (N : ℕ → Typ
           size = loc .size;
           indices = ok;
           element = h;
-          offset = q;
-          inside = record { begins = omega (arith, q); ends = omega (arith, q, b, loc .size) };
+          offset = omega (arith, i, loc .is);
+          inside = record { begins = omega (arith, i, loc .is); ends = omega (arith, i, loc .is, b, loc .size) };
           decoded = d;
         })
       where

@@ -22,9 +22,13 @@ use Rattle.ways.specs.declared.indexes.Values.the-variants.{Record, Refu
 abbrev pub recordVaries : List ℕ → ℕ → Bool
 recordVaries f v = bitAt f (v + 28) 1
 
+-- VDR: "MaxRec 16"
+abbrev pub maxRecPlace : ℕ → ℕ
+maxRecPlace v = v + 16
+
 -- "A record number from 0 to MaxRec is looked up; with record variance clear any number from 0 reads record 0, and 16 is given if MaxRec is -1"
 unfoldable pub recordThere : List ℕ → ℕ → ℤ → Bool
-recordThere f v r = leZ (pos 0) r && cond (recordVaries f v) (leZ r (fieldAt f (v + 16))) (atLeast f (v + 16) (pos 0))
+recordThere f v r = leZ (pos 0) r && cond (recordVaries f v) (leZ r (fieldAt f (maxRecPlace v))) (atLeast f (maxRecPlace v) (pos 0))
 
 unfoldable pub recordRead : List ℕ → ℕ → ℤ → ℕ
 recordRead f v r = cond (recordVaries f v) (natOr 0 r) 0

@@ -10,7 +10,7 @@ sub-result-2 : tie.Need-sub-result-2
 sub-result-2 c = search needs
 
 returns : tie.Need-returns
-returns c = search needs
+returns c = (rw (c .if1 .taken) (omega arith), omega arith)
 
 returns-2 : tie.Need-returns-2
 returns-2 c = (rw (c .if1 .left) (omega arith), omega arith)
