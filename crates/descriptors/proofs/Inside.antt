@@ -10,15 +10,16 @@ use lib.Dec.{eqb}
 use Rattle.format.specs.Fields.{endOf, eqZ}
 use Rattle.variables.specs.Vdr.{countPlace, layoutAt, layoutOf, variableOf}
 use Rattle.variables.proofs.Right.{right}
+use Rattle.variables.proofs.Dimensions.{Dimensions, of-variable}
 use Rattle.ways.specs.Lists.{kindAmong, meets, variableWay, attributeWay, entryWay}
 use Rattle.ways.specs.declared.lists.Wanted.{Wanted}
 use Rattle.ways.specs.declared.lists.Way.{Way}
 use Rattle.ways.specs.declared.lists.Way.the-variants.{Found, Stopped}
 use Rattle.ways.proofs.Sought.{Finds}
 use Rattle.ways.proofs.Found.{Met, variable-finds, attribute-finds, entry-finds, attribute-inside, entry-inside, variable-right, variable-inside}
-use Rattle.descriptors.specs.declared.Field.the-variants.{Refused}
-use Rattle.descriptors.specs.Descriptors.{rowField, variableSize, variableVariance}
-use Rattle.descriptors.specs.Bounds.{fieldBytes, Holds}
+use Rattle.descriptors.specs.declared.Dimensions.the-variants.{Are, Unknown}
+use Rattle.descriptors.specs.Descriptors.{variableDimensions}
+use Rattle.descriptors.specs.Bounds.{fieldBytes, Holds, Lie}
 
 -- what a way has found holds as many bytes as each record that it can find
 holds : (f : List ℕ) (t n : ℕ) → ((o : ℕ) → meets f t o ≡ true → o + n ≤ length f) → (way : Way) → Finds (Met f t) way → Holds f n way
@@ -60,26 +61,15 @@ module _ (f : List ℕ) where
   pub found-short : (k n : ℤ) (o left : ℕ) → variableWay f k n ≡ Found o left → length f < 2147483648
   found-short k n o left e = subst (Finds (Met f (kindAmong 3 8 k))) e (variable-finds f k n) .file .short
 
-  -- what is asked of a variable that was found, and of one that was not
-  module _ (k n d : ℤ) where
-    pub size-is : (o left : ℕ) → variableWay f k n ≡ Found o left → eqb (kindAmong 3 8 k) 8 ≡ true
-        → variableSize f k n d ≡ rowField f (variableOf f (kindAmong 3 8 k) o .dimensions .sizes) (variableOf f (kindAmong 3 8 k) o .dimensions .count) d
-    unfolding variableSize
-    size-is o left e h = rw (e, h)
+  -- the dimensions of a variable that was found, and of one that was not
+  module _ (k n : ℤ) where
+    pub dimensions-are : (o left : ℕ) → variableWay f k n ≡ Found o left → Are (variableOf f (kindAmong 3 8 k) o .dimensions) ≡ variableDimensions f k n
+    unfolding variableDimensions
+    dimensions-are o left e = rw e
 
-    pub size-none : (o left : ℕ) → variableWay f k n ≡ Found o left → eqb (kindAmong 3 8 k) 8 ≡ false → variableSize f k n d ≡ Refused 18
-    unfolding variableSize
-    size-none o left e h = rw (e, h)
+    pub dimensions-lie : (o left : ℕ) → variableWay f k n ≡ Found o left → Lie f (Are (variableOf f (kindAmong 3 8 k) o .dimensions))
+    dimensions-lie o left e = let d = of-variable f (kindAmong 3 8 k) o in (d .sizes, d .variances, found-short k n o left e)
 
-    pub size-stopped : (v : ℕ) → variableWay f k n ≡ Stopped v → variableSize f k n d ≡ Refused v
-    unfolding variableSize
-    size-stopped v e = rw e
-
-    pub variance-is : (o left : ℕ) → variableWay f k n ≡ Found o left
-        → variableVariance f k n d ≡ rowField f (variableOf f (kindAmong 3 8 k) o .dimensions .variances) (variableOf f (kindAmong 3 8 k) o .dimensions .count) d
-    unfolding variableVariance
-    variance-is o left e = rw e
-
-    pub variance-stopped : (v : ℕ) → variableWay f k n ≡ Stopped v → variableVariance f k n d ≡ Refused v
-    unfolding variableVariance
-    variance-stopped v e = rw e
+    pub dimensions-unknown : (v : ℕ) → variableWay f k n ≡ Stopped v → Unknown v ≡ variableDimensions f k n
+    unfolding variableDimensions
+    dimensions-unknown v e = rw e

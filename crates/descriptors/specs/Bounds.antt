@@ -1,12 +1,15 @@
 -- The bounds with which the code reads a record that a way has found. Assumes nothing.
-use Prim.Native.Nat.{ℕ, _+_, _≤_}
+use Prim.Native.Nat.{ℕ, _+_, _*_, _≤_, _<_}
 use mathlib.Core.Bool.{cond}
 use mathlib.Core.List.{List}
 use lib.ListN.{length}
 use lib.Dec.{eqb}
 use Rattle.ways.specs.Lists.{isEntryKind}
+use Rattle.variables.specs.declared.vdr.Layout.{Layout}
 use Rattle.ways.specs.declared.lists.Way.{Way}
 use Rattle.ways.specs.declared.lists.Way.the-variants.{Found, Stopped}
+use Rattle.descriptors.specs.declared.Dimensions.{Dimensions}
+use Rattle.descriptors.specs.declared.Dimensions.the-variants.{Are, Unknown}
 
 -- the bytes of a record's fields, by its type: an ADR's, an AEDR's, a zVDR's up to its number of dimensions, an rVDR's
 abbrev pub fieldBytes : ℕ → ℕ
@@ -16,3 +19,8 @@ fieldBytes t = cond (eqb t 4) 116 (cond (isEntryKind t) 48 (cond (eqb t 8) 132 1
 abbrev pub Holds : List ℕ → ℕ → Way → Type 0
 Holds f n (Found o left) = o + n ≤ length f
 Holds f n (Stopped v) = Unit {0}
+
+-- the sizes and variances of dimensions lie in a file whose length an offset can say
+abbrev pub Lie : List ℕ → Dimensions → Type 0
+Lie f (Are l) = (l .sizes + 4 * l .count ≤ length f) × (l .variances + 4 * l .count ≤ length f) × (length f < 2147483648)
+Lie f (Unknown v) = Unit {0}

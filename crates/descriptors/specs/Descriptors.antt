@@ -10,12 +10,15 @@ use Rattle.records.specs.Opening.{gdrAt, rNumDims}
 use Rattle.variables.specs.Vdr.{variableOf}
 use Rattle.variables.specs.Place.{indexRight}
 use Rattle.variables.specs.declared.vdr.Variable.{Variable}
+use Rattle.variables.specs.declared.vdr.Layout.{Layout}
 use Rattle.ways.specs.Lists.{opened, isEntryKind, kindAmong, variableWay, attributeWay, entryWay}
 use Rattle.ways.specs.declared.lists.Wanted.{Wanted}
 use Rattle.ways.specs.declared.lists.Way.{Way}
 use Rattle.ways.specs.declared.lists.Way.the-variants.{Found, Stopped}
 use Rattle.descriptors.specs.declared.Field.{Field}
 use Rattle.descriptors.specs.declared.Field.the-variants.{Is, Refused}
+use Rattle.descriptors.specs.declared.Dimensions.{Dimensions}
+use Rattle.descriptors.specs.declared.Dimensions.the-variants.{Are, Unknown}
 use Rattle.descriptors.specs.declared.Name.{Name}
 use Rattle.descriptors.specs.declared.Name.the-variants.{Bytes, Nameless}
 
@@ -72,24 +75,28 @@ rowField f p n d = cond (indexRight d n) (Is (fieldAt f (p + 4 * natOr 0 d))) (R
 unfoldable pub dimensionSize : List ℕ → ℤ → Field
 dimensionSize f d = cond (opened f) (rowField f (gdrAt f + 60) (rNumDims f (gdrAt f)) d) (Refused 20)
 
+-- the dimensions of the VDR that a way has found, or where the way stopped
+abbrev pub dimensionsOn : List ℕ → ℕ → Way → Dimensions
+dimensionsOn f k (Found v left) = Are (variableOf f k v .dimensions)
+dimensionsOn f k (Stopped v) = Unknown v
+
+unfoldable pub variableDimensions : List ℕ → ℤ → ℤ → Dimensions
+variableDimensions f k n = dimensionsOn f (kindAmong 3 8 k) (variableWay f k n)
+
 -- a zVariable's own sizes; an rVariable has none
-abbrev pub sizeOn : List ℕ → ℕ → ℤ → Way → Field
-sizeOn f k d (Found v left) =
-    let l = variableOf f k v .dimensions in
-    cond (eqb k 8) (rowField f (l .sizes) (l .count) d) (Refused 18)
-sizeOn f k d (Stopped v) = Refused v
+abbrev pub sizeOn : List ℕ → ℕ → ℤ → Dimensions → Field
+sizeOn f k d (Are l) = cond (eqb k 8) (rowField f (l .sizes) (l .count) d) (Refused 18)
+sizeOn f k d (Unknown v) = Refused v
 
 unfoldable pub variableSize : List ℕ → ℤ → ℤ → ℤ → Field
-variableSize f k n d = sizeOn f (kindAmong 3 8 k) d (variableWay f k n)
+variableSize f k n d = sizeOn f (kindAmong 3 8 k) d (variableDimensions f k n)
 
-abbrev pub varianceOn : List ℕ → ℕ → ℤ → Way → Field
-varianceOn f k d (Found v left) =
-    let l = variableOf f k v .dimensions in
-    rowField f (l .variances) (l .count) d
-varianceOn f k d (Stopped v) = Refused v
+abbrev pub varianceOn : List ℕ → ℤ → Dimensions → Field
+varianceOn f d (Are l) = rowField f (l .variances) (l .count) d
+varianceOn f d (Unknown v) = Refused v
 
 unfoldable pub variableVariance : List ℕ → ℤ → ℤ → ℤ → Field
-variableVariance f k n d = varianceOn f (kindAmong 3 8 k) d (variableWay f k n)
+variableVariance f k n d = varianceOn f d (variableDimensions f k n)
 
 -- ---- names: "names up to the NUL", 64 bytes at most
 unfoldable pub untilNul : List ℕ → ℕ → ℕ → ℕ

@@ -3,11 +3,12 @@ ghost use mathlib.Core.Path.{_≡_};
 ghost use Prim.Native.Nat.{_+_, _*_, _≤_, _<_};
 ghost use lib.ListN.{length};
 ghost use Rattle.ways.specs.Opened.{Opened};
-ghost use Rattle.descriptors.specs.Descriptors.{isShown, fieldOn, variableField, attributeField, entryField, rowField, dimensionSize, variableSize, variableVariance, untilNul, nameOn, variableName, attributeName, majority, saidPlace, said, fileField};
-ghost use Rattle.descriptors.specs.Bounds.{fieldBytes, Holds};
+ghost use Rattle.descriptors.specs.Descriptors.{isShown, fieldOn, variableField, attributeField, entryField, rowField, dimensionSize, variableDimensions, variableSize, variableVariance, untilNul, nameOn, variableName, attributeName, majority, saidPlace, said, fileField};
+ghost use Rattle.descriptors.specs.Bounds.{fieldBytes, Holds, Lie};
 use format::fields;
 use variables::place;
 use variables::vdr;
+use variables::vdr::Layout;
 use ways::lists;
 use ways::lists::Wanted;
 use ways::lists::Way;
@@ -16,6 +17,12 @@ use ways::lists::Way;
 pub enum Field {
     Is(i32),
     Refused(u8),
+}
+
+// The dimensions of a variable, or the number of a refusal.
+pub enum Dimensions {
+    Are(Layout),
+    Unknown(u8),
 }
 
 // Where a name stands and its length, or the number of a refusal.
@@ -119,23 +126,35 @@ pub fn dimension_size(f: &[u8], d: i64) -> Field
     row_field(f, g + 60, fields::nat_at(f, g + 36), d)
 }
 
-// The size of a dimension of a zVariable, by kind, number and dimension.
-pub fn variable_size(f: &[u8], kind: i64, number: i64, d: i64) -> Field
-    ensures { λ r. ⌜ r ≡ variableSize (now (f .entry)) kind number d ⌝ }
+// The dimensions of a variable, by kind and number.
+fn dimensions_of(f: &[u8], kind: i64, number: i64) -> Dimensions
+    ensures { λ r. ⌜ (r ≡ variableDimensions (now (f .entry)) kind number) × Lie (now (f .entry)) r ⌝ }
 {
     let way = lists::to_variable(f, kind, number);
     match way {
         Way::Found { at, left: _ } => {
-            let k = lists::kind_among(3, 8, kind);
-            let v = vdr::known_at(f, k, at);
+            let v = vdr::known_at(f, lists::kind_among(3, 8, kind), at);
             let l = v.dimensions;
-            if k == 8 {
+            Dimensions::Are(l)
+        }
+        Way::Stopped { number } => Dimensions::Unknown(number),
+    }
+}
+
+// The size of a dimension of a zVariable, by kind, number and dimension.
+pub fn variable_size(f: &[u8], kind: i64, number: i64, d: i64) -> Field
+    ensures { λ r. ⌜ r ≡ variableSize (now (f .entry)) kind number d ⌝ }
+{
+    let dimensions = dimensions_of(f, kind, number);
+    match dimensions {
+        Dimensions::Are(l) => {
+            if lists::kind_among(3, 8, kind) == 8 {
                 row_field(f, l.sizes, l.count as u32, d)
             } else {
                 Field::Refused(18)
             }
         }
-        Way::Stopped { number } => Field::Refused(number),
+        Dimensions::Unknown(number) => Field::Refused(number),
     }
 }
 
@@ -143,14 +162,10 @@ pub fn variable_size(f: &[u8], kind: i64, number: i64, d: i64) -> Field
 pub fn variable_variance(f: &[u8], kind: i64, number: i64, d: i64) -> Field
     ensures { λ r. ⌜ r ≡ variableVariance (now (f .entry)) kind number d ⌝ }
 {
-    let way = lists::to_variable(f, kind, number);
-    match way {
-        Way::Found { at, left: _ } => {
-            let v = vdr::known_at(f, lists::kind_among(3, 8, kind), at);
-            let l = v.dimensions;
-            row_field(f, l.variances, l.count as u32, d)
-        }
-        Way::Stopped { number } => Field::Refused(number),
+    let dimensions = dimensions_of(f, kind, number);
+    match dimensions {
+        Dimensions::Are(l) => row_field(f, l.variances, l.count as u32, d),
+        Dimensions::Unknown(number) => Field::Refused(number),
     }
 }
 

@@ -21,7 +21,7 @@ use Rattle.answers.proofs.Telling.{Tells, element-tells}
 use Rattle.ways.proofs.Sought.{Finds, first-met, ToEntry, entry-found}
 use Rattle.answers.specs.declared.Read.{Read}
 use Rattle.answers.specs.declared.Read.the-variants.{Value, Refused}
-use Rattle.descriptors.specs.Descriptors.{fieldNumber, nameNumber, isShown, fieldOn, variableField, attributeField, entryField, rowField, dimensionSize, sizeOn, variableSize, varianceOn, variableVariance, nameOn, variableName, attributeName, said, fileField}
+use Rattle.descriptors.specs.Descriptors.{fieldNumber, nameNumber, isShown, fieldOn, variableField, attributeField, entryField, rowField, dimensionSize, dimensionsOn, variableDimensions, sizeOn, variableSize, varianceOn, variableVariance, nameOn, variableName, attributeName, said, fileField}
 use Rattle.descriptors.specs.declared.Field.{Field}
 use Rattle.descriptors.specs.declared.Field.the-variants.{Is, Refused as NoField}
 use Rattle.promised_reads.specs.Reading.{ValueShown, PadShown, NeverTwenty, Never20, vaxFloat, RecordRefused, ValueRefused, PadRefused, GivenOrRefused}
@@ -90,7 +90,7 @@ module _ (f : List ℕ) (n : NestedAccepted f) where
   field-goes t p (Found o left) h = shown-or (isShown t p) (fieldAt f (o + p))
   field-goes t p (Stopped m) h = h
 
-  size-goes : (k : ℕ) (d : ℤ) (w : Way) → Goes w → fieldNumber (sizeOn f k d w) ≢ 20
+  size-goes : (k : ℕ) (d : ℤ) (w : Way) → Goes w → fieldNumber (sizeOn f k d (dimensionsOn f k w)) ≢ 20
   size-goes k d (Found v left) h = go (eqb k 8)
     where
       go : (b : Bool) → fieldNumber (cond b (rowField f (variableOf f k v .dimensions .sizes) (variableOf f k v .dimensions .count) d) (NoField 18)) ≢ 20
@@ -98,7 +98,7 @@ module _ (f : List ℕ) (n : NestedAccepted f) where
       go false = λ e. omega arith
   size-goes k d (Stopped m) h = h
 
-  variance-goes : (k : ℕ) (d : ℤ) (w : Way) → Goes w → fieldNumber (varianceOn f k d w) ≢ 20
+  variance-goes : (k : ℕ) (d : ℤ) (w : Way) → Goes w → fieldNumber (varianceOn f d (dimensionsOn f k w)) ≢ 20
   variance-goes k d (Found v left) h = row-goes (variableOf f k v .dimensions .variances) (variableOf f k v .dimensions .count) d
   variance-goes k d (Stopped m) h = h
 
@@ -132,7 +132,7 @@ module _ (f : List ℕ) (n : NestedAccepted f) where
           (λ i. omega (arith, entry-element f k e m x i, entry-lies f k e m .inside)) (λ a i o d. tt))
 
   pub never-twenty : NeverTwenty f
-  unfolding variableField attributeField entryField dimensionSize variableSize variableVariance variableName attributeName fileField
+  unfolding variableField attributeField entryField dimensionSize variableDimensions variableSize variableVariance variableName attributeName fileField
   never-twenty = record {
     value = λ k j r is x. never (ValueShown f k j r is x) (ValueRefused f k j r is x) (value-why f k j r is x) (valueRead f k j r is x) (reads-right f n .value k j r is x);
     entry = entry-never;

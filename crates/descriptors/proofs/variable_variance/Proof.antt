@@ -1,6 +1,5 @@
-use Rattle.ways.proofs.Found.{found-right}
-use Rattle.variables.proofs.Dimensions.{Dimensions, of-variable}
-use Rattle.descriptors.proofs.Inside.{found-short, variance-is, variance-stopped}
+use Rattle.descriptors.specs.Descriptors.{variableVariance}
+use Rattle.descriptors.specs.Bounds.{Lie}
 use mir.Facts.{toZ-ofZ}
 use mir.Syntax.{w64}
 use native.Mathlib.Omega.{arith}
@@ -9,58 +8,43 @@ use borrow.Author.Needs.{needs}
 use Rattle.descriptors.proofs.variable_variance.Statement.{statement}
 use Rattle.descriptors.proofs.variable_variance.Tie as tie
 
-to-variable-requires : tie.Need-to-variable-requires
-to-variable-requires c κs = search needs
+dimensions-of-requires : tie.Need-dimensions-of-requires
+dimensions-of-requires c κs = search needs
 
-enum-known-way : tie.Need-enum-known-way
-enum-known-way c = search needs
-
-kind-among-requires : tie.Need-kind-among-requires
-kind-among-requires c κs = search needs
-
-known-at-requires : tie.Need-known-at-requires
-known-at-requires c κs = rw (c .kind-among .ensures .0) (found-right (c .before .before .before .before .before .before .args .f .now) _ _ _ _ (sym (c .before .before .before .before .to-variable .ensures) ∙ c .before .before .way .given .1))
+enum-known-dimensions : tie.Need-enum-known-dimensions
+enum-known-dimensions c = search needs
 
 cast-row-field : tie.Need-cast-row-field
-cast-row-field c =
-    let a = c .before .before .before .before .before .before .before .before .before in
-    let d = subst (Dimensions (a .args .f .now)) (sym (c .before .before .known-at .ensures)) (of-variable (a .args .f .now) _ _) in
-    omega (arith, d .variances, found-short (a .args .f .now) _ _ _ _ (sym (c .before .before .before .before .before .before .before .to-variable .ensures) ∙ c .before .before .before .before .before .way .given .1))
+cast-row-field c = let h = subst (Lie (c .before .before .before .before .before .before .args .f .now)) (c .before .before .dimensions .given .1) (c .before .before .before .before .dimensions-of .ensures .1) in omega (arith, h .1, h .2)
 
 row-field-requires : tie.Need-row-field-requires
-row-field-requires c κs =
-    let a = c .before .before .before .before .before .before .before .before .before in
-    let d = subst (Dimensions (a .args .f .now)) (sym (c .before .before .known-at .ensures)) (of-variable (a .args .f .now) _ _) in
-    omega (arith, d .variances)
+row-field-requires c κs = subst (Lie (c .before .before .before .before .before .before .args .f .now)) (c .before .before .dimensions .given .1) (c .before .before .before .before .dimensions-of .ensures .1) .1
 
-enum-known-way-2 : tie.Need-enum-known-way-2
-enum-known-way-2 c = search needs
+enum-known-dimensions-2 : tie.Need-enum-known-dimensions-2
+enum-known-dimensions-2 c = search needs
 
 returns : tie.Need-returns
+unfolding variableVariance
 returns c =
-    let a = c .before .before .before .before .before .before .before .before .before .before in
-    let f = a .args .f .now in
-    let e = rw (toZ-ofZ {w = w64} (a .fits .kind), toZ-ofZ {w = w64} (a .fits .number)) at (sym (c .before .before .before .before .before .before .before .before .to-variable .ensures) ∙ c .before .before .before .before .before .before .way .given .1) in
-    let k = rw (toZ-ofZ {w = w64} (a .fits .kind)) at (c .before .before .before .before .kind-among .ensures .0) in
-    let v = rw k at (c .before .before .before .known-at .ensures) in
-    c .row-field .ensures ∙ rw (v, toZ-ofZ {w = w64} (a .fits .d)) (sym (variance-is f (a .args .kind) (a .args .number) (a .args .d) _ _ e))
+    let a = c .before .before .before .before .before .before .before in
+    let e = rw (toZ-ofZ {w = w64} (a .fits .kind), toZ-ofZ {w = w64} (a .fits .number)) at (sym (c .before .before .before .before .before .dimensions-of .ensures .0) ∙ c .before .before .before .dimensions .given .1) in
+    c .row-field .ensures ∙ rw (e, toZ-ofZ {w = w64} (a .fits .d))
 
 returns-2 : tie.Need-returns-2
+unfolding variableVariance
 returns-2 c =
     let a = c .before .before .before .before .before in
-    let e = rw (toZ-ofZ {w = w64} (a .fits .kind), toZ-ofZ {w = w64} (a .fits .number)) at (sym (c .before .before .before .to-variable .ensures) ∙ c .before .way2 .given .1) in
-    sym (variance-stopped (a .args .f .now) (a .args .kind) (a .args .number) (a .args .d) _ e)
+    let e = rw (toZ-ofZ {w = w64} (a .fits .kind), toZ-ofZ {w = w64} (a .fits .number)) at (sym (c .before .before .before .dimensions-of .ensures .0) ∙ c .before .dimensions2 .given .1) in
+    rw e
 
 pub variable-variance-spec : {M : Type 1} → statement M
 variable-variance-spec =
     tie.close
     (tie.spec
-    to-variable-requires
-    enum-known-way
-    kind-among-requires
-    known-at-requires
+    dimensions-of-requires
+    enum-known-dimensions
     cast-row-field
     row-field-requires
-    enum-known-way-2
+    enum-known-dimensions-2
     returns
     returns-2)
