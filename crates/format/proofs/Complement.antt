@@ -17,13 +17,6 @@ twice w32 = refl
 twice w64 = refl
 twice w128 = refl
 
-double : (w : Width) → 2 ^ suc (hbits w) ≡ 2 ^ bits w
-double w8 = refl
-double w16 = refl
-double w32 = refl
-double w64 = refl
-double w128 = refl
-
 pub pos-is : (w : Width) (n : ℕ) → n < 2 ^ hbits w → toZ w n ≡ signedOf (hbits w) n
 pos-is w n low = toZ-pos w low ∙ rw (lt-ltb n (2 ^ hbits w) low)
 
@@ -42,4 +35,4 @@ module _ (w : Width) (n : ℕ) (high : 2 ^ hbits w ≤ n) (fits : n < 2 ^ bits w
   neg-fits = rw is-neg (record { sfits = small })
 
   pub neg-is : toZ w (ofZ w (negsuc 0 -ℤ toZ w (2 ^ bits w - 1 - n))) ≡ signedOf (hbits w) n
-  neg-is = toZ-ofZ neg-fits ∙ is-neg ∙ rw (le-ltb n (2 ^ hbits w) high) (ap negsuc (omega (arith, double w)))
+  neg-is = toZ-ofZ neg-fits ∙ is-neg ∙ rw (le-ltb n (2 ^ hbits w) high) (ap negsuc (omega (arith, twice w)))
