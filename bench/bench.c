@@ -84,7 +84,7 @@ static void timed(const char *name, struct file file)
         cleared[i] = d - c;
     }
     double p = median(proved, REPEATS), c = median(plain, REPEATS), m = median(cleared, REPEATS);
-    printf("%-42s %10" PRIu64 " steps  proved %9.3f ms  C %9.3f ms  memset %7.3f ms  proved/C %.2f\n", name, steps, 1e3 * p,
+    printf("%-44s %10" PRIu64 " steps  proved %9.3f ms  C %9.3f ms  memset %7.3f ms  proved/C %.2f\n", name, steps, 1e3 * p,
            1e3 * c, 1e3 * m, p / c);
     free(marks);
     free(file.bytes);
@@ -116,6 +116,21 @@ static int values_differ(const struct file *file)
     return differ;
 }
 
+/* How many of many questions for the levels of an index, and for values below them, the two readers answer otherwise. */
+static int levels_differ(const struct file *file)
+{
+    int differ = 0;
+    for (int64_t kind = 2; kind < 10; kind++)
+        for (int64_t number = -1; number < 4; number++)
+            for (int64_t record = -1; record < 64; record++) {
+                int32_t ours = 77, other = 77;
+                int32_t a = tlz_read_levels(file->bytes, file->length, kind, number, record, &ours);
+                int32_t b = plain_levels(file->bytes, file->length, kind, number, record, &other);
+                differ += a != b || ours != other || value_differs(file, kind, number, record, 0, 0);
+            }
+    return differ;
+}
+
 /* Compares checks and readers on a file on disk; 0 if they agree. */
 static int compared(const char *name)
 {
@@ -127,7 +142,8 @@ static int compared(const char *name)
     long length = ftell(in);
     rewind(in);
     struct file file = { allocated((size_t)length), (size_t)length };
-    int differ = fread(file.bytes, 1, file.length, in) != file.length || agreed(&file, name) < 0 || values_differ(&file) != 0;
+    int differ = fread(file.bytes, 1, file.length, in) != file.length || agreed(&file, name) < 0 || values_differ(&file) != 0 ||
+                 levels_differ(&file) != 0;
     if (differ != 0)
         fprintf(stderr, "%s: differs\n", name);
     fclose(in);
@@ -135,7 +151,7 @@ static int compared(const char *name)
     return differ;
 }
 
-/* Reads the value of each record of the first variable, or of each variable; gives the sum of the bits. */
+/* Reads the value of each record of the first variable, in order or not, or of each variable; gives the sum of the bits. */
 typedef uint64_t read_all(const struct file *file, size_t n);
 
 static uint64_t proved_records(const struct file *file, size_t n)
@@ -182,6 +198,36 @@ static uint64_t plain_variables(const struct file *file, size_t n)
     return sum;
 }
 
+/* The record after a record in an order that leaps and has each of n records once; n is a power of 2. */
+static size_t leap(size_t record, size_t n)
+{
+    return (33797 * record + 12345) % n;
+}
+
+static uint64_t proved_places(const struct file *file, size_t n)
+{
+    uint64_t sum = 0, kind = 0, bits = 0, offset = 0;
+    size_t r = 0;
+    for (size_t i = 0; i < n; i++, r = leap(r, n)) {
+        if (tlz_read_value(file->bytes, file->length, 8, 0, (int64_t)r, &(int64_t){ 0 }, 0, 0, &kind, &bits, &offset) != 0)
+            exit(1);
+        sum += bits;
+    }
+    return sum;
+}
+
+static uint64_t plain_places(const struct file *file, size_t n)
+{
+    uint64_t sum = 0, kind = 0, bits = 0, offset = 0;
+    size_t r = 0;
+    for (size_t i = 0; i < n; i++, r = leap(r, n)) {
+        if (plain_value(file->bytes, file->length, 8, 0, (int64_t)r, &(int64_t){ 0 }, 0, 0, &kind, &bits, &offset) != 0)
+            exit(1);
+        sum += bits;
+    }
+    return sum;
+}
+
 /* Times two readers in turn, `repeats` times each. */
 static void timed_reads(const char *name, struct file file, size_t n, int repeats, read_all *proved, read_all *plain)
 {
@@ -198,7 +244,7 @@ static void timed_reads(const char *name, struct file file, size_t n, int repeat
         other[i] = now() - b;
     }
     double p = median(ours, repeats), c = median(other, repeats);
-    printf("%-42s %10zu reads  proved %9.3f ms  C %9.3f ms  %17s  proved/C %.2f\n", name, n, 1e3 * p, 1e3 * c, "", p / c);
+    printf("%-44s %10zu reads  proved %9.3f ms  C %9.3f ms  %17s  proved/C %.2f\n", name, n, 1e3 * p, 1e3 * c, "", p / c);
     free(file.bytes);
 }
 
@@ -235,8 +281,10 @@ int main(int count, char **names)
     timed("one record of 64 MB", one_record((size_t)64 << 20));
     timed("1,000,000 listed unused records", unused_records(1000000));
     timed("100,000 zVariables with an index entry", variables(100000));
+    timed("100,000 records of values under three levels", tree(3, 40, 50));
     timed_reads("every value of 1,000,000 records", records(1000000), 1000000, REPEATS, proved_records, plain_records);
     timed_reads("one value of each of 20,000 zVariables", variables(20000), 20000, 1, proved_variables, plain_variables);
+    timed_reads("single reads through eight levels", tree(8, 4, 4), 65536, REPEATS, proved_places, plain_places);
     growth();
     return 0;
 }

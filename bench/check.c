@@ -45,26 +45,77 @@ static int32_t leads(const struct swept *s, int64_t o, int32_t type)
     return s->m[o] == 1 ? 0 : 9;
 }
 
-/* The used entries of the VXR x; *floor is the last Last + 1, *covered whether MaxRec is met. */
+/* Claims the values that an index entry names: 9, 10 or 0. */
+static int32_t claim_values(struct swept *s, int64_t o, int64_t size)
+{
+    if (s->m[o] != 1)
+        return 9;
+    if (field(s->f, o) != size)
+        return 10;
+    s->m[o] = 2;
+    return 0;
+}
+
+/* Claims the lower index record that an entry names, with so many index records above it: 23, 9, 10, 11 or 0. */
+static int32_t claim_lower(struct swept *s, int64_t o, int above)
+{
+    if (above == LEVELS)
+        return 23;
+    if (s->m[o] != 1)
+        return 9;
+    if (!index_right(s->f, o))
+        return 10;
+    if (field(s->f, o + 8) != 0)
+        return 11;
+    s->m[o] = 2;
+    return 0;
+}
+
+/* An index record: how many entries it has and uses, the next one, and the greatest that a Last may be. */
+struct level {
+    int64_t x, entries, used, next, to;
+};
+
+static struct level level_of(const uint8_t *f, int64_t x, int64_t to)
+{
+    return (struct level){ x, field(f, x + 12), field(f, x + 16), 0, to };
+}
+
+/*
+ * The used entries of the VXR x of a top chain, those of a lower record before the neighbour of the entry that names it.
+ * *floor is the last Last + 1, *covered whether MaxRec lies in a range that names values.
+ */
 static int32_t walk_entries(struct swept *s, int64_t x, int64_t bytes, int32_t most, int64_t *floor, int *covered)
 {
     const uint8_t *f = s->f;
-    int64_t entries = field(f, x + 12), used = field(f, x + 16), from = *floor;
-    int met = *covered;
-    for (int64_t i = 0; i < used; i++) {
+    struct level l = level_of(f, x, GREATEST), above[LEVELS - 1];
+    int64_t from = *floor;
+    int depth = 0, met = *covered;
+    while (l.next < l.used || depth > 0) {
         s->steps++;
-        int64_t at = x + 20 + 4 * i;
-        int64_t first = field(f, at), last = field(f, at + 4 * entries), o = field(f, at + 8 * entries);
-        if (first < from || last < first)
+        if (l.next == l.used) {
+            from = l.to + 1;
+            l = above[--depth];
+            continue;
+        }
+        int64_t at = l.x + 20 + 4 * l.next++;
+        int64_t first = field(f, at), last = field(f, at + 4 * l.entries), o = field(f, at + 8 * l.entries);
+        if (first < from || last < first || last > l.to)
             return 12;
-        int32_t number = leads(s, o, VVR);
+        int32_t type = o < 8 || o >= s->length || (s->m[o] != 1 && s->m[o] != 2) ? 0 : field(f, o + 4);
+        if (type != VVR && type != VXR)
+            return 8;
+        int32_t number = type == VVR ? claim_values(s, o, 8 + (last - first + 1) * bytes) : claim_lower(s, o, depth + 1);
         if (number != 0)
             return number;
-        if (field(f, o) != 8 + (last - first + 1) * bytes)
-            return 10;
-        s->m[o] = 2;
-        from = last + 1;
-        met |= first <= most && most <= last;
+        if (type == VVR) {
+            from = last + 1;
+            met |= first <= most && most <= last;
+        } else {
+            above[depth++] = l;
+            l = level_of(f, o, last);
+            from = first;
+        }
     }
     *floor = from;
     *covered = met;
@@ -85,10 +136,7 @@ static int32_t walk_index(struct swept *s, int64_t v, int64_t bytes)
         int32_t number = leads(s, x, VXR);
         if (number != 0)
             return number;
-        int64_t size = field(f, x);
-        if (size < 20 || field(f, x + 16) < 0 || field(f, x + 16) > field(f, x + 12))
-            return 10;
-        if (size != 20 + 12 * (int64_t)field(f, x + 12))
+        if (!index_right(f, x))
             return 10;
         s->m[x] = 2;
         number = walk_entries(s, x, bytes, most, &floor, &covered);

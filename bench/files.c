@@ -100,3 +100,48 @@ struct file records(size_t n)
         put(&file, BASE + 172 + 4 * i, (int64_t)(i * 2654435761u));
     return file;
 }
+
+/* Bytes of an index record of so many levels and entries, with all that is below it. */
+static size_t tree_length(size_t levels, size_t entries, size_t below)
+{
+    return 20 + entries * (12 + (levels > 1 ? tree_length(levels - 1, below, below) : 12));
+}
+
+/* Puts such an index record at o; its ranges begin at `first`, each of them of `span` records. */
+static void put_tree(struct file *file, size_t o, size_t span, size_t entries, size_t below, size_t first)
+{
+    int64_t fields[] = { 20 + 12 * (int64_t)entries, 6, 0, (int64_t)entries, (int64_t)entries };
+    size_t levels = 0, each = 12, under = o + 20 + 12 * entries;
+    for (size_t n = span; n > 1; n /= below)
+        levels++;
+    if (levels > 0)
+        each = tree_length(levels, below, below);
+    for (size_t i = 0; i < sizeof fields / sizeof *fields; i++)
+        put(file, o + 4 * i, fields[i]);
+    for (size_t i = 0; i < entries; i++, first += span, under += each) {
+        put(file, o + 20 + 4 * i, (int64_t)first);
+        put(file, o + 20 + 4 * (entries + i), (int64_t)(first + span - 1));
+        put(file, o + 20 + 4 * (2 * entries + i), (int64_t)under);
+        if (levels > 0) {
+            put_tree(file, under, span / below, below, below, first);
+        } else {
+            put(file, under, 12);
+            put(file, under + 4, 7);
+            put(file, under + 8, (int64_t)(first * 2654435761u));
+        }
+    }
+}
+
+struct file tree(size_t levels, size_t top, size_t below)
+{
+    struct file file = base(BASE + 132 + tree_length(levels, top, below));
+    size_t span = 1;
+    for (size_t i = 1; i < levels; i++)
+        span *= below;
+    put(&file, GDR + 12, BASE);
+    put(&file, GDR + 40, 1);
+    put_variable(&file, BASE, 0, 0);
+    put(&file, BASE + 16, (int64_t)(top * span) - 1);
+    put_tree(&file, BASE + 132, span, top, below, 0);
+    return file;
+}

@@ -25,4 +25,10 @@ struct file variables(size_t n);
 /* One zVariable of n records of 4 bytes, in one run. */
 struct file records(size_t n);
 
+/*
+ * One zVariable whose index has so many levels: a top record of `top` entries, below it records of `below` entries; each of
+ * the lowest names one record of 4 bytes. There are top * below ^ (levels - 1) of these.
+ */
+struct file tree(size_t levels, size_t top, size_t below);
+
 #endif

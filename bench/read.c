@@ -13,13 +13,18 @@ struct way {
 /* A link lands on a record of a type inside the file, and one more record may be met. */
 static int meets(struct way *w, int64_t o, int32_t type)
 {
-    if (w->left == 0 || o < 8 || o + 8 > w->length)
+    if (w->left == 0 || o < 8 || o + 8 > w->length || field(w->f, o + 4) != type || o + field(w->f, o) > w->length)
         return 0;
     w->left--;
-    return field(w->f, o + 4) == type && o + field(w->f, o) <= w->length;
+    return 1;
 }
 
-/* Goes to a variable: 0, 15 or 20; its VDR and the bytes of a record. */
+/* A variable: its VDR and the bytes of a record. */
+struct variable {
+    int64_t vdr, bytes;
+};
+
+/* Goes to a variable: 0, 15 or 20. */
 static int32_t to_variable(struct way *w, int32_t kind, int64_t number, int64_t *vdr, int64_t *bytes)
 {
     int64_t link = field(w->f, 16) + (kind == RVDR ? 8 : 12);
@@ -39,36 +44,58 @@ static int32_t to_variable(struct way *w, int32_t kind, int64_t number, int64_t 
     }
 }
 
-/* Where a record begins in the values of an index entry: 0 or 20. */
-static int32_t in_values(struct way *w, int64_t at, int64_t entries, int64_t record, int64_t bytes, int64_t *start)
+/* The lowest index entry that covers a record, and its level. */
+struct entry {
+    int64_t first, last, o;
+    int32_t level;
+};
+
+/* An entry names an index record. */
+static int names_index(const struct way *w, int64_t o)
 {
-    int64_t first = field(w->f, at), last = field(w->f, at + 4 * entries), o = field(w->f, at + 8 * entries);
-    if (!meets(w, o, VVR) || field(w->f, o) != 8 + (last - first + 1) * bytes)
-        return 20;
-    *start = o + 8 + (record - first) * bytes;
-    return 0;
+    return o >= 8 && o + 8 <= w->length && field(w->f, o + 4) == VXR;
 }
 
-/* Goes along an index to the entry that covers a record: 0, 17 or 20. */
-static int32_t to_record(struct way *w, int64_t vdr, int64_t record, int64_t bytes, int64_t *start)
+/* Goes along an index chain to the entry that covers a record, and from there down: 0, 17 or 20. */
+static int32_t to_entry(struct way *w, int64_t vdr, int64_t record, struct entry *e)
 {
-    int64_t floor = 0;
-    for (int64_t x = field(w->f, vdr + 20); x != 0; x = field(w->f, x + 8)) {
-        if (!meets(w, x, VXR) || field(w->f, x) < 20)
+    const uint8_t *f = w->f;
+    int64_t x = field(f, vdr + 20), from = 0, to = GREATEST;
+    for (int32_t level = 1; x != 0;) {
+        if (!meets(w, x, VXR) || !index_right(f, x) || level > LEVELS || (level > 1 && field(f, x + 8) != 0))
             return 20;
-        int64_t entries = field(w->f, x + 12), used = field(w->f, x + 16);
-        if (used < 0 || used > entries || field(w->f, x) != 20 + 12 * entries)
-            return 20;
-        for (int64_t i = 0; i < used; i++) {
-            int64_t at = x + 20 + 4 * i, first = field(w->f, at), last = field(w->f, at + 4 * entries);
-            if (first < floor || last < first)
+        int64_t entries = field(f, x + 12), used = field(f, x + 16), i = 0, first = 0, last = 0;
+        for (; i < used; i++, from = last + 1) {
+            first = field(f, x + 20 + 4 * i);
+            last = field(f, x + 20 + 4 * (entries + i));
+            if (first < from || last < first)
                 return 20;
             if (first <= record && record <= last)
-                return in_values(w, at, entries, record, bytes, start);
-            floor = last + 1;
+                break;
         }
+        if (last > to) /* the greatest of them, as they rise */
+            return 20;
+        if (i == used) {
+            x = field(f, x + 8);
+            continue;
+        }
+        *e = (struct entry){ first, last, field(f, x + 20 + 4 * (2 * entries + i)), level++ };
+        if (!names_index(w, e->o))
+            return 0;
+        x = e->o;
+        from = first;
+        to = last;
     }
     return 17;
+}
+
+/* Where a record begins in the values of an index entry: 0 or 20. */
+static int32_t in_values(struct way *w, const struct entry *e, int64_t record, int64_t bytes, int64_t *start)
+{
+    if (!meets(w, e->o, VVR) || field(w->f, e->o) != 8 + (e->last - e->first + 1) * bytes)
+        return 20;
+    *start = e->o + 8 + (record - e->first) * bytes;
+    return 0;
 }
 
 /* The place of a value in its record, or -1. */
@@ -117,33 +144,55 @@ static int32_t decode(const uint8_t *f, int64_t o, int32_t type, uint64_t *value
     return 0;
 }
 
+/* Goes to the lowest index entry that covers a record: 0, 20, 15, 16 or 17; *record is 0 where record variance is clear. */
+static int32_t to_record(struct way *w, int64_t kind, int64_t number, int64_t *record, struct variable *v, struct entry *e)
+{
+    if (opening(w->f, (size_t)w->length, (size_t)w->length) != 0)
+        return 20;
+    if ((kind != RVDR && kind != ZVDR) || number < 0)
+        return 15;
+    int32_t answer = to_variable(w, (int32_t)kind, number, &v->vdr, &v->bytes);
+    if (answer != 0)
+        return answer;
+    int32_t most = field(w->f, v->vdr + 16);
+    int varies = field(w->f, v->vdr + 28) & 1;
+    if (*record < 0 || most < 0 || (varies && *record > most))
+        return 16;
+    *record = varies ? *record : 0;
+    return to_entry(w, v->vdr, *record, e);
+}
+
 int32_t plain_value(const uint8_t *file, size_t file_len, int64_t kind, int64_t number, int64_t record,
                     const int64_t *indices, size_t index_count, int64_t element, uint64_t *value_kind, uint64_t *bits,
                     uint64_t *offset)
 {
     struct way w = { file, (int64_t)file_len, (int64_t)(file_len / 8) - 2 };
-    int64_t vdr = 0, bytes = 0, start = 0;
-    if (opening(file, file_len, file_len) != 0)
-        return 20;
-    if ((kind != RVDR && kind != ZVDR) || number < 0)
-        return 15;
-    int32_t answer = to_variable(&w, (int32_t)kind, number, &vdr, &bytes);
+    struct variable v;
+    struct entry e;
+    int64_t start = 0;
+    int32_t answer = to_record(&w, kind, number, &record, &v, &e);
+    if (answer == 0)
+        answer = in_values(&w, &e, record, v.bytes, &start);
     if (answer != 0)
         return answer;
-    int32_t most = field(file, vdr + 16);
-    int varies = field(file, vdr + 28) & 1;
-    if (record < 0 || most < 0 || (varies && record > most))
-        return 16;
-    answer = to_record(&w, vdr, varies ? record : 0, bytes, &start);
-    if (answer != 0)
-        return answer;
-    int64_t place = place_of(file, vdr, (int32_t)kind, indices, index_count);
-    int32_t elements = field(file, vdr + 48), type = field(file, vdr + 12);
+    int64_t place = place_of(file, v.vdr, (int32_t)kind, indices, index_count);
+    int32_t elements = field(file, v.vdr + 48), type = field(file, v.vdr + 12);
     if (place < 0 || element < 0 || element >= elements)
         return 18;
     int64_t at = start + (place * elements + element) * element_size(type);
     answer = decode(file, at, type, value_kind, bits);
     if (answer == 0)
         *offset = (uint64_t)at;
+    return answer;
+}
+
+int32_t plain_levels(const uint8_t *file, size_t file_len, int64_t kind, int64_t number, int64_t record, int32_t *levels)
+{
+    struct way w = { file, (int64_t)file_len, (int64_t)(file_len / 8) - 2 };
+    struct variable v;
+    struct entry e;
+    int32_t answer = to_record(&w, kind, number, &record, &v, &e);
+    if (answer == 0)
+        *levels = e.level;
     return answer;
 }

@@ -1,4 +1,4 @@
-/* What the plain check and the plain reader share: fields, the opening, the rule of a variable. */
+/* What the plain check and the plain reader share: fields, the opening, the rules of an index record and of a variable. */
 #ifndef BENCH_RULES_H
 #define BENCH_RULES_H
 
@@ -8,6 +8,9 @@
 enum { CDR = 1, GDR, RVDR, ADR, GR_AEDR, VXR, VVR, ZVDR, Z_AEDR, UIR = -1 };
 
 static const int64_t GREATEST = 2147483647;
+
+/* The most levels of an index, its top chain included. */
+enum { LEVELS = 8 };
 
 static inline int32_t field(const uint8_t *f, int64_t o)
 {
@@ -76,6 +79,15 @@ static inline int32_t opening(const uint8_t *f, size_t length, size_t marks_len)
     if (!(field(f, 32) & 2))
         return 14;
     return gdr_right(f, (int64_t)length) ? 0 : 6;
+}
+
+/* The VXR x keeps its rule. */
+static inline int index_right(const uint8_t *f, int64_t x)
+{
+    int64_t size = field(f, x);
+    if (size < 20 || field(f, x + 16) < 0 || field(f, x + 16) > field(f, x + 12))
+        return 0;
+    return size == 20 + 12 * (int64_t)field(f, x + 12);
 }
 
 /* Bytes of a record of a variable whose dimensions keep their rule, or -1. */

@@ -20,14 +20,14 @@ extern "C" {
 #endif
 
 /* How many numbers of 32 bits a saved state has. */
-#define TLZ_STATE_LEN 12
+#define TLZ_STATE_LEN 33
 
 /* The longest file that is checked, in bytes; a longer one is TLZ_TOO_LONG. */
 #define TLZ_LONGEST_FILE 2147483647
 
 /*
- * The numbers that come back. A finished check has one of 0 to 14, or 20. A call of the reader gives 0 or one of 15 to 20;
- * of several refusals it gives the first in the order 20, 15, 16, 17, 18, 19.
+ * The numbers that come back. A finished check has one of 0 to 14, 20 or 23. A call of the reader gives 0 or one of 15 to
+ * 20; of several refusals it gives the first in the order 20, 15, 16, 17, 18, 19.
  */
 #define TLZ_RUNNING (-1)           /* not finished: no verdict yet */
 #define TLZ_ACCEPTED 0             /* the whole file was checked and keeps every rule */
@@ -41,7 +41,8 @@ extern "C" {
 #define TLZ_BAD_LINK 8             /* a link leads to no record start, or to a record of the wrong type */
 #define TLZ_CLAIMED_TWICE 9        /* two links lead to one record; rings are found so */
 #define TLZ_BAD_RECORD 10          /* a record's fields or size break its rule */
-#define TLZ_BAD_LIST 11            /* a list's count, numbering, maximum, tail or back link disagrees */
+#define TLZ_BAD_LIST 11            /* a list's count, numbering, maximum, tail or back link disagrees, or a lower index */
+                                   /* record has a next one */
 #define TLZ_BAD_INDEX 12           /* an index's ranges of record numbers disagree */
 #define TLZ_UNCLAIMED 13           /* a record in use is on no list */
 #define TLZ_NOT_CARRIED 14         /* multi-file, record types 10 to 13, or a variable with compressed values */
@@ -53,6 +54,7 @@ extern "C" {
 #define TLZ_BAD_STATE 20           /* the state is not TLZ_STATE_LEN numbers, a number is out of its range, or the file */
                                    /* ends before a field that the walk needs; from the reader TLZ_BAD_WAY */
 #define TLZ_OTHER_FILE 21          /* the file's length is not the one noted at opening, or the marks are now shorter */
+#define TLZ_TOO_DEEP 23            /* an index has more than eight levels of records */
 
 /* The reader's 20: the file does not open, or the way to the answer breaks a rule. Never on a file that is accepted. */
 #define TLZ_BAD_WAY 20
@@ -87,7 +89,7 @@ int32_t tlz_check_begin(uint32_t *state, size_t state_len);
  * Gives:
  *   TLZ_RUNNING        all granted steps were made and the check is not finished: grant more
  *   TLZ_ACCEPTED       finished: the file is accepted
- *   1 to 14            finished: the file is refused, for the reason of that number
+ *   1 to 14, or 23     finished: the file is refused, for the reason of that number
  *   TLZ_BAD_STATE      0 steps and nothing changed where state_len is wrong. Otherwise finished: the state was not one that
  *                      a check leaves, or file or marks were changed between grants.
  *   TLZ_OTHER_FILE     not finished: file_len is not the length noted at opening, or marks_len is below it. 0 steps, state
@@ -135,7 +137,7 @@ int32_t tlz_check_grant(const uint8_t *file, size_t file_len, uint8_t *marks, si
  *
  *   TLZ_NO_SUCH_OBJECT      15: the kind is none of those below, or there is no variable or attribute of that number
  *   TLZ_NO_SUCH_RECORD      16: there is no such record, or no entry of that number or at that place
- *   TLZ_RECORD_IN_GAP       17: the record number is not above MaxRec, but no used index entry covers it
+ *   TLZ_RECORD_IN_GAP       17: the record number is not above MaxRec, but no index entry that names values covers it
  *   TLZ_OUT_OF_RANGE        18: an index, element, dimension or field that is not there, a wrong number of indices, or no
  *                           pad value
  *   TLZ_FLOAT_NOT_CARRIED   19: a floating-point value in encoding 3, 14 or 15, whose floats are VAX floats
@@ -143,8 +145,9 @@ int32_t tlz_check_grant(const uint8_t *file, size_t file_len, uint8_t *marks, si
  *                           than file_len / 8 records were met, as in a ring
  *
  * Only what lies on the way is judged: CDR and GDR, a list from its head to what is asked for, an index to the entry that
- * covers the record. The rest of the file may be damaged. Every call ends, on every file; nothing outside the file is read
- * and nothing is written but the caller's numbers. Each call goes the whole way again.
+ * covers the record, and down through the lower index records to the one that names its values. The rest of the file may be
+ * damaged. Every call ends, on every file; nothing outside the file is read and nothing is written but the caller's numbers.
+ * Each call goes the whole way again.
  *
  * Variables and attributes are asked for by their place in their list, from 0, which is their number in an accepted file;
  * entries by their number, or by their place. Arguments have 64 bits so that none is cut before it is judged.
@@ -246,6 +249,13 @@ int32_t tlz_read_variance(const uint8_t *file, size_t file_len, int64_t kind, in
  */
 int32_t tlz_read_variable_name(const uint8_t *file, size_t file_len, int64_t kind, int64_t number, uint64_t *offset,
                                uint64_t *length);
+
+/*
+ * Sets *field to how many levels of index records lead to a record: 1 where an entry of the variable's index chain names the
+ * values themselves, 2 where it names a lower index record whose entry does, up to 8. kind, number and record are those of
+ * tlz_read_value, and so are the refusals 20, 15, 16 and 17; the values are not looked at.
+ */
+int32_t tlz_read_levels(const uint8_t *file, size_t file_len, int64_t kind, int64_t number, int64_t record, int32_t *field);
 
 /* Fields of an attribute: `at` of tlz_read_attribute, their offsets in the ADR. */
 #define TLZ_ATTRIBUTE_SCOPE 16      /* 1 global, 2 variable */

@@ -81,7 +81,7 @@ static void take(struct job *job, int32_t answer)
         words_of_state(job->state, job->why, sizeof job->why);
     else if (answer == TLZ_ACCEPTED)
         set(job, ACCEPTED, answer, "");
-    else if (answer > TLZ_ACCEPTED && answer <= TLZ_NOT_CARRIED)
+    else if ((answer > TLZ_ACCEPTED && answer <= TLZ_NOT_CARRIED) || answer == TLZ_TOO_DEEP)
         set(job, REFUSED, answer, words_of_number(answer));
     else
         set(job, UNCHECKED, answer, words_of_number(answer));

@@ -16,6 +16,9 @@
 static const char magic[] = "TLZSAVE1";
 static const char damaged[] = "the saved check is damaged";
 
+/* How many numbers a state had before indexes had levels. */
+enum { OLDER_STATE_LEN = 12 };
+
 enum { MAGIC = 8, SUM = 8, HEADER = MAGIC + 4 + 4 * TLZ_STATE_LEN + 6 * 8, ROOM = 4096, PIECE = 65536 };
 
 /* What stands before the path. */
@@ -216,6 +219,8 @@ static const char *read_header(FILE *in, struct header *header)
     if (fread(bytes, 1, HEADER, in) < MAGIC + 4 || memcmp(bytes, magic, MAGIC) != 0)
         return damaged;
     unpack(bytes, header);
+    if (header->count == OLDER_STATE_LEN)
+        return "the saved check is of an older form, with a state of 12 numbers";
     if (header->count != TLZ_STATE_LEN)
         return "the saved check has a state of another length";
     if (header->state[0] != 0 || header->path_length >= ROOM)

@@ -3,13 +3,13 @@
  * byte first:
  *
  *     8 bytes   "TLZSAVE1"
- *     4         how many numbers the state has, then these, 4 bytes each
+ *     4         how many numbers the state has, TLZ_STATE_LEN, then these, 4 bytes each
  *     8 each    steps made; the file's length; its time of change in seconds, and nanoseconds; the sum of its bytes; the
  *               length of its path
  *     then      its path, from the root; the marks, as many as the file has bytes
  *     8         the sum of all that stands before
  *
- * The sums are FNV-1a of 64 bits.
+ * The sums are FNV-1a of 64 bits. In an older form the state has 12 numbers; such a check cannot be gone on with.
  */
 #ifndef TOOLS_SAVED_H
 #define TOOLS_SAVED_H

@@ -70,6 +70,44 @@ static const char *sparseness(const struct variable *variable)
     return words[variable->sparseness % 3];
 }
 
+/* Asks for the levels of the index on the way to the greatest record, which is record 0 if records do not vary. */
+static int32_t read_levels(struct source *source, const struct variable *v, int32_t *levels)
+{
+    bool vary = (v->flags & TLZ_FLAG_RECORD_VARIANCE) != 0;
+    int32_t answer = tlz_read_levels(source->file, source->length, v->kind, v->number, vary ? v->max_rec : 0, levels);
+
+    if (answer != TLZ_RECORD_IN_GAP)
+        source_refused(source, answer);
+    return answer;
+}
+
+/* The levels of an index that has more than one, or that they are refused. */
+static void levels_text(struct source *source, const struct variable *v)
+{
+    int32_t levels = 0, answer = v->max_rec < 0 ? TLZ_RECORD_IN_GAP : read_levels(source, v, &levels);
+
+    if (answer == 0 && levels > 1)
+        printf("  index       %" PRId32 " levels\n", levels);
+    else if (answer != 0 && answer != TLZ_RECORD_IN_GAP)
+        printf("  index       refused %" PRId32 ": %s\n", answer, words_of_refusal(answer));
+}
+
+/* The levels of the index if there is a record; null if it is in a gap. */
+static void levels_json(struct source *source, const struct variable *v)
+{
+    int32_t levels = 0, answer = 0;
+
+    if (v->max_rec < 0)
+        return;
+    answer = read_levels(source, v, &levels);
+    if (answer == 0)
+        printf(", \"index_levels\": %" PRId32, levels);
+    else if (answer == TLZ_RECORD_IN_GAP)
+        printf(", \"index_levels\": null");
+    else
+        printf(", \"index_levels\": {\"refused\": %" PRId32 ", \"words\": \"%s\"}", answer, words_of_refusal(answer));
+}
+
 static void describe_text(struct source *source, const struct variable *v)
 {
     printf("\n%sVariable %" PRId64 " ", letter(v), v->number);
@@ -80,7 +118,9 @@ static void describe_text(struct source *source, const struct variable *v)
         printf(" %" PRId32 "%s", v->sizes[d], v->variances[d] == 0 ? " (fixed)" : "");
     printf("%s\n  records     %s\n", v->dimensions == 0 ? " none" : "",
            (v->flags & TLZ_FLAG_RECORD_VARIANCE) != 0 ? "vary" : "fixed");
-    printf("  MaxRec      %" PRId32 "\n  sparse      %s\n  pad         ", v->max_rec, sparseness(v));
+    printf("  MaxRec      %" PRId32 "\n", v->max_rec);
+    levels_text(source, v);
+    printf("  sparse      %s\n  pad         ", sparseness(v));
     print_pad(source, v);
     printf("\n");
     if (v->num != v->number)
@@ -101,6 +141,7 @@ static void describe_json(struct source *source, const struct variable *v)
     printf("], \"record_variance\": %s, \"max_rec\": %" PRId32 ", \"sparseness\": \"%s\", \"pad\": ",
            (v->flags & TLZ_FLAG_RECORD_VARIANCE) != 0 ? "true" : "false", v->max_rec, sparseness(v));
     print_pad(source, v);
+    levels_json(source, v);
     printf("}");
 }
 

@@ -24,7 +24,7 @@ static const struct meaning meanings[] = {
     { TLZ_BAD_LINK, "a link leads to no record, or to one of the wrong type" },
     { TLZ_CLAIMED_TWICE, "two links lead to one record" },
     { TLZ_BAD_RECORD, "a record's fields or size break its rule" },
-    { TLZ_BAD_LIST, "a list's count, numbering, maximum, tail or back link disagrees" },
+    { TLZ_BAD_LIST, "a list's count, numbering, maximum, tail or back link disagrees, or a lower index record has a next one" },
     { TLZ_BAD_INDEX, "an index's ranges of record numbers disagree" },
     { TLZ_UNCLAIMED, "a record in use is on no list" },
     { TLZ_NOT_CARRIED, "not carried: several files, a record of type 10 to 13, or compressed values" },
@@ -35,6 +35,7 @@ static const struct meaning meanings[] = {
     { TLZ_FLOAT_NOT_CARRIED, "a floating-point value in encoding 3, 14 or 15" },
     { TLZ_BAD_STATE, "the saved state is not one that a check of this file leaves" },
     { TLZ_OTHER_FILE, "the file's length is not the one noted at opening" },
+    { TLZ_TOO_DEEP, "an index has more than eight levels of records" },
 };
 
 static const struct meaning types[] = {
@@ -79,11 +80,24 @@ const char *words_of_encoding(int32_t encoding)
     return found(encodings, sizeof encodings / sizeof *encodings, encoding, "no encoding");
 }
 
-/* Places of a state. */
-enum { LENGTH = 1, PHASE = 2, KIND = 3, LINK = 4, COUNT = 5, ENTRY = 9 };
+/* Places of a state; a level has three numbers, and its second is 0 where there is none. */
+enum { LENGTH = 1, PHASE = 2, KIND = 3, LINK = 4, COUNT = 5, ENTRY = 9, LEVELS = 12, OF_A_LEVEL = 3 };
 
 /* Phases of a check. */
 enum { FRESH, SWEEP, START, VARIABLES, CHAIN, INDEX_ENTRY, ATTRIBUTES, ENTRIES, UNUSED };
+
+/* In which index a check stands, and on which level if it is not the top one. */
+static void words_of_index(const uint32_t *state, const char *variable, char *words, size_t room)
+{
+    int level = 1;
+
+    for (int i = LEVELS; i < TLZ_STATE_LEN && state[i + 1] != 0; i += OF_A_LEVEL)
+        level++;
+    if (level == 1)
+        snprintf(words, room, "all bytes swept, in the index of %s %" PRIu32, variable, state[COUNT]);
+    else
+        snprintf(words, room, "all bytes swept, in the index of %s %" PRIu32 ", level %d", variable, state[COUNT], level);
+}
 
 void words_of_state(const uint32_t *state, char *words, size_t room)
 {
@@ -102,7 +116,7 @@ void words_of_state(const uint32_t *state, char *words, size_t room)
         break;
     case CHAIN:
     case INDEX_ENTRY:
-        snprintf(words, room, "all bytes swept, in the index of %s %" PRIu32, variable, state[COUNT]);
+        words_of_index(state, variable, words, room);
         break;
     case ATTRIBUTES:
         snprintf(words, room, "all bytes swept, %" PRIu32 " attributes claimed", state[COUNT]);

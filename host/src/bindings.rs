@@ -4,7 +4,7 @@
 #![allow(unsafe_code)]
 
 /// How many numbers a saved state has.
-pub const STATE_LENGTH: usize = 12;
+pub const STATE_LENGTH: usize = 33;
 
 /// A saved state of the right length.
 pub type State = [u32; STATE_LENGTH];
@@ -35,6 +35,14 @@ mod c {
             value_kind: *mut u64,
             bits: *mut u64,
             offset: *mut u64,
+        ) -> i32;
+        pub fn tlz_read_levels(
+            file: *const u8,
+            file_len: usize,
+            kind: i64,
+            number: i64,
+            record: i64,
+            field: *mut i32,
         ) -> i32;
         pub fn tlz_read_entry(
             file: *const u8,
@@ -142,7 +150,7 @@ mod c {
     }
 }
 
-/// Makes a state fresh: -1, since there is no verdict yet, or 20 and nothing changed if it has not 12 numbers.
+/// Makes a state fresh: -1, since there is no verdict yet, or 20 and nothing changed if it has not 33 numbers.
 pub fn check_begin(state: &mut [u32]) -> i32 {
     // SAFETY: pointer and length are one lent slice's.
     unsafe { c::tlz_check_begin(state.as_mut_ptr(), state.len()) }
@@ -185,7 +193,7 @@ pub fn to_bytes(state: &State) -> Vec<u8> {
     state.iter().flat_map(|number| number.to_le_bytes()).collect()
 }
 
-/// The state that these bytes keep; nothing if they are not 48.
+/// The state that these bytes keep; nothing if they are not 132.
 pub fn from_bytes(bytes: &[u8]) -> Option<State> {
     let numbers: Vec<u32> = bytes
         .chunks_exact(4)
@@ -266,6 +274,12 @@ pub fn read_value(
     value(|k, b, o| unsafe {
         c::tlz_read_value(f, n, kind, number, record, i, count, element, k, b, o)
     })
+}
+
+/// How many levels a variable's index has on the way to a record.
+pub fn read_levels(file: &[u8], kind: i64, number: i64, record: i64) -> Result<i32, i32> {
+    let (f, n) = (file.as_ptr(), file.len());
+    field(|to| unsafe { c::tlz_read_levels(f, n, kind, number, record, to) })
 }
 
 /// An element of an attribute's entry: the first of that number.

@@ -1,4 +1,4 @@
-//! Damages good files: control fields, links, length.
+//! Damages good files: control fields, links, indexes of several levels, length.
 
 use crate::build::random::Random;
 use crate::build::records::put;
@@ -217,10 +217,134 @@ pub fn opening_damages(file: &[u8]) -> Vec<Damage> {
     all.map(|(offset, value)| to_value(offset, value)).collect()
 }
 
+/// A VXR of a file and where it stands in its index.
+#[derive(Clone, Copy, Debug, PartialEq, Eq)]
+pub struct Node {
+    /// File offset of the VXR.
+    pub offset: usize,
+    /// Its level: 1 in the top chain.
+    pub level: usize,
+    /// File offset of the variable's VDR.
+    pub owner: usize,
+    /// The VXR and the entry that name it, below the top chain.
+    pub named_by: Option<(usize, usize)>,
+}
+
+/// A used entry of a VXR.
+#[derive(Clone, Copy, Debug, PartialEq, Eq)]
+struct Used {
+    /// File offsets of its First, Last and Offset.
+    at: [usize; 3],
+    /// What these hold.
+    holds: [i64; 3],
+}
+
+/// The deepest index that is looked through.
+const DEEPEST: usize = 9;
+
+/// All VXRs of a good file's indexes, each above those that it names.
+pub fn nodes(file: &[u8]) -> Vec<Node> {
+    let mut found = Vec::new();
+    for vdr in records(file).iter().filter(|record| matches!(record.record_type, 3 | 8)) {
+        let mut link = number(file, vdr.offset + 20);
+        while let Some(offset) = index_at(file, link) {
+            if found.iter().any(|node: &Node| node.offset == offset) {
+                break;
+            }
+            let top = Node { offset, level: 1, owner: vdr.offset, named_by: None };
+            add_nodes(file, top, &mut found);
+            link = number(file, offset + 8);
+        }
+    }
+    found
+}
+
+/// A node and those below it.
+fn add_nodes(file: &[u8], node: Node, found: &mut Vec<Node>) {
+    found.push(node);
+    if node.level == DEEPEST {
+        return;
+    }
+    for (entry, used) in used_entries(file, node.offset).iter().enumerate() {
+        if let Some(offset) = index_at(file, used.holds[2]) {
+            let (level, named_by) = (node.level + 1, Some((node.offset, entry)));
+            add_nodes(file, Node { offset, level, named_by, ..node }, found);
+        }
+    }
+}
+
+/// File offset of the VXR that a link leads to, if it does.
+fn index_at(file: &[u8], link: i64) -> Option<usize> {
+    let offset = usize::try_from(link).ok().filter(|offset| *offset >= 8)?;
+    (number(file, offset + 4) == 6).then_some(offset)
+}
+
+/// The used entries of the VXR at an offset, as many as lie in the file.
+fn used_entries(file: &[u8], vxr: usize) -> Vec<Used> {
+    let entries = usize::try_from(number(file, vxr + 12)).unwrap_or(0);
+    let used = usize::try_from(number(file, vxr + 16)).unwrap_or(0);
+    let of = |entry: usize| {
+        let at = [0, 1, 2].map(|column| vxr + 20 + 4 * (column * entries + entry));
+        Used { at, holds: at.map(|at| number(file, at)) }
+    };
+    let in_file = |entry: &Used| entry.at[2] + 4 <= file.len();
+    (0..used).map(of).take_while(in_file).collect()
+}
+
+/// Indexes of several levels: lower nexts, ranges that leave those above or touch, types exchanged, entries that name
+/// other index records, MaxRec where no values are.
+pub fn tree_damages(file: &[u8]) -> Vec<Damage> {
+    let all = nodes(file);
+    let mut damages = Vec::new();
+    for node in &all {
+        let used = used_entries(file, node.offset);
+        if let Some((above, entry)) = node.named_by {
+            let naming = used_entries(file, above).get(entry).copied();
+            damages.extend(naming.iter().flat_map(|naming| lower_damages(node, naming, &used)));
+        }
+        let others = all.iter().filter(|other| other.owner == node.owner);
+        let others: Vec<i64> = others.filter_map(|other| other.offset.try_into().ok()).collect();
+        let owner = i64::try_from(node.owner).unwrap_or(0);
+        let targets: Vec<i64> = others.into_iter().chain([0, owner, owner + 4]).collect();
+        damages.extend(used.iter().flat_map(|entry| naming_damages(file, entry, &targets)));
+    }
+    damages
+}
+
+/// What is done to a lower VXR, to the entry that names it and to its ranges.
+fn lower_damages(node: &Node, naming: &Used, used: &[Used]) -> Vec<Damage> {
+    let [first, last, own] = naming.holds;
+    let nexts = [own, 8, 1, -1].map(|next| to_value(node.offset + 8, next));
+    let [first_at, last_at, _] = naming.at;
+    let narrower = [to_value(first_at, first + 1), to_value(last_at, last - 1)];
+    let wider = [to_value(first_at, first - 1), to_value(last_at, last + 1)];
+    let max_rec = [first, last].map(|record| to_value(node.owner + 16, record));
+    let outside = used.iter().flat_map(|entry| {
+        let [first_at, last_at, _] = entry.at;
+        [to_value(first_at, first - 1), to_value(first_at, first), to_value(last_at, last + 1)]
+    });
+    let touching = used.windows(2).flat_map(|pair| {
+        let (before, behind) = (pair[0].holds, pair[1].holds);
+        [to_value(pair[1].at[0], before[1]), to_value(pair[0].at[1], behind[0])]
+    });
+    let own_changes = nexts.into_iter().chain(narrower).chain(wider).chain(max_rec);
+    own_changes.chain(outside).chain(touching).collect()
+}
+
+/// What is done to a used entry: the type of what it names is exchanged, or it names something else: another VXR of its
+/// index, the VDR, or no record.
+fn naming_damages(file: &[u8], entry: &Used, others: &[i64]) -> Vec<Damage> {
+    let named = usize::try_from(entry.holds[2]).unwrap_or(0);
+    let other_type = if number(file, named + 4) == 6 { 7 } else { 6 };
+    let exchanged = std::iter::once(to_value(named + 4, other_type));
+    exchanged.chain(others.iter().map(|other| to_value(entry.at[2], *other))).collect()
+}
+
 /// Damages of all kinds.
 pub fn all_damages(file: &[u8]) -> Vec<Damage> {
     let mut all = edge_damages(file);
     all.extend(link_damages(file));
+    all.extend(tree_damages(file));
     all.extend(length_damages(file));
     all
 }

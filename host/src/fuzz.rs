@@ -2,15 +2,16 @@
 //!
 //! A round builds a good file and damages it or not. Both check it, in one grant and in grants at random. Then both go on
 //! from points of the check with marks made up, from states made up, and after bytes of the file have been changed. At
-//! every stop they must agree in the answer, the steps, all 12 numbers of the state and every mark, and one grant must
+//! every stop they must agree in the answer, the steps, all 33 numbers of the state and every mark, and one grant must
 //! leave what several do. Then both readers are asked: they must answer the same, and never 20 on an accepted file.
 
 use crate::build;
+use crate::build::model::{File, Index};
 use crate::build::random::Random;
 use crate::damage::{self, Damage};
 use crate::made_up::{Point, Source, BEYOND};
 use crate::pair::{to_the_end, Compared, Pair};
-use crate::questions;
+use crate::questions::{self, Given, Question};
 use crate::second::check::{self, RUNNING};
 use std::collections::BTreeMap;
 use std::fmt;
@@ -24,6 +25,8 @@ pub struct Covered {
     pub kinds: BTreeMap<&'static str, u64>,
     /// Records of the files before they were damaged, by type.
     pub records: BTreeMap<i64, u64>,
+    /// Indexes of variables of the files before they were damaged, by how many levels they have.
+    pub levels: BTreeMap<usize, u64>,
     /// Verdicts of whole checks.
     pub verdicts: BTreeMap<i32, u64>,
     /// All grants to both checkers.
@@ -42,6 +45,8 @@ pub struct Covered {
     pub changed_answers: BTreeMap<i32, u64>,
     /// Questions to both readers, by call.
     pub questions: BTreeMap<&'static str, u64>,
+    /// How many levels were answered to the call for them.
+    pub levels_answered: BTreeMap<i64, u64>,
     /// What they answered: 0, or a refusal.
     pub answers: BTreeMap<i32, u64>,
 }
@@ -50,9 +55,11 @@ impl fmt::Display for Covered {
     fn fmt(&self, out: &mut fmt::Formatter) -> fmt::Result {
         writeln!(out, "files             {}: {}", self.files, list(&self.kinds))?;
         writeln!(out, "records by type   {}", list(&self.records))?;
+        writeln!(out, "indexes by levels {}", list(&self.levels))?;
         writeln!(out, "verdicts          {}", list(&self.verdicts))?;
         writeln!(out, "grants            {}", self.compared.grants)?;
         writeln!(out, "steps by phase    {}", list(&self.compared.steps))?;
+        writeln!(out, "steps by levels   {}", list(&self.compared.levels))?;
         writeln!(out, "short marks       {}", list(&self.short_marks))?;
         writeln!(out, "made-up marks     {}", list(&self.made_up_marks))?;
         writeln!(out, "made-up states    by phase {}", list(&self.made_up_states))?;
@@ -61,6 +68,7 @@ impl fmt::Display for Covered {
         writeln!(out, "their answers     {}", list(&self.changed_answers))?;
         writeln!(out, "20 by what        {}", list(&self.bad_steps()))?;
         writeln!(out, "questions         {}", list(&self.questions))?;
+        writeln!(out, "levels answered   {}", list(&self.levels_answered))?;
         write!(out, "reader's answers  {}", list(&self.answers))
     }
 }
@@ -118,21 +126,36 @@ fn unchanged(source: &Source, random: &mut Random, covered: &mut Covered) -> Res
 
 /// A built file, left as it is or damaged.
 fn any_file(random: &mut Random, covered: &mut Covered) -> Vec<u8> {
-    let (_, file) = build::any(random.number());
-    for record in damage::records(&file) {
-        count(&mut covered.records, record.record_type);
-    }
-    let (kind, file) = match random.below(7) {
+    let (kind, levels) = (random.below(9), 2 + random.place(7));
+    let (model, file) = match kind {
+        7 => build::with_levels(random.number(), levels),
+        8 => build::with_levels(random.number(), 9),
+        _ => build::any(random.number()),
+    };
+    count_file(&model, &file, covered);
+    let (kind, file) = match kind {
         0 => ("good", file),
         1 => ("one field at an edge", damaged_by(file, damage::edge_damages, random)),
         2 => ("one link to a record", damaged_by(file, damage::link_damages, random)),
         3 => ("one ring", damaged_by(file, damage::ring_damages, random)),
         4 => ("bytes at random", scattered(file, random)),
         5 => ("one field of the opening", damaged_by(file, damage::opening_damages, random)),
-        _ => ("several damages", several(file, random)),
+        6 => ("several damages", several(file, random)),
+        7 => ("one field of a tree", damaged_by(file, damage::tree_damages, random)),
+        _ => ("nine levels", file),
     };
     count(&mut covered.kinds, kind);
     file
+}
+
+/// Counts the records of a file and the levels of its indexes.
+fn count_file(model: &File, file: &[u8], covered: &mut Covered) {
+    for record in damage::records(file) {
+        count(&mut covered.records, record.record_type);
+    }
+    for variable in [3, 8].iter().flat_map(|kind| model.variables(*kind)) {
+        count(&mut covered.levels, variable.chain.iter().map(Index::levels).max().unwrap_or(0));
+    }
 }
 
 fn damaged_by(file: Vec<u8>, damages: fn(&[u8]) -> Vec<Damage>, random: &mut Random) -> Vec<u8> {
@@ -163,6 +186,9 @@ fn with_questions(file: &[u8], random: &mut Random, covered: &mut Covered) -> Re
         let answer = questions::agreed(file, &question)?;
         count(&mut covered.questions, questions::call(&question));
         count(&mut covered.answers, answer.err().unwrap_or(0));
+        if let (Question::Levels(..), Ok(Given::Field(levels))) = (&question, answer) {
+            count(&mut covered.levels_answered, levels);
+        }
         if accepted && answer == Err(20) {
             return Err(format!("20 on an accepted file: {question}"));
         }
@@ -245,9 +271,10 @@ fn with_states(source: &Source, random: &mut Random, covered: &mut Covered) -> R
     for _ in 0..8 {
         let (real, marks) = source.any_point(random);
         let marks = source.any_marks(marks, random);
-        let state = match random.below(3) {
+        let state = match random.below(4) {
             0 => source.near(real, random),
             1 => source.in_range(random),
+            2 => source.wrong_levels(random),
             _ => source.anything(random),
         };
         count(&mut covered.made_up_states, state[2].min(9));
@@ -307,5 +334,7 @@ mod tests {
         assert!(one.verdicts.len() > 8 && one.made_up_states.len() == 10, "{one}");
         assert!(one.compared.steps.len() == 10 && one.bad_steps().len() > 12, "{one}");
         assert!(one.questions.len() == questions::CALLS && one.answers.len() == 7, "{one}");
+        assert!(one.levels.len() == 10 && one.compared.levels.len() == 8, "{one}");
+        assert!(one.levels_answered.len() >= 5, "{one}");
     }
 }

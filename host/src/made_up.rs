@@ -5,7 +5,8 @@ use crate::build::records::put;
 use crate::damage::{self, Found};
 use crate::second::bytes::field;
 use crate::second::check::{Check, State, RUNNING, STATE_LENGTH};
-use crate::second::state::{self, GREATEST_COUNT, GREATEST_LINK, GREATEST_OFFSET};
+use crate::second::state::{self, FIRST_LEVEL, LEVEL_LENGTH, LEVEL_RANGES, MOST_LEVELS};
+use crate::second::state::{GREATEST_COUNT, GREATEST_LINK, GREATEST_OFFSET};
 
 /// Marks behind the file that nobody may write.
 pub const BEYOND: usize = 5;
@@ -14,7 +15,7 @@ pub const BEYOND: usize = 5;
 pub fn edges() -> Vec<u32> {
     let tops = [GREATEST_OFFSET, GREATEST_COUNT, GREATEST_LINK, u32::MAX - 1];
     let about_tops = tops.into_iter().flat_map(|top| top - 1..=top + 1);
-    let small = (0..=10).chain(15..=23).chain([312, 371, 372, 373]);
+    let small = (0..=10).chain(15..=26).chain([312, 371, 372, 373]);
     small.chain(about_tops).collect()
 }
 
@@ -111,35 +112,105 @@ impl Source {
         i64::try_from(at).ok().and_then(|at| field(&self.file, at)).unwrap_or(0)
     }
 
-    /// A state of the file's check with one to three numbers changed, most of them within their ranges.
+    /// A state of the file's check with one to three numbers changed, most of them within their ranges, or with a level
+    /// more or less.
     pub fn near(&self, state: &State, random: &mut Random) -> State {
         let mut state = *state;
+        if state::most_levels(state[2]) > 0 && random.once_in(4) {
+            self.change_levels(&mut state, random);
+        }
         for _ in 0..random.between(1, 3) {
-            let meant = meant(state[2]);
+            let meant = meant(&state);
             let place = match random.one_of(&meant) {
                 Some(place) if !random.once_in(12) => *place,
                 _ => random.place(STATE_LENGTH),
             };
             let number = self.any_number(random);
-            let most = greatest(&state, place);
-            state[place] = if random.once_in(6) { number } else { number.min(most) };
+            let (least, most) = range(&state, place);
+            state[place] = if random.once_in(6) { number } else { number.clamp(least, most) };
         }
         state
     }
 
-    /// Numbers in their ranges, of the file's length.
+    /// Numbers in their ranges, of the file's length; along an index often with levels.
     pub fn in_range(&self, random: &mut Random) -> State {
         let phase = u32::try_from(random.between(1, 8)).unwrap_or(1);
         let mut state = [0; STATE_LENGTH];
         state[1] = self.file.len() as u32;
         state[2] = phase;
         state[3] = random.one_of(state::kinds(phase)).copied().unwrap_or(0);
-        for place in meant(phase) {
-            state[place] = self.any_number(random).min(greatest(&state, place));
+        for place in meant(&state) {
+            state[place] = self.any_number(random).min(range(&state, place).1);
         }
         if phase == 1 {
             state[4] = state[4].max(8);
         }
+        if random.once_in(2) {
+            let count = random.place(state::most_levels(phase) + 1);
+            (0..count).for_each(|level| set_level(&mut state, level, self.any_level(random)));
+        }
+        state
+    }
+
+    /// A level with numbers in their ranges: mostly a VXR of the file, a small entry number, a small Last.
+    fn any_level(&self, random: &mut Random) -> [u32; LEVEL_LENGTH] {
+        let indexes = self.records.iter().filter(|record| record.record_type == 6);
+        let indexes: Vec<usize> = indexes.map(|record| record.offset).collect();
+        let usual = [
+            random.one_of(&indexes).map_or(8, |offset| *offset as u32),
+            random.between(1, 3) as u32,
+            random.below(40) as u32,
+        ];
+        let mut level = usual;
+        for (number, (least, most)) in level.iter_mut().zip(LEVEL_RANGES) {
+            if random.once_in(3) {
+                *number = self.any_number(random).clamp(least, most);
+            }
+        }
+        level
+    }
+
+    /// One level more, the nearest; or one less; or all that may be.
+    fn change_levels(&self, state: &mut State, random: &mut Random) {
+        let count = state::level_count(state).unwrap_or(0);
+        match random.below(4) {
+            0 => set_levels(state, &levels(state).split_off(1)),
+            1 => {
+                let all = [0; MOST_LEVELS].map(|_| self.any_level(random));
+                set_levels(state, &all);
+            }
+            _ if count < MOST_LEVELS => {
+                let mut more = levels(state);
+                more.insert(0, self.any_level(random));
+                set_levels(state, &more);
+            }
+            _ => set_level(state, random.place(MOST_LEVELS), self.any_level(random)),
+        }
+    }
+
+    /// Numbers in their ranges but for the levels: a level below one that is not there, a level of which not all is
+    /// there, a number past its range, or a level in a phase that has none.
+    pub fn wrong_levels(&self, random: &mut Random) -> State {
+        let mut state = self.in_range(random);
+        let count = 1 + random.place(MOST_LEVELS);
+        let right = [0; MOST_LEVELS].map(|_| self.any_level(random));
+        if state::most_levels(state[2]) == 0 {
+            set_levels(&mut state, &right[..count]);
+            return state;
+        }
+        set_levels(&mut state, &right[..count]);
+        let place = random.place(count);
+        let mut wrong = right[place];
+        match random.below(4) {
+            0 if place + 1 < count => wrong = [0; LEVEL_LENGTH],
+            1 => wrong = [wrong[0].max(1), 0, wrong[2]],
+            2 => wrong = [wrong[0], 0, wrong[2].max(1)],
+            _ => {
+                let number = random.place(LEVEL_LENGTH);
+                wrong[number] = LEVEL_RANGES[number].1 + 1;
+            }
+        }
+        set_level(&mut state, place, wrong);
         state
     }
 
@@ -153,6 +224,9 @@ impl Source {
             state[1] = self.file.len() as u32;
         }
         state[2] %= if random.once_in(2) { 10 } else { u32::MAX };
+        if random.once_in(2) {
+            set_levels(&mut state, &[]);
+        }
         state
     }
 
@@ -228,9 +302,9 @@ impl Source {
                 put(&mut file, at, to as i64);
             }
         }
-        for number in &mut state[7..9] {
-            if *number == record.offset as u32 {
-                *number = to as u32;
+        for place in [7, 8].into_iter().chain(level_records()) {
+            if state[place] == record.offset as u32 {
+                state[place] = to as u32;
             }
         }
         let mark = marks.get(record.offset).copied().unwrap_or(0);
@@ -255,16 +329,45 @@ pub fn shortened(file: &[u8], point: &Point, length: usize) -> (Vec<u8>, Point) 
     (file, (state, marks))
 }
 
-/// The numbers 4 to 11 that have a meaning in a phase.
-fn meant(phase: u32) -> Vec<usize> {
-    let most = state::greatest(phase);
-    (4..STATE_LENGTH).zip(most).filter(|(_, most)| *most > 0).map(|(place, _)| place).collect()
+/// The numbers from 4 on that have a meaning in a state: those of its phase, and those of its levels.
+fn meant(state: &State) -> Vec<usize> {
+    let most = state::greatest(state[2]);
+    let of_phase = (4..FIRST_LEVEL).zip(most).filter(|(_, most)| *most > 0).map(|(place, _)| place);
+    let levels = state::level_count(state).unwrap_or(0).min(state::most_levels(state[2]));
+    of_phase.chain(FIRST_LEVEL..FIRST_LEVEL + LEVEL_LENGTH * levels).collect()
 }
 
-/// The greatest that a number may be in the state's phase; those before number 4 may be any.
-fn greatest(state: &State, place: usize) -> u32 {
+/// The least and the greatest that a number may be in the state's phase; those before number 4 may be any.
+fn range(state: &State, place: usize) -> (u32, u32) {
+    if let Some(of_level) = place.checked_sub(FIRST_LEVEL) {
+        return LEVEL_RANGES[of_level % LEVEL_LENGTH];
+    }
     let most = state::greatest(state[2]);
-    place.checked_sub(4).and_then(|place| most.get(place)).copied().unwrap_or(u32::MAX)
+    let most = place.checked_sub(4).and_then(|place| most.get(place)).copied();
+    (0, most.unwrap_or(u32::MAX))
+}
+
+/// The places of the levels' records in a state.
+fn level_records() -> impl Iterator<Item = usize> {
+    (FIRST_LEVEL..STATE_LENGTH).step_by(LEVEL_LENGTH)
+}
+
+/// The levels of a state, as many as there may be.
+fn levels(state: &State) -> Vec<[u32; LEVEL_LENGTH]> {
+    level_records().map(|at| [state[at], state[at + 1], state[at + 2]]).collect()
+}
+
+/// Sets the level at a place, 0 being the nearest.
+fn set_level(state: &mut State, place: usize, level: [u32; LEVEL_LENGTH]) {
+    let at = FIRST_LEVEL + LEVEL_LENGTH * place;
+    state.iter_mut().skip(at).zip(level).for_each(|(number, new)| *number = new);
+}
+
+/// Sets all levels: these, as many as there may be, and none behind them.
+fn set_levels(state: &mut State, levels: &[[u32; LEVEL_LENGTH]]) {
+    for place in 0..MOST_LEVELS {
+        set_level(state, place, levels.get(place).copied().unwrap_or([0; LEVEL_LENGTH]));
+    }
 }
 
 /// A size that a record may state.

@@ -3,6 +3,7 @@
 
 use crate::bindings::check_grant;
 use crate::second::check::{watched_grant, End, State, FRESH, RUNNING};
+use crate::second::state::level_count;
 use std::collections::BTreeMap;
 
 /// A step that gave 20: phase and kind before it, and what was wrong.
@@ -17,6 +18,8 @@ pub struct Compared {
     pub answers: BTreeMap<i32, u64>,
     /// Steps that each made in them, by phase.
     pub steps: BTreeMap<u32, u64>,
+    /// Steps along an index, by how many levels are above the record that is walked.
+    pub levels: BTreeMap<usize, u64>,
     /// Steps that finished a check, by phase and verdict.
     pub ends: BTreeMap<(u32, i32), u64>,
     /// Those that gave 20.
@@ -32,6 +35,9 @@ impl Compared {
     fn see(&mut self, before: &State, end: Option<End>) {
         let phase = before[2].min(9);
         count(&mut self.steps, phase);
+        if let (4 | 5, Some(levels)) = (phase, level_count(before)) {
+            count(&mut self.levels, levels);
+        }
         let Some(end) = end else {
             return;
         };
@@ -180,7 +186,7 @@ mod tests {
             other.second_state[place] ^= 64;
             assert!(other.grant(&file, 0, &mut compared).is_err(), "number {place}");
         }
-        let mut longer = Pair::new(&[0; 13], &[]);
+        let mut longer = Pair::new(&[0; 34], &[]);
         longer.second_state.pop();
         assert!(longer.grant(&file, 1, &mut compared).is_err(), "a number less");
     }

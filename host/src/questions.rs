@@ -13,6 +13,8 @@ use std::fmt;
 pub enum Question {
     /// kind, number, record, indices, element.
     Value(i64, i64, i64, Vec<i64>, i64),
+    /// kind, number, record.
+    Levels(i64, i64, i64),
     /// attribute, kind, entry number, element.
     Entry(i64, i64, i64, i64),
     /// kind, number, element.
@@ -70,6 +72,9 @@ pub fn proved(file: &[u8], question: &Question) -> Answer {
     match question {
         Value(kind, number, record, indices, element) => {
             bindings::read_value(file, *kind, *number, *record, indices, *element).map(value)
+        }
+        Levels(kind, number, record) => {
+            bindings::read_levels(file, *kind, *number, *record).map(field)
         }
         Entry(attribute, kind, entry, element) => {
             bindings::read_entry(file, *attribute, *kind, *entry, *element).map(value)
@@ -155,9 +160,13 @@ pub fn second(file: &[u8], question: &Question) -> Answer {
     use Question::*;
     let value = |given: read::Answer| Given::Value(given.kind, given.bits, given.offset);
     let name = |of: Name| Given::Name(of.offset as u64, of.length as u64);
+    let at_place = |place: &u64| i64::try_from(*place).unwrap_or(i64::MAX);
     let answer = match question {
         Value(kind, number, record, indices, element) => {
             read::read_value(file, *kind, *number, *record, indices, *element).map(value)
+        }
+        Levels(kind, number, record) => {
+            read::levels(file, *kind, *number, *record).map(Given::Field)
         }
         Entry(attribute, kind, entry, element) => {
             read::read_entry(file, *attribute, *kind, *entry, *element).map(value)
@@ -178,13 +187,11 @@ pub fn second(file: &[u8], question: &Question) -> Answer {
             read::entry(file, *attribute, *kind, *entry).and_then(|of| shown(entry_field(&of, *at)))
         }
         EntryAt(attribute, kind, place, at) => {
-            let place = i64::try_from(*place).unwrap_or(i64::MAX);
-            read::entry_at_place(file, *attribute, *kind, place)
+            read::entry_at_place(file, *attribute, *kind, at_place(place))
                 .and_then(|of| shown(entry_field(&of, *at)))
         }
         EntryValueAt(attribute, kind, place, element) => {
-            let place = i64::try_from(*place).unwrap_or(i64::MAX);
-            read::read_entry_at_place(file, *attribute, *kind, place, *element).map(value)
+            read::read_entry_at_place(file, *attribute, *kind, at_place(place), *element).map(value)
         }
     };
     answer.map_err(|refusal| refusal as i32)
@@ -283,15 +290,37 @@ fn indices(file: &[u8], kind: i64, number: i64, random: &mut Random) -> Vec<i64>
     found
 }
 
+/// A variable: mostly one that the file says is there.
+fn any_variable(file: &[u8], random: &mut Random) -> (i64, i64) {
+    let kind = kind(random, [3, 8]);
+    let said = read::counts(file).map_or(0, |of| match kind {
+        3 => of.r_variables,
+        _ => of.z_variables,
+    });
+    let number = if random.once_in(3) { small(random, 3) } else { random.below(said.min(8)) };
+    (kind, number)
+}
+
+/// A record number: mostly one that the variable has.
+fn any_record(file: &[u8], kind: i64, number: i64, random: &mut Random) -> i64 {
+    let greatest = read::variable(file, kind, number).map_or(-1, |of| of.max_rec);
+    match random.below(4) {
+        0 | 1 if greatest >= 0 => random.between(0, greatest.min(60)),
+        2 if greatest >= 0 => greatest,
+        _ => own_number(file, random, 8),
+    }
+}
+
 /// Any question about a variable.
 fn of_variable(file: &[u8], random: &mut Random) -> Question {
-    let (kind, number) = (kind(random, [3, 8]), small(random, 3));
-    match random.below(9) {
+    let (kind, number) = any_variable(file, random);
+    match random.below(11) {
         0..=3 => {
             let indices = indices(file, kind, number, random);
-            let record = own_number(file, random, 8);
+            let record = any_record(file, kind, number, random);
             Question::Value(kind, number, record, indices, small(random, 1))
         }
+        9 | 10 => Question::Levels(kind, number, any_record(file, kind, number, random)),
         4 => Question::Pad(kind, number, small(random, 2)),
         5 => Question::Variable(kind, number, offset(random)),
         6 => Question::Size(kind, number, small(random, 3)),
@@ -334,6 +363,7 @@ pub fn any(file: &[u8], random: &mut Random) -> Question {
 pub fn call(question: &Question) -> &'static str {
     match question {
         Question::Value(..) => "value",
+        Question::Levels(..) => "levels",
         Question::Entry(..) => "entry",
         Question::Pad(..) => "pad",
         Question::File(..) => "file",
@@ -351,7 +381,7 @@ pub fn call(question: &Question) -> &'static str {
 }
 
 /// How many calls there are.
-pub const CALLS: usize = 14;
+pub const CALLS: usize = 15;
 
 /// Questions that go through the edges of every number, one number at a time.
 pub fn edges() -> Vec<Question> {
@@ -382,6 +412,8 @@ fn edge_of_variables(edge: i64) -> Vec<Question> {
             Question::Value(kind, 0, 0, vec![edge, 0], 0),
             Question::Value(kind, 0, 0, vec![0, edge], 0),
             Question::Value(kind, 0, 0, vec![0; edge.clamp(0, 40) as usize], 0),
+            Question::Levels(kind, edge, 0),
+            Question::Levels(kind, 0, edge),
             Question::Pad(kind, edge, 0),
             Question::Pad(kind, 0, edge),
             Question::Variable(kind, edge, 12),
@@ -418,6 +450,8 @@ fn edge_of_kinds(kind: i64) -> Vec<Question> {
     vec![
         Question::Value(kind, 0, 0, Vec::new(), 0),
         Question::Value(kind, -1, -1, vec![-1], -1),
+        Question::Levels(kind, 0, 0),
+        Question::Levels(kind, -1, -1),
         Question::Pad(kind, 0, 0),
         Question::Variable(kind, 0, 12),
         Question::Variable(kind, 0, 128),

@@ -1,7 +1,8 @@
 //! The project's sample files and the lines that say what is expected of them.
 
+use crate::questions::{Answer, Given, Question};
 use std::collections::HashMap;
-use std::path::PathBuf;
+use std::path::{Path, PathBuf};
 
 /// The directory of the samples, beside this package.
 pub fn directory() -> PathBuf {
@@ -59,7 +60,27 @@ fn octal(field: &[u8]) -> Option<usize> {
     usize::from_str_radix(text(field).trim(), 8).ok()
 }
 
-/// A line of `checks.txt`.
+/// A list of checks: the files of `checks.tar` in its folder, and what the check of each leaves.
+#[derive(Clone, Copy, Debug, PartialEq, Eq)]
+pub struct Checks {
+    /// The folder in the samples' directory, or nothing for the directory itself.
+    pub folder: &'static str,
+    /// The list's name.
+    pub list: &'static str,
+    /// What all marks hold at first; they are as long as the file.
+    pub first_mark: u8,
+    /// How many lines the list has.
+    pub lines: usize,
+}
+
+/// All lists of checks.
+pub const CHECKS: [Checks; 3] = [
+    Checks { folder: "", list: "checks.txt", first_mark: 0xAA, lines: 830 },
+    Checks { folder: "levels", list: "checks.txt", first_mark: 0xAA, lines: 400 },
+    Checks { folder: "levels", list: "checks01.txt", first_mark: 1, lines: 400 },
+];
+
+/// A line of a list of checks.
 #[derive(Clone, Debug, PartialEq, Eq)]
 pub struct CheckLine {
     /// The file.
@@ -68,11 +89,11 @@ pub struct CheckLine {
     pub verdict: i32,
     /// Steps of the check.
     pub steps: u64,
-    /// FNV-1a of the marks at the end, which were all AA hex at first.
+    /// FNV-1a of the marks at the end.
     pub marks: u64,
 }
 
-/// Reads a line of `checks.txt`.
+/// Reads a line of a list of checks.
 pub fn check_line(line: &str) -> Option<CheckLine> {
     let mut words = line.split_whitespace();
     Some(CheckLine {
@@ -83,59 +104,80 @@ pub fn check_line(line: &str) -> Option<CheckLine> {
     })
 }
 
-/// The lines of `checks.txt`, each with its file out of `checks.tar`; nothing if one of them is missing.
-pub fn checked_files() -> Option<Vec<(CheckLine, Vec<u8>)>> {
-    let archive = std::fs::read(directory().join("checks.tar")).ok()?;
-    let text = std::fs::read_to_string(directory().join("checks.txt")).ok()?;
+/// The files of a folder's `checks.tar`, by name.
+pub fn archived(folder: &str) -> Option<HashMap<String, Vec<u8>>> {
+    let archive = std::fs::read(directory().join(folder).join("checks.tar")).ok()?;
     let found = members(&archive)?.into_iter();
-    let mut files: HashMap<String, Vec<u8>> =
-        found.map(|member| (member.name, member.bytes)).collect();
-    let lines = text.lines().map(|line| {
-        let line = check_line(line)?;
-        let file = files.remove(&line.name)?;
-        Some((line, file))
-    });
-    lines.collect()
+    Some(found.map(|member| (member.name, member.bytes)).collect())
 }
 
-/// A line of `reads.txt`.
+impl Checks {
+    /// The lines, each with its file; nothing if one of them is missing or there are not so many.
+    pub fn checked_files(&self) -> Option<Vec<(CheckLine, Vec<u8>)>> {
+        let path = directory().join(self.folder).join(self.list);
+        let text = std::fs::read_to_string(path).ok()?;
+        let mut files = archived(self.folder)?;
+        let lines = text.lines().map(|line| {
+            let line = check_line(line)?;
+            let file = files.remove(&line.name)?;
+            Some((line, file))
+        });
+        lines.collect::<Option<Vec<_>>>().filter(|found| found.len() == self.lines)
+    }
+}
+
+/// The folders with a list of reads, `reads.txt`, and how many lines it has.
+pub const READS: [(&str, usize); 2] = [("", 4623), ("levels", 10000)];
+
+/// A line of a list of reads.
 #[derive(Clone, Debug, PartialEq, Eq)]
 pub struct ReadLine {
     /// The file.
     pub name: String,
-    /// A variable's value is asked for, else an attribute's entry.
-    pub of_variable: bool,
-    /// The numbers of the question, in the line's order.
-    pub question: Vec<i64>,
-    /// What is answered: value kind, bits, offset; or a refusal.
-    pub answer: Result<(u64, u64, u64), u32>,
+    /// What is asked.
+    pub question: Question,
+    /// What is answered.
+    pub answer: Answer,
 }
 
-/// Reads a line of `reads.txt`.
+/// Reads a line of a list of reads: a call, the file, the call's numbers, and what is answered.
 pub fn read_line(line: &str) -> Option<ReadLine> {
     let (question, answer) = line.split_once(" = ")?;
     let mut words = question.split_whitespace();
-    let of_variable = match words.next()? {
-        "value" => true,
-        "entry" => false,
+    let (call, name) = (words.next()?, words.next()?.to_string());
+    let numbers = words.map(|word| word.parse().ok()).collect::<Option<Vec<i64>>>()?;
+    let question = match (call, numbers.as_slice()) {
+        ("value", [kind, number, record, element, indices @ ..]) => {
+            Question::Value(*kind, *number, *record, indices.to_vec(), *element)
+        }
+        ("entry", [attribute, kind, entry, element]) => {
+            Question::Entry(*attribute, *kind, *entry, *element)
+        }
+        ("pad", [kind, number, element]) => Question::Pad(*kind, *number, *element),
+        ("levels", [kind, number, record]) => Question::Levels(*kind, *number, *record),
         _ => return None,
     };
-    let name = words.next()?.to_string();
-    let question = words.map(|word| word.parse().ok()).collect::<Option<Vec<i64>>>()?;
-    Some(ReadLine { name, of_variable, question, answer: read_answer(answer)? })
+    Some(ReadLine { name, question, answer: read_answer(answer)? })
 }
 
-/// `refused N`, or `value KIND NUMBER OFFSET`.
-fn read_answer(answer: &str) -> Option<Result<(u64, u64, u64), u32>> {
+/// `refused N`, `value KIND NUMBER OFFSET`, or `levels N`.
+fn read_answer(answer: &str) -> Option<Answer> {
     let words: Vec<&str> = answer.split_whitespace().collect();
     match words.as_slice() {
         ["refused", number] => Some(Err(number.parse().ok()?)),
+        ["levels", number] => Some(Ok(Given::Field(number.parse().ok()?))),
         ["value", kind, number, offset] => {
             let kinds = ["signed", "unsigned", "single", "double", "character"];
             let kind = kinds.iter().position(|name| name == kind)?;
             let number: i128 = number.parse().ok()?;
-            Some(Ok((u64::try_from(kind).ok()?, number as u64, offset.parse().ok()?)))
+            let kind = u64::try_from(kind).ok()?;
+            Some(Ok(Given::Value(kind, number as u64, offset.parse().ok()?)))
         }
         _ => None,
     }
+}
+
+/// The lines of a list of reads; nothing if one of them cannot be read.
+pub fn read_lines(path: &Path) -> Option<Vec<ReadLine>> {
+    std::fs::read_to_string(path).ok()?.lines().map(read_line).collect()
 }

@@ -2,7 +2,7 @@
 //! the model they are made of.
 
 use tlepozaluh_host::build;
-use tlepozaluh_host::build::model::{Attribute, Entry, File, Variable};
+use tlepozaluh_host::build::model::{Attribute, Entry, File, Index, Variable};
 use tlepozaluh_host::build::random::Random;
 use tlepozaluh_host::damage;
 use tlepozaluh_host::second::check::{run, Granted};
@@ -17,12 +17,17 @@ fn links<T>(list: &[T]) -> u64 {
     list.len() as u64 + 1
 }
 
+/// Links of a VXR's entries: one each, and below those of the lower VXRs, each with its next.
+fn entry_links(index: &Index) -> u64 {
+    let below = index.lower().map(|lower| entry_links(&lower.index) + 1);
+    index.entries.len() as u64 + below.sum::<u64>()
+}
+
 /// Steps of the check: the opening, one a record, one a link.
 fn steps(model: &File, records: usize) -> u64 {
     let variables = model.r_variables.iter().chain(&model.z_variables);
     let chain = |variable: &Variable| -> u64 {
-        let entries = variable.chain.iter().map(|index| index.entries.len() as u64);
-        links(&variable.chain) + entries.sum::<u64>()
+        links(&variable.chain) + variable.chain.iter().map(entry_links).sum::<u64>()
     };
     let entries =
         |attribute: &Attribute| links(&attribute.gr_entries) + links(&attribute.z_entries);
@@ -102,8 +107,8 @@ fn expected_value(model: &File, of: &Variable, asked: &Question) -> Result<(u64,
     if wanted < 0 || of.max_rec == -1 || wanted > of.max_rec {
         return Err(16);
     }
-    let entries = of.chain.iter().flat_map(|index| &index.entries);
-    if !entries.clone().any(|entry| (entry.first..=entry.last()).contains(&wanted)) {
+    let values = of.values();
+    if !values.iter().any(|values| (values.first..=values.last()).contains(&wanted)) {
         return Err(17);
     }
     let in_range = asked.indices.iter().zip(&of.sizes).all(|(at, size)| (0..*size).contains(at));
@@ -142,6 +147,57 @@ fn values_are_the_models() {
     }
     assert!(given > 1000, "{given}");
     assert!(refused[16..=19].iter().all(|count| *count > 50), "{refused:?}");
+}
+
+/// The model's answer: 16, 17, or the level at which the record's values are named.
+fn expected_levels(of: &Variable, record: i64) -> Result<i64, u32> {
+    let wanted = if of.record_variance { record } else { record.min(0) };
+    if wanted < 0 || of.max_rec == -1 || wanted > of.max_rec {
+        return Err(16);
+    }
+    of.chain.iter().find_map(|index| index.level_of(wanted)).ok_or(17)
+}
+
+#[test]
+fn levels_are_the_models() {
+    let mut given = [0; 9];
+    let mut refused = [0; 21];
+    for seed in 0..FILES {
+        let (model, file) = build::any(seed);
+        for kind in [3, 8] {
+            for (number, of) in (0..).zip(model.variables(kind)) {
+                for record in (-1..=of.max_rec.min(30) + 1).chain([of.max_rec]) {
+                    let answer = read::levels(&file, kind, number, record);
+                    assert_eq!(answer, expected_levels(of, record), "seed {seed}");
+                    let counted = |found: i64| given[found as usize] += 1;
+                    answer.map_or_else(|refusal| refused[refusal as usize] += 1, counted);
+                }
+            }
+            let beyond = model.variables(kind).len() as i64;
+            assert_eq!(read::levels(&file, kind, beyond, 0), Err(15));
+        }
+    }
+    assert!(given[1..].iter().all(|count| *count > 500), "{given:?}");
+    assert!(refused[16..=17].iter().all(|count| *count > 500), "{refused:?}");
+}
+
+/// A ninth level is refused, and all below the eighth is 20 to the reader.
+#[test]
+fn nine_levels() {
+    for seed in 0..500 {
+        let (model, file) = build::with_levels(seed, 9);
+        assert_eq!(run(&file, &mut vec![0; file.len()]).verdict, 23, "seed {seed}");
+        for (number, of) in (0..).zip(&model.z_variables) {
+            for record in 0..=of.max_rec.min(60) {
+                let answer = read::levels(&file, 8, number, record);
+                match expected_levels(of, record) {
+                    Ok(9) => assert_eq!(answer, Err(20), "seed {seed}"),
+                    Err(17) => assert!(matches!(answer, Err(17 | 20)), "seed {seed}: {answer:?}"),
+                    other => assert_eq!(answer, other, "seed {seed}"),
+                }
+            }
+        }
+    }
 }
 
 /// Asks for a variable's pad value, one element below and one above included.
@@ -292,7 +348,7 @@ fn descriptors_are_the_models() {
 struct Seen {
     types: [Vec<i64>; 2],
     encodings: Vec<i64>,
-    happened: [bool; 12],
+    happened: [bool; 17],
 }
 
 impl Seen {
@@ -316,8 +372,8 @@ impl Seen {
     }
 
     fn look_at_variable(&mut self, variable: &Variable) {
-        let entries: Vec<_> = variable.chain.iter().flat_map(|index| &index.entries).collect();
-        let gap = entries.windows(2).any(|pair| pair[1].first > pair[0].last() + 1);
+        let values = variable.values();
+        let gap = values.windows(2).any(|pair| pair[1].first > pair[0].last() + 1);
         self.happened[4] |= gap;
         self.happened[5] |=
             variable.chain.iter().filter(|index| index.entries.len() > 1).count() > 1;
@@ -325,6 +381,18 @@ impl Seen {
         self.happened[7] |= variable.chain.iter().any(|index| index.entries.is_empty());
         self.happened[8] |= !variable.record_variance && variable.max_rec > 0;
         self.happened[9] |= variable.pad.is_some() && variable.variances.contains(&false);
+        variable.chain.iter().for_each(|index| self.look_at_levels(index));
+    }
+
+    fn look_at_levels(&mut self, index: &Index) {
+        self.happened[12] |= index.levels() == 8;
+        for lower in index.all().into_iter().flat_map(Index::lower) {
+            let (first, last) = (lower.index.entries.first(), lower.index.entries.last());
+            self.happened[13] |= first.is_none();
+            self.happened[14] |= first.is_some_and(|first| first.first() > lower.first);
+            self.happened[15] |= last.is_some_and(|last| last.last() < lower.last);
+            self.happened[16] |= lower.index.entries.len() > 1;
+        }
     }
 }
 
@@ -338,5 +406,5 @@ fn every_kind_of_file_is_built() {
         assert!(seen.types.iter().all(|types| types.contains(&data_type.number)), "{data_type:?}");
     }
     assert!(ENCODINGS.iter().all(|encoding| seen.encodings.contains(&encoding.number)));
-    assert_eq!(seen.happened, [true; 12]);
+    assert_eq!(seen.happened, [true; 17]);
 }

@@ -1,21 +1,23 @@
-//! Every line of samples/checks.txt: verdict, steps and marks, in one run and in grants.
+//! Every line of the lists of checks: verdict, steps and marks, in one run and in grants.
 
 use tlepozaluh_host::build::random::Random;
-use tlepozaluh_host::samples::{self, CheckLine};
+use tlepozaluh_host::samples::{self, CheckLine, CHECKS};
 use tlepozaluh_host::second::check::{run, Check, Granted, RUNNING};
 
-const LINES: usize = 830;
-
-fn lines_and_files() -> Vec<(CheckLine, Vec<u8>)> {
-    let all = samples::checked_files().expect("samples/checks.txt and samples/checks.tar");
-    assert_eq!(all.len(), LINES);
-    all
+/// Each line of each list with its file, and what the marks hold at first.
+fn lines_and_files() -> Vec<(CheckLine, Vec<u8>, u8)> {
+    let of = |list: &samples::Checks| {
+        let all = list.checked_files().expect(list.list);
+        let first_mark = list.first_mark;
+        all.into_iter().map(move |(line, file)| (line, file, first_mark)).collect::<Vec<_>>()
+    };
+    CHECKS.iter().flat_map(of).collect()
 }
 
 #[test]
 fn every_line_in_one_run() {
-    for (line, file) in lines_and_files() {
-        let mut marks = vec![0xAA; file.len()];
+    for (line, file, first_mark) in lines_and_files() {
+        let mut marks = vec![first_mark; file.len()];
         let answer = run(&file, &mut marks);
         let expected = Granted { verdict: line.verdict, steps: line.steps };
         assert_eq!(answer, expected, "{}", line.name);
@@ -25,8 +27,8 @@ fn every_line_in_one_run() {
 
 #[test]
 fn every_line_step_by_step() {
-    for (line, file) in lines_and_files() {
-        let mut marks = vec![0xAA; file.len()];
+    for (line, file, first_mark) in lines_and_files() {
+        let mut marks = vec![first_mark; file.len()];
         let mut check = Check::fresh();
         while check.verdict() == RUNNING {
             let before = (check.steps(), marks.clone());
@@ -43,9 +45,9 @@ fn every_line_step_by_step() {
 #[test]
 fn every_line_in_random_grants() {
     let mut random = Random::seeded(830);
-    for (line, file) in lines_and_files() {
+    for (line, file, first_mark) in lines_and_files() {
         for greatest in [2, 5, 40] {
-            let mut marks = vec![0xAA; file.len()];
+            let mut marks = vec![first_mark; file.len()];
             let mut check = Check::fresh();
             let mut made = 0;
             while check.verdict() == RUNNING {
@@ -64,8 +66,9 @@ fn every_line_in_random_grants() {
 
 #[test]
 fn every_verdict_occurs() {
-    let mut verdicts: Vec<i32> = lines_and_files().iter().map(|(line, _)| line.verdict).collect();
+    let all = lines_and_files();
+    let mut verdicts: Vec<i32> = all.iter().map(|(line, _, _)| line.verdict).collect();
     verdicts.sort_unstable();
     verdicts.dedup();
-    assert_eq!(verdicts, [0, 3, 4, 5, 6, 7, 8, 9, 10, 11, 12, 13, 14]);
+    assert_eq!(verdicts, [0, 3, 4, 5, 6, 7, 8, 9, 10, 11, 12, 13, 14, 23]);
 }

@@ -19,6 +19,7 @@ fn ask_values(file: &[u8], refusals: &mut Vec<u32>) {
                 let answer = read::read_value(file, kind, number, record, &indices, 0);
                 refusals.extend(answer.err());
             }
+            refusals.extend(read::levels(file, kind, number, 5).err());
             refusals.extend(read::read_pad(file, kind, number, 0).err());
             refusals.extend(read::dimension_count(file, kind, number).err());
             refusals.extend(read::variance(file, kind, number, 0).err());
@@ -46,7 +47,7 @@ fn ask_entries(file: &[u8], refusals: &mut Vec<u32>) {
 fn tried(file: &[u8], what: &dyn Fn() -> String) -> i32 {
     let mut marks = vec![0xAA; file.len()];
     let answer = run(file, &mut marks);
-    assert!((0..=14).contains(&answer.verdict), "{}", what());
+    assert!((0..=14).contains(&answer.verdict) || answer.verdict == 23, "{}", what());
     assert!(answer.steps <= file.len() as u64 / 4 + 1, "{}: {} steps", what(), answer.steps);
     let mut refusals = Vec::new();
     ask_values(file, &mut refusals);
@@ -63,8 +64,8 @@ fn tried(file: &[u8], what: &dyn Fn() -> String) -> i32 {
 }
 
 /// Tries each damage on files of these seeds; counts the verdicts.
-fn tried_all(seeds: std::ops::Range<u64>, damages: impl Fn(&[u8]) -> Vec<Damage>) -> [u64; 15] {
-    let mut verdicts = [0; 15];
+fn tried_all(seeds: std::ops::Range<u64>, damages: impl Fn(&[u8]) -> Vec<Damage>) -> [u64; 24] {
+    let mut verdicts = [0; 24];
     for seed in seeds {
         let (_, file) = build::any(seed);
         for damage in damages(&file) {
@@ -139,6 +140,22 @@ fn every_ring() {
         }
     }
     assert!(rings > 1000, "{rings}");
+}
+
+/// Every damage of an index of several levels, of each number of them.
+#[test]
+fn every_tree() {
+    let mut verdicts = [0; 24];
+    for seed in 0..100 {
+        let (_, file) = build::with_levels(seed, 2 + seed as usize % 7);
+        for damage in damage::tree_damages(&file) {
+            let damaged = damage::damaged(&file, &damage);
+            let verdict = tried(&damaged, &|| format!("seed {seed}: {damage:?}"));
+            verdicts[verdict as usize] += 1;
+        }
+    }
+    let expected = [0, 8, 9, 10, 11, 12, 13, 23];
+    assert!(expected.iter().all(|verdict| verdicts[*verdict] > 100), "{verdicts:?}");
 }
 
 #[test]

@@ -7,6 +7,7 @@ use tlepozaluh_host::bindings::{check_begin, STATE_LENGTH};
 use tlepozaluh_host::bindings::{read_attribute, read_entry_at, read_file, read_variable};
 use tlepozaluh_host::calls::{self, Call};
 use tlepozaluh_host::samples;
+use tlepozaluh_host::second::check::TOO_DEEP;
 
 /// Constants of the header that are no numbers that come back, and how the reader's begin.
 const OTHERS: [&str; 3] = ["TLZ_STATE_LEN", "TLZ_LONGEST_FILE", "TLZ_BAD_WAY"];
@@ -78,7 +79,7 @@ fn drift(header: &str, sources: &str) -> Vec<String> {
 #[test]
 fn the_header_declares_the_exports() {
     let exported = calls::of_rattle_source(&sources()).expect("the exports");
-    assert!(exported.len() >= 15, "{exported:?}");
+    assert!(exported.len() >= 17, "{exported:?}");
     assert_eq!(drift(&header(), &sources()), Vec::<String>::new());
 }
 
@@ -108,51 +109,50 @@ fn every_call_is_described() {
     assert_eq!(headings, declared.len());
 }
 
+/// Edits of the header: a text and what comes in its place.
+const OF_HEADER: &[(&str, &str)] = &[
+    ("int32_t tlz_check_begin(uint32_t *state, size_t state_len);", ""),
+    ("int32_t tlz_check_begin", "int64_t tlz_check_begin"),
+    ("tlz_check_begin(uint32_t *state", "tlz_check_begin(uint64_t *state"),
+    ("tlz_check_begin(uint32_t *state", "tlz_check_begin(const uint32_t *state"),
+    ("tlz_check_begin(uint32_t *state, size_t state_len)", "tlz_check_begin(uint32_t *state)"),
+    ("tlz_check_grant(const uint8_t *file", "tlz_check_grant(uint8_t *file"),
+    ("uint64_t grant, uint64_t *steps", "uint64_t *steps, uint64_t grant"),
+    ("uint64_t grant, uint64_t *steps", "uint32_t grant, uint64_t *steps"),
+    ("uint64_t grant, uint64_t *steps", "uint64_t grant, uint64_t *steps, int32_t more"),
+    ("uint64_t grant, uint64_t *steps", "uint64_t grant, uint64_t *steps);\nvoid tlz_more(void"),
+    ("int32_t tlz_check_begin(uint32_t", "int32_t (*tlz_check_begin)(uint32_t"),
+    ("tlz_read_pad(const uint8_t *file", "tlz_read_pads(const uint8_t *file"),
+    ("int32_t tlz_read_levels(", "int64_t tlz_read_levels("),
+    ("int64_t number, int64_t record,", "int64_t record, int64_t number,"),
+    ("const int64_t *indices, size_t index_count", "const int64_t *indices, uint32_t index_count"),
+    ("uint64_t what, int32_t *field", "int64_t what, int32_t *field"),
+    ("uint64_t place, uint64_t at", "uint64_t at, uint64_t place"),
+    ("uint64_t *offset, uint64_t *length", "uint64_t *length, uint64_t *offset"),
+];
+
+/// Edits of the sources.
+const OF_SOURCES: &[(&str, &str)] = &[
+    ("#[no_mangle]\npub extern \"C\" fn tlz_check_begin", "pub fn tlz_check_begin"),
+    ("fn tlz_check_begin(state: &mut [u32]) -> i32", "fn tlz_check_begin(state: &mut [u32])"),
+    ("fn tlz_check_begin(state: &mut [u32])", "fn tlz_check_begin(state: &mut [u64])"),
+    ("fn tlz_check_begin(state: &mut [u32])", "fn tlz_check_begin(state: &[u32])"),
+    ("fn tlz_check_begin(state: &mut [u32])", "fn tlz_check_begin(state: &mut u32)"),
+    ("    grant: u64,\n    steps: &mut u64,\n", "    steps: &mut u64,\n    grant: u64,\n"),
+    ("    grant: u64,\n    steps: &mut u64,\n", "    grant: u64,\n    steps: u64,\n"),
+    ("    file: &[u8],\n    marks: &mut [u8],\n", "    marks: &mut [u8],\n    file: &[u8],\n"),
+    ("fn tlz_check_begin(", "fn tlz_check_start("),
+];
+
 /// Each edit of the header or of the sources is found.
 #[test]
 fn drift_is_found() {
     let (header, sources) = (header(), sources());
-    let of_header = [
-        ("int32_t tlz_check_begin(uint32_t *state, size_t state_len);", ""),
-        ("int32_t tlz_check_begin", "int64_t tlz_check_begin"),
-        ("tlz_check_begin(uint32_t *state", "tlz_check_begin(uint64_t *state"),
-        ("tlz_check_begin(uint32_t *state", "tlz_check_begin(const uint32_t *state"),
-        ("tlz_check_begin(uint32_t *state, size_t state_len)", "tlz_check_begin(uint32_t *state)"),
-        ("tlz_check_grant(const uint8_t *file", "tlz_check_grant(uint8_t *file"),
-        ("uint64_t grant, uint64_t *steps", "uint64_t *steps, uint64_t grant"),
-        ("uint64_t grant, uint64_t *steps", "uint32_t grant, uint64_t *steps"),
-        ("uint64_t grant, uint64_t *steps", "uint64_t grant, uint64_t *steps, int32_t more"),
-        (
-            "uint64_t grant, uint64_t *steps",
-            "uint64_t grant, uint64_t *steps);\nvoid tlz_more(void",
-        ),
-        ("int32_t tlz_check_begin(uint32_t", "int32_t (*tlz_check_begin)(uint32_t"),
-        ("tlz_read_pad(const uint8_t *file", "tlz_read_pads(const uint8_t *file"),
-        ("int64_t number, int64_t record,", "int64_t record, int64_t number,"),
-        (
-            "const int64_t *indices, size_t index_count",
-            "const int64_t *indices, uint32_t index_count",
-        ),
-        ("uint64_t what, int32_t *field", "int64_t what, int32_t *field"),
-        ("uint64_t place, uint64_t at", "uint64_t at, uint64_t place"),
-        ("uint64_t *offset, uint64_t *length", "uint64_t *length, uint64_t *offset"),
-    ];
-    for (from, to) in of_header {
+    for (from, to) in OF_HEADER {
         assert!(header.contains(from), "{from}");
         assert!(!drift(&header.replacen(from, to, 1), &sources).is_empty(), "{from} -> {to}");
     }
-    let of_sources = [
-        ("#[no_mangle]\npub extern \"C\" fn tlz_check_begin", "pub fn tlz_check_begin"),
-        ("fn tlz_check_begin(state: &mut [u32]) -> i32", "fn tlz_check_begin(state: &mut [u32])"),
-        ("fn tlz_check_begin(state: &mut [u32])", "fn tlz_check_begin(state: &mut [u64])"),
-        ("fn tlz_check_begin(state: &mut [u32])", "fn tlz_check_begin(state: &[u32])"),
-        ("fn tlz_check_begin(state: &mut [u32])", "fn tlz_check_begin(state: &mut u32)"),
-        ("    grant: u64,\n    steps: &mut u64,\n", "    steps: &mut u64,\n    grant: u64,\n"),
-        ("    grant: u64,\n    steps: &mut u64,\n", "    grant: u64,\n    steps: u64,\n"),
-        ("    file: &[u8],\n    marks: &mut [u8],\n", "    marks: &mut [u8],\n    file: &[u8],\n"),
-        ("fn tlz_check_begin(", "fn tlz_check_start("),
-    ];
-    for (from, to) in of_sources {
+    for (from, to) in OF_SOURCES {
         assert!(sources.contains(from), "{from}");
         assert!(!drift(&header, &sources.replacen(from, to, 1)).is_empty(), "{from} -> {to}");
     }
@@ -185,7 +185,7 @@ fn forms_of_parameters() {
     assert!(calls::of_rattle_source(&source.replace("u32,", "Strange,")).is_err());
 }
 
-/// The table of docs/INTERFACE.md, the header and the tools' words have the same numbers, from -1 on without a gap.
+/// The table of docs/INTERFACE.md, the header and the tools' words have the same numbers: -1 to 21, and 23.
 #[test]
 fn every_number_of_the_table() {
     let table = calls::table_numbers(&text("docs/INTERFACE.md"));
@@ -194,8 +194,9 @@ fn every_number_of_the_table() {
         |(name, _): &(String, i64)| !OTHERS.contains(&name.as_str()) && !is_readers(name);
     let numbers: Vec<(String, i64)> = defined.into_iter().filter(comes_back).collect();
     assert_eq!(numbers, table);
-    assert!(table.len() >= 23, "{table:?}");
-    assert!(table.iter().map(|(_, number)| *number).zip(-1..).all(|(a, b)| a == b), "{table:?}");
+    let all: Vec<i64> = table.iter().map(|(_, number)| *number).collect();
+    assert_eq!(all, (-1..=21).chain([23]).collect::<Vec<i64>>());
+    assert!(table.contains(&("TLZ_TOO_DEEP".to_string(), i64::from(TOO_DEEP))), "{table:?}");
     let words = text("tools/words.c");
     for (name, _) in &table {
         assert_eq!(words.matches(&format!("{{ {name}, \"")).count(), 1, "{name} in tools/words.c");

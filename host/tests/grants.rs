@@ -150,7 +150,8 @@ fn numbers_out_of_range() {
     let length = file.len() as u32;
     let mut real = FRESH;
     grant(&file, &mut vec![0; file.len()], &mut real, 3);
-    let changes = [(0, 16), (0, 20), (0, 22), (2, 9), (3, 1), (4, 7), (5, 1), (11, 1)];
+    let changes = [(0, 16), (0, 20), (0, 22), (0, 23), (0, 25), (2, 9), (3, 1), (4, 7), (5, 1)];
+    let changes = changes.into_iter().chain((11..STATE_LENGTH).map(|place| (place, 1)));
     for (place, number) in changes {
         let mut state = real;
         state[place] = number;
@@ -160,7 +161,7 @@ fn numbers_out_of_range() {
         let other = (granted(21, 0), state);
         assert_eq!(answers(&file, state), [(granted(RUNNING, 0), state), other, other]);
     }
-    for verdict in (0..=14).chain([20]) {
+    for verdict in (0..=14).chain([20, 23]) {
         let mut state = [u32::MAX; STATE_LENGTH];
         state[0] = verdict + 1;
         assert_eq!(answers(&file, state), [(granted(verdict as i32, 0), state); 3]);
@@ -185,7 +186,7 @@ fn another_file_of_the_same_length() {
         check.grant(&file, &mut marks, 1 + random.below(whole as i64 - 1) as u64);
         let most = 2 * file.len() as u64 + 10;
         let answer = check.grant(&other, &mut marks, most);
-        assert!((0..=20).contains(&answer.verdict) && answer.steps < most, "seed {seed}");
+        assert!((0..=23).contains(&answer.verdict) && answer.steps < most, "seed {seed}");
         past_the_end += u64::from(answer.verdict == 20);
     }
     assert!(past_the_end > 0);

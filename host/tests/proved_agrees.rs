@@ -28,7 +28,7 @@ fn agreed_step_by_step(file: &[u8], what: &dyn Fn() -> String) -> i32 {
     let mut kept = to_bytes(&fresh());
     let mut other = Check::fresh();
     loop {
-        let mut state = from_bytes(&kept).expect("48 bytes");
+        let mut state = from_bytes(&kept).expect("132 bytes");
         let answer = check_grant(file, &mut marks, &mut state, 1);
         let verdict = other.step(file, &mut other_marks);
         assert_eq!(answer, (verdict, 1), "step {}: {}", other.steps(), what());
@@ -43,8 +43,8 @@ fn agreed_step_by_step(file: &[u8], what: &dyn Fn() -> String) -> i32 {
 }
 
 /// Tries each damage on files of these seeds, every tenth step by step; counts the verdicts.
-fn agreed_on(seeds: std::ops::Range<u64>, damages: impl Fn(&[u8]) -> Vec<Damage>) -> [u64; 15] {
-    let mut verdicts = [0; 15];
+fn agreed_on(seeds: std::ops::Range<u64>, damages: impl Fn(&[u8]) -> Vec<Damage>) -> [u64; 24] {
+    let mut verdicts = [0; 24];
     for seed in seeds {
         let (_, file) = build::any(seed);
         for (place, damage) in damages(&file).iter().enumerate() {
@@ -94,6 +94,29 @@ fn every_link_every_ring_every_length() {
     }
 }
 
+/// Every damage of an index of several levels, of each number of them, and nine levels.
+#[test]
+fn every_damage_of_a_tree() {
+    let mut verdicts = [0; 24];
+    for seed in 0..160 {
+        let (_, file) = build::with_levels(seed, 2 + seed as usize % 8);
+        let what = || format!("seed {seed}");
+        let whole = agreed_step_by_step(&file, &what);
+        assert_eq!(whole, if seed % 8 == 7 { 23 } else { 0 }, "{}", what());
+        for (place, damage) in damage::tree_damages(&file).iter().enumerate() {
+            let damaged = damage::damaged(&file, damage);
+            let what = || format!("seed {seed}: {damage:?}");
+            let verdict = agreed(&damaged, &what);
+            if place % 10 == 0 {
+                assert_eq!(agreed_step_by_step(&damaged, &what), verdict, "{}", what());
+            }
+            verdicts[verdict as usize] += 1;
+        }
+    }
+    let expected = [0, 8, 9, 10, 11, 12, 13, 23];
+    assert!(expected.iter().all(|verdict| verdicts[*verdict] > 100), "{verdicts:?}");
+}
+
 #[test]
 fn several_damages() {
     let mut random = Random::seeded(1);
@@ -124,7 +147,7 @@ fn cut_in_two(file: &[u8], record: &Found, size: usize, compressed: bool) -> Vec
 /// Records whose own size ends before a field they are judged by, in files that are still tiled.
 #[test]
 fn records_cut_in_two() {
-    let mut verdicts = [0; 15];
+    let mut verdicts = [0; 24];
     for seed in 0..30 {
         let (_, file) = build::any(seed);
         for record in damage::records(&file).iter().filter(|record| record.size >= 16) {
@@ -146,7 +169,7 @@ fn records_cut_in_two() {
 /// A record made longer by the one that follows it.
 #[test]
 fn records_joined() {
-    let mut verdicts = [0; 15];
+    let mut verdicts = [0; 24];
     for seed in 0..300 {
         let (_, file) = build::any(seed);
         for pair in damage::records(&file).windows(2) {

@@ -2,7 +2,7 @@
 //! and the second one agree in all that every grant leaves.
 
 use tlepozaluh_host::build;
-use tlepozaluh_host::build::model::{Attribute, Entry, File, Index, Variable};
+use tlepozaluh_host::build::model::{Attribute, Entry, File, Index, IndexEntry, Variable};
 use tlepozaluh_host::build::random::Random;
 use tlepozaluh_host::build::records::put;
 use tlepozaluh_host::damage::{self, Damage};
@@ -19,14 +19,14 @@ const ENDS: [(u32, &[i32]); 8] = [
     (2, &[8, 9]),
     (3, &[8, 9, 10, 11, 14, 20]),
     (4, &[8, 9, 10, 11, 12, 20]),
-    (5, &[8, 9, 10, 12, 20]),
+    (5, &[8, 9, 10, 11, 12, 20]),
     (6, &[8, 9, 10, 11, 20]),
     (7, &[8, 9, 10, 11, 20]),
     (8, &[0, 8, 9, 10, 11, 13, 20]),
 ];
 
 /// All that can lie past the end, by the phase and kind of the step that needs it.
-const PAST_THE_END: [BadStep; 61] = [
+const PAST_THE_END: [BadStep; 63] = [
     (2, 0, "size and type"),
     (3, 3, "count of variables"),
     (3, 3, "dimension count"),
@@ -46,10 +46,12 @@ const PAST_THE_END: [BadStep; 61] = [
     (4, 3, "fields"),
     (4, 3, "link"),
     (4, 3, "size and type"),
+    (4, 3, "used entries above"),
     (4, 8, "VXRtail"),
     (4, 8, "fields"),
     (4, 8, "link"),
     (4, 8, "size and type"),
+    (4, 8, "used entries above"),
     (5, 3, "First"),
     (5, 3, "Last"),
     (5, 3, "Offset"),
@@ -107,16 +109,18 @@ fn byte_type() -> DataType {
     data_type(1).expect("data type 1")
 }
 
-/// A variable of up to two VXRs with up to two entries each, of one record each.
+/// A variable of up to two VXRs with up to two entries each, of one record each; some below one or two others.
 fn small_variable(random: &mut Random, sizes: Vec<i64>) -> Variable {
     let mut variable = Variable::plain(byte_type(), sizes);
     for _ in 0..random.below(3) {
         let mut index = Index { entries: Vec::new(), spare: random.below(2) };
         for _ in 0..random.below(3) {
             variable.max_rec += 1;
-            index.entries.push(variable.any_values(random, variable.max_rec, 1));
+            let values = variable.any_values(random, variable.max_rec, 1);
+            index.entries.push(IndexEntry::Values(values));
         }
-        variable.chain.push(index);
+        let above = if index.entries.is_empty() { 0 } else { random.below(5) - 2 };
+        variable.chain.push((0..above).fold(index, |index, _| Index::above(index)));
     }
     variable
 }
@@ -145,7 +149,7 @@ fn small_file(seed: u64) -> Vec<u8> {
         _ => file.listed_unused = vec![16, 20],
     }
     let file = build::shuffled(&file, &mut random);
-    assert!((SHORTEST..=700).contains(&file.len()), "{}", file.len());
+    assert!((SHORTEST..=850).contains(&file.len()), "{}", file.len());
     file
 }
 
@@ -177,7 +181,7 @@ fn fields_between_grants() {
     for seed in 0..400 {
         let (_, file) = build::any(seed);
         let source = Source::new(&file);
-        for _ in 0..50 {
+        for _ in 0..80 {
             let (state, real) = source.any_point(&mut random);
             let point = (*state, source.any_marks(real, &mut random));
             let changed = source.changed(&mut random);
@@ -185,7 +189,29 @@ fn fields_between_grants() {
         }
     }
     assert_eq!(compared.missing(&ENDS), [], "{compared:?}");
+    assert_eq!(compared.missing(&[(5, &[23])]), [], "{compared:?}");
     assert!(compared.grants > 250_000, "{compared:?}");
+}
+
+/// Fields and tree damages of files of many levels, at every point of their checks.
+#[test]
+fn trees_between_grants() {
+    let mut compared = Compared::default();
+    for seed in 0..20 {
+        let (_, file) = build::with_levels(seed, 2 + seed as usize % 8);
+        let source = Source::new(&file);
+        for damage in damage::tree_damages(&file).iter().step_by(3) {
+            let changed = damage::damaged(&file, damage);
+            let what = || format!("seed {seed}: {damage:?}");
+            for point in source.points().iter().filter(|(state, _)| matches!(state[2], 4 | 5)) {
+                agreed_step(&changed, point, &mut compared, &what);
+            }
+        }
+    }
+    let ends: [(u32, &[i32]); 2] = [(4, &[11, 12]), (5, &[8, 9, 10, 11, 12, 23])];
+    assert_eq!(compared.missing(&ends), [], "{compared:?}");
+    assert_eq!(compared.levels.keys().copied().collect::<Vec<_>>(), (0..=7).collect::<Vec<_>>());
+    assert!(compared.grants > 100_000, "{compared:?}");
 }
 
 #[test]

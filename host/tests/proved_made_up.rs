@@ -14,7 +14,7 @@ const ENDS: [(u32, &[i32]); 8] = [
     (2, &[8, 9]),
     (3, &[8, 9, 11, 20]),
     (4, &[8, 9, 11, 12, 20]),
-    (5, &[8, 9, 10, 12, 20]),
+    (5, &[8, 9, 10, 12, 20, 23]),
     (6, &[8, 9, 11, 20]),
     (7, &[8, 9, 11, 20]),
     (8, &[0, 8, 9, 11, 13, 20]),
@@ -48,7 +48,7 @@ fn edges(source: &Source) -> BTreeSet<u32> {
     made_up::edges().into_iter().chain(length - 8..=length + 8).chain(places).collect()
 }
 
-/// Each number of each second state of a check at each edge.
+/// Each number of each third state of a check at each edge.
 #[test]
 fn one_number_at_an_edge() {
     let mut random = Random::seeded(31);
@@ -57,7 +57,7 @@ fn one_number_at_an_edge() {
         let (_, file) = build::any(seed);
         let source = Source::new(&file);
         let edges = edges(&source);
-        for (state, real) in source.points().iter().step_by(2) {
+        for (state, real) in source.points().iter().step_by(3) {
             let marks = source.any_marks(real, &mut random);
             for (place, edge) in
                 (0..STATE_LENGTH).flat_map(|at| edges.iter().map(move |to| (at, to)))
@@ -113,6 +113,50 @@ fn numbers_in_their_ranges() {
     assert!(!compared.answers.contains_key(&21) && compared.grants > 300_000, "{compared:?}");
 }
 
+/// Levels with a hole among them, with parts missing, past their ranges, or in a phase that has none: 20 in one step, and
+/// no mark changes.
+#[test]
+fn levels_out_of_range() {
+    let mut random = Random::seeded(36);
+    let mut compared = Compared::default();
+    for seed in 0..300 {
+        let (_, file) = build::with_levels(seed, 1 + seed as usize % 8);
+        let source = Source::new(&file);
+        for _ in 0..100 {
+            let (_, real) = source.any_point(&mut random);
+            let marks = source.any_marks(real, &mut random);
+            let made_up = source.wrong_levels(&mut random);
+            assert!(!is_in_range(&made_up), "{made_up:?}");
+            let mut pair = Pair::new(&made_up, &marks);
+            assert_eq!(pair.grant(&file, 5, &mut compared), Ok((20, 1)), "seed {seed}");
+            assert_eq!(pair.marks(), marks);
+        }
+    }
+    assert_eq!(out_of_range(&compared), (1..=8).collect::<Vec<u32>>());
+}
+
+/// States of the checks of deep files, changed in their levels and elsewhere.
+#[test]
+fn near_the_states_of_deep_checks() {
+    let mut random = Random::seeded(37);
+    let mut compared = Compared::default();
+    for seed in 0..100 {
+        let (_, file) = build::with_levels(seed, 2 + seed as usize % 8);
+        let source = Source::new(&file);
+        let along: Vec<_> =
+            source.points().iter().filter(|(state, _)| matches!(state[2], 4 | 5)).collect();
+        for _ in 0..200 {
+            let (state, real) = along[random.place(along.len())];
+            let made_up = source.near(state, &mut random);
+            let marks = source.any_marks(real, &mut random);
+            agreed(&file, &made_up, &marks, &mut compared, &format!("seed {seed}"));
+        }
+    }
+    let ends: [(u32, &[i32]); 2] = [(4, &[8, 9, 11, 12, 20]), (5, &[8, 9, 10, 12, 20, 23])];
+    assert_eq!(compared.missing(&ends), [], "{compared:?}");
+    assert_eq!(compared.levels.keys().copied().collect::<Vec<_>>(), (0..=7).collect::<Vec<_>>());
+}
+
 /// Any numbers, with grants of nothing too, and now and then marks that are too short.
 #[test]
 fn numbers_at_random() {
@@ -135,7 +179,7 @@ fn numbers_at_random() {
         }
     }
     assert_eq!(out_of_range(&compared), (0..=9).collect::<Vec<u32>>());
-    assert!(compared.answers.len() == 18 && compared.grants > 150_000, "{compared:?}");
+    assert!(compared.answers.len() == 19 && compared.grants > 150_000, "{compared:?}");
 }
 
 /// A length below 372 is out of range, also if the file has it.

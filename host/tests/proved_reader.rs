@@ -7,6 +7,7 @@ use tlepozaluh_host::build::random::Random;
 use tlepozaluh_host::damage::{self, Damage};
 use tlepozaluh_host::questions::{self, agreed, Answer, Given, Question, CALLS};
 use tlepozaluh_host::samples;
+use tlepozaluh_host::second::bytes::field;
 use tlepozaluh_host::second::{check, read};
 
 /// What was answered: how often each number, and by which calls anything was given.
@@ -40,10 +41,11 @@ impl Tally {
     }
 }
 
-/// Sample files, rings and the files of checks.tar, by name.
+/// Sample files, rings, files of several levels and the files of both archives, by name.
 fn sample_files() -> Vec<(String, Vec<u8>)> {
     let mut found = Vec::new();
-    for folder in [samples::directory(), samples::directory().join("rings")] {
+    let directory = samples::directory();
+    for folder in ["", "rings", "levels"].map(|folder| directory.join(folder)) {
         for entry in std::fs::read_dir(folder).expect("samples") {
             let path = entry.expect("samples").path();
             if path.extension().is_some_and(|extension| extension == "cdf") {
@@ -53,17 +55,19 @@ fn sample_files() -> Vec<(String, Vec<u8>)> {
         }
     }
     found.sort();
-    let archive = std::fs::read(samples::directory().join("checks.tar")).expect("checks.tar");
-    let members = samples::members(&archive).expect("an archive");
-    found.extend(members.into_iter().map(|member| (member.name, member.bytes)));
+    for folder in ["", "levels"] {
+        let archive = std::fs::read(directory.join(folder).join("checks.tar")).expect("checks.tar");
+        let members = samples::members(&archive).expect("an archive");
+        found.extend(members.into_iter().map(|member| (member.name, member.bytes)));
+    }
     found
 }
 
-/// Every number of every call at its edges, on every sample, every ring and every file of checks.tar.
+/// Every number of every call at its edges, on every sample, every ring and every file of both archives.
 #[test]
 fn every_edge_on_every_sample() {
     let files = sample_files();
-    assert_eq!(files.len(), 43 + 11 + 830);
+    assert_eq!(files.len(), 43 + 11 + 4 + 830 + 400);
     let all = questions::edges();
     let mut tally = Tally::default();
     for (name, file) in &files {
@@ -74,7 +78,7 @@ fn every_edge_on_every_sample() {
     assert!(tally.asked > 1_000_000 && tally.is_whole(), "{:?} {:?}", tally.numbers, tally.given);
 }
 
-/// Questions at random on every sample, ring and file of checks.tar.
+/// Questions at random on every sample, ring and file of both archives.
 #[test]
 fn any_question_on_every_sample() {
     let mut random = Random::seeded(11);
@@ -93,6 +97,9 @@ fn all_of(file: &[u8], tally: &mut Tally, what: &dyn Fn() -> String) {
     for kind in [3, 8] {
         for number in 0.. {
             let Ok(of) = read::variable(file, kind, number) else { break };
+            for record in (-1..=of.max_rec.min(40) + 1).chain([of.max_rec]) {
+                tally.ask(file, &Question::Levels(kind, number, record), what);
+            }
             for element in 0..of.elements.min(6) {
                 tally.ask(file, &Question::Pad(kind, number, element), what);
                 for record in (0..=of.max_rec.min(8)).chain([of.max_rec]) {
@@ -184,6 +191,24 @@ fn every_link_every_ring_every_length() {
     }
 }
 
+/// Damages of indexes of several levels: all records of the variables of a damaged file are asked for.
+#[test]
+fn every_damage_of_a_tree() {
+    let mut tally = Tally::default();
+    for seed in 0..64 {
+        let (_, file) = build::with_levels(seed, 2 + seed as usize % 8);
+        for damage in damage::tree_damages(&file) {
+            let damaged = damage::damaged(&file, &damage);
+            let what = || format!("seed {seed}: {damage:?}");
+            for (number, record) in (0..4).flat_map(|number| (0..24).map(move |of| (number, of))) {
+                tally.ask(&damaged, &Question::Levels(8, number, record), &what);
+                tally.ask(&damaged, &Question::Value(8, number, record, vec![0], 0), &what);
+            }
+        }
+    }
+    assert!(tally.numbers[&0] > 100_000 && tally.numbers[&20] > 100_000, "{:?}", tally.numbers);
+}
+
 #[test]
 fn several_damages_and_bytes_at_random() {
     let mut random = Random::seeded(14);
@@ -230,11 +255,33 @@ fn rings_end() {
                 Question::VariableName(8, number),
                 Question::AttributeName(number),
                 Question::Value(8, number, 2, Vec::new(), 0),
+                Question::Levels(8, number, 2),
                 Question::EntryField(number, 5, 0, 16),
                 Question::EntryAt(0, 5, number as u64, 16),
             ] {
                 tally.ask(&file, &question, &|| name.to_string());
             }
+        }
+    }
+    assert!(tally.numbers[&20] > 100 && tally.numbers[&0] > 100, "{:?}", tally.numbers);
+}
+
+/// The link to the values where no more records may be met, at every place of a ring: as it is, zero, past the end, to a
+/// record of another type, to the index record itself.
+#[test]
+fn the_last_record_of_a_ring() {
+    let mut tally = Tally::default();
+    let path = samples::directory().join("rings").join("ring_vdr_self.cdf");
+    let file = std::fs::read(path).expect("a ring");
+    let vxr = read::variable(&file, 8, 0).expect("a variable").vxr_head;
+    let entries = field(&file, vxr + 12).expect("entries");
+    let (offset_at, length) = ((vxr + 20 + 8 * entries) as usize, file.len() as i64);
+    for link in [field(&file, offset_at as i64).expect("a link"), 0, 4, 8, 372, vxr, length, -1] {
+        let other = damage::damaged(&file, &Damage::Field { offset: offset_at, value: link });
+        for (number, record) in (100..130).flat_map(|number| [(number, 0), (number, 2)]) {
+            let what = || format!("link {link}, variable {number}");
+            tally.ask(&other, &Question::Value(8, number, record, Vec::new(), 0), &what);
+            tally.ask(&other, &Question::Levels(8, number, record), &what);
         }
     }
     assert!(tally.numbers[&20] > 100 && tally.numbers[&0] > 100, "{:?}", tally.numbers);

@@ -1,23 +1,26 @@
-//! The proved checker on the sample files: every line of samples/checks.txt and every ring.
+//! The proved checker on the sample files: every line of the lists of checks and every ring.
 
 use tlepozaluh_host::bindings::{check_grant, fresh, from_bytes, run, to_bytes};
 use tlepozaluh_host::build::random::Random;
-use tlepozaluh_host::samples::{self, CheckLine};
+use tlepozaluh_host::samples::{self, CheckLine, CHECKS};
 use tlepozaluh_host::second::check;
 
-const LINES: usize = 830;
 const RUNNING: i32 = -1;
 
-fn lines_and_files() -> Vec<(CheckLine, Vec<u8>)> {
-    let all = samples::checked_files().expect("samples/checks.txt and samples/checks.tar");
-    assert_eq!(all.len(), LINES);
-    all
+/// Each line of each list with its file, and what the marks hold at first.
+fn lines_and_files() -> Vec<(CheckLine, Vec<u8>, u8)> {
+    let of = |list: &samples::Checks| {
+        let all = list.checked_files().expect(list.list);
+        let first_mark = list.first_mark;
+        all.into_iter().map(move |(line, file)| (line, file, first_mark)).collect::<Vec<_>>()
+    };
+    CHECKS.iter().flat_map(of).collect()
 }
 
 #[test]
 fn every_line_in_one_run() {
-    for (line, file) in lines_and_files() {
-        let mut marks = vec![0xAA; file.len()];
+    for (line, file, first_mark) in lines_and_files() {
+        let mut marks = vec![first_mark; file.len()];
         assert_eq!(run(&file, &mut marks), (line.verdict, line.steps), "{}", line.name);
         assert_eq!(samples::fnv1a(&marks), line.marks, "marks of {}", line.name);
     }
@@ -28,7 +31,7 @@ fn in_grants(file: &[u8], marks: &mut [u8], random: &mut Random, greatest: i64) 
     let mut kept = to_bytes(&fresh());
     let mut made = 0;
     loop {
-        let mut state = from_bytes(&kept).expect("48 bytes");
+        let mut state = from_bytes(&kept).expect("132 bytes");
         let grant = random.between(0, greatest) as u64;
         let (answer, steps) = check_grant(file, marks, &mut state, grant);
         assert!(steps == grant || steps < grant && answer != RUNNING);
@@ -43,9 +46,9 @@ fn in_grants(file: &[u8], marks: &mut [u8], random: &mut Random, greatest: i64) 
 #[test]
 fn every_line_in_random_grants() {
     let mut random = Random::seeded(831);
-    for (line, file) in lines_and_files() {
+    for (line, file, first_mark) in lines_and_files() {
         for greatest in [1, 2, 5, 40] {
-            let mut marks = vec![0xAA; file.len()];
+            let mut marks = vec![first_mark; file.len()];
             let answer = in_grants(&file, &mut marks, &mut random, greatest);
             assert_eq!(answer, (line.verdict, line.steps), "{}", line.name);
             assert_eq!(samples::fnv1a(&marks), line.marks, "marks of {}", line.name);

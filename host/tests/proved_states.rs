@@ -21,7 +21,7 @@ fn finished(verdict: u32) -> State {
 }
 
 #[test]
-fn fresh_is_twelve_zeros() {
+fn fresh_is_zeros() {
     let mut state = [7; STATE_LENGTH];
     assert_eq!(check_begin(&mut state), -1);
     assert_eq!(state, [0; STATE_LENGTH]);
@@ -66,7 +66,7 @@ fn a_grant_of_nothing_does_nothing() {
 #[test]
 fn a_finished_check_repeats_its_verdict() {
     let (file, _) = good_file();
-    for verdict in (0..=14).chain([20]) {
+    for verdict in (0..=14).chain([20, 23]) {
         let mut noisy = [0x1234_5678; STATE_LENGTH];
         noisy[0] = verdict + 1;
         for before in [finished(verdict), noisy] {
@@ -166,7 +166,7 @@ fn another_file_of_the_same_length() {
         assert_eq!(pair.grant(&file, made, &mut compared), Ok((-1, made)), "seed {seed}");
         let most = 2 * file.len() as u64 + 10;
         let (answer, steps) = pair.grant(&other, most, &mut compared).expect("the same");
-        assert!((0..=14).contains(&answer) || answer == 20, "seed {seed}: {answer}");
+        assert!((0..=14).contains(&answer) || [20, 23].contains(&answer), "seed {seed}: {answer}");
         assert!(steps < most, "seed {seed}");
     }
     assert!([0, 7, 8, 10, 11, 13, 20].iter().all(|answer| compared.answers.contains_key(answer)));

@@ -1,7 +1,7 @@
 //! The reader's refusals and their order, clause by clause.
 
 use tlepozaluh_host::build::in_order;
-use tlepozaluh_host::build::model::{File, Index, Values, Variable};
+use tlepozaluh_host::build::model::{File, Index, IndexEntry, Lower, Values, Variable};
 use tlepozaluh_host::build::records::put;
 use tlepozaluh_host::second::read::{self, read_entry, read_pad, read_value};
 use tlepozaluh_host::second::tables::{data_type, encoding};
@@ -17,8 +17,8 @@ fn file(of_type: i64, of_encoding: i64) -> Vec<u8> {
     let mut file = File::base(encoding(of_encoding).expect("encoding"));
     let plain = Variable::plain(data_type(of_type).expect("data type"), Vec::new());
     let chain = vec![
-        Index { entries: vec![values(0, &[10, 11]), values(4, &[14])], spare: 0 },
-        Index { entries: vec![values(6, &[16])], spare: 0 },
+        Index::of(vec![values(0, &[10, 11]), values(4, &[14])]),
+        Index::of(vec![values(6, &[16])]),
     ];
     file.z_variables.push(Variable { max_rec: 6, chain, ..plain.clone() });
     file.z_variables.push(plain);
@@ -139,7 +139,7 @@ fn indices_and_elements() {
     let mut model = File::base(encoding(6).expect("encoding"));
     let mut still = Variable::plain(data_type(1).expect("data type"), vec![3]);
     still.variances = vec![false];
-    still.chain = vec![Index { entries: vec![values(0, &[5])], spare: 0 }];
+    still.chain = vec![Index::of(vec![values(0, &[5])])];
     still.max_rec = 0;
     model.z_variables.push(still);
     let file = in_order(&model);
@@ -197,4 +197,148 @@ fn decoding() {
             assert_eq!((answer.kind, answer.bits), expected, "type {of_type}");
         }
     }
+}
+
+fn lower(first: i64, last: i64, index: Index) -> IndexEntry {
+    IndexEntry::Lower(Lower { first, last, index })
+}
+
+/// A zVariable of two VXRs in the top chain, MaxRec 14, length 708.
+/// VXR 504 (44): 0..6 names VXR 548, 7..9 names VXR 646 (20), which has no entries.
+/// VXR 548 (44): 1..2 names VVR 592 (12), 4..5 names VXR 604 (32), whose 5..5 names VVR 636 (10).
+/// VXR 666 (32): 14..14 names VVR 698 (10).
+fn file_of_levels() -> Vec<u8> {
+    let mut file = File::base(encoding(6).expect("encoding"));
+    let plain = Variable::plain(data_type(2).expect("data type"), Vec::new());
+    let third = Index::of(vec![values(5, &[25])]);
+    let second = Index {
+        entries: vec![IndexEntry::Values(values(1, &[21, 22])), lower(4, 5, third)],
+        spare: 0,
+    };
+    let top = Index { entries: vec![lower(0, 6, second), lower(7, 9, Index::default())], spare: 0 };
+    let chain = vec![top, Index::of(vec![values(14, &[34])])];
+    file.z_variables.push(Variable { max_rec: 14, chain, ..plain });
+    in_order(&file)
+}
+
+/// The file of levels with some fields changed.
+fn changed_levels(changes: &[(usize, i64)]) -> Vec<u8> {
+    let mut file = file_of_levels();
+    changes.iter().for_each(|(at, value)| put(&mut file, *at, *value));
+    file
+}
+
+#[test]
+fn records_below() {
+    let file = file_of_levels();
+    assert_eq!(file.len(), 708);
+    for (record, bits, levels) in [(1, 21, 2), (2, 22, 2), (5, 25, 3), (14, 34, 1)] {
+        assert_eq!(value(&file, record), Ok(bits), "record {record}");
+        assert_eq!(read::levels(&file, 8, 0, record), Ok(levels), "record {record}");
+    }
+    for record in [0, 3, 4].into_iter().chain(6..=13) {
+        assert_eq!(value(&file, record), Err(17), "record {record}");
+        assert_eq!(read::levels(&file, 8, 0, record), Err(17), "record {record}");
+    }
+    for (number, record, refusal) in [(0, -1, 16), (0, 15, 16), (1, 1, 15), (-1, 1, 15)] {
+        assert_eq!(read::levels(&file, 8, number, record), Err(refusal));
+        assert_eq!(read::levels(&file, 5, number, record), Err(15));
+    }
+}
+
+#[test]
+fn record_variance_clear_below() {
+    let from_zero = [(400, 0), (568, 0), (576, 1)];
+    for record in [0, 1, 14, i64::MAX] {
+        assert_eq!(value(&changed_levels(&from_zero), record), Ok(21), "record {record}");
+        assert_eq!(read::levels(&changed_levels(&from_zero), 8, 0, record), Ok(2));
+        assert_eq!(value(&changed_levels(&[(400, 0)]), record), Err(17), "record {record}");
+    }
+    assert_eq!(read::levels(&changed_levels(&[(400, 0), (388, -1)]), 8, 0, 0), Err(16));
+}
+
+/// Both calls for a record of the file of levels, the changes made.
+fn both(changes: &[(usize, i64)], record: i64) -> (Result<u64, u32>, Result<i64, u32>) {
+    let file = changed_levels(changes);
+    (value(&file, record), read::levels(&file, 8, 0, record))
+}
+
+/// 17 is known at the end of a lower record: what comes behind it in the chain is not looked at.
+#[test]
+fn a_gap_below_is_known_at_once() {
+    for change in [(686, 3), (670, 7), (678, -1), (512, 4)] {
+        for record in [0, 3, 4, 6, 7, 9] {
+            assert_eq!(both(&[change], record), (Err(17), Err(17)), "{change:?}");
+        }
+        for record in [10, 14] {
+            assert_eq!(both(&[change], record), (Err(20), Err(20)), "{change:?}");
+        }
+    }
+}
+
+/// Entries of a lower record are judged up to the covering one, or all if none covers.
+#[test]
+fn entries_below_are_judged() {
+    for change in [(572, 2), (580, 7), (580, 3)] {
+        assert_eq!(both(&[change], 1), (Ok(21), Ok(2)), "{change:?}");
+        assert_eq!(both(&[change], 14), (Ok(34), Ok(1)), "{change:?}");
+        for record in [0, 3, 5, 6] {
+            assert_eq!(both(&[change], record), (Err(20), Err(20)), "{change:?}");
+        }
+    }
+    for record in 2..=6 {
+        assert_eq!(both(&[(524, 2)], record), (Err(20), Err(20)), "First below the one above");
+    }
+    assert_eq!(both(&[(524, 2)], 1), (Err(17), Err(17)), "the top chain does not cover it");
+    assert_eq!(both(&[(532, 4)], 4), (Err(20), Err(20)), "Last above the one above");
+    assert_eq!(both(&[(532, 4)], 5), (Err(17), Err(17)));
+}
+
+/// A lower record's next and its rule are judged where it is met.
+#[test]
+fn a_lower_record_is_judged() {
+    for change in [(556, 8), (556, -1), (556, 666), (560, 1), (564, 3), (548, 43), (548, 1000)] {
+        for record in [0, 1, 5, 6] {
+            assert_eq!(both(&[change], record), (Err(20), Err(20)), "{change:?}");
+        }
+        assert_eq!(both(&[change], 8), (Err(17), Err(17)), "{change:?}");
+        assert_eq!(both(&[change], 14), (Ok(34), Ok(1)), "{change:?}");
+    }
+    for change in [(612, 1), (616, 2), (620, -1)] {
+        assert_eq!(both(&[change], 1), (Ok(21), Ok(2)), "{change:?}");
+        assert_eq!(both(&[change], 0), (Err(17), Err(17)), "{change:?}");
+        assert_eq!(both(&[change], 4), (Err(20), Err(20)), "{change:?}");
+    }
+    for change in [(654, 1), (658, 1), (662, 1)] {
+        assert_eq!(both(&[change], 8), (Err(20), Err(20)), "{change:?}");
+    }
+}
+
+/// The call for levels ends at the entry that names no index record, and judges nothing behind it.
+#[test]
+fn levels_end_before_the_values() {
+    for (change, levels) in [((584, 0), 2), ((584, 372), 2), ((584, 708), 2), ((592, 7), 2)] {
+        assert_eq!(both(&[change], 1), (Err(20), Ok(levels)), "{change:?}");
+    }
+    assert_eq!(both(&[(552, 7)], 1), (Err(20), Ok(1)), "values in place of the index record");
+    assert_eq!(both(&[(596, 6)], 1), (Err(20), Err(20)), "an index record in place of the values");
+}
+
+/// The values of record n are named at level n + 1, up to the ninth.
+#[test]
+fn a_ninth_level_is_not_read() {
+    let mut file = File::base(encoding(6).expect("encoding"));
+    let plain = Variable::plain(data_type(2).expect("data type"), Vec::new());
+    let ninth = Index::of(vec![values(8, &[8])]);
+    let index = (0..8).rev().fold(ninth, |index, record| {
+        let own = IndexEntry::Values(values(record, &[record as u64]));
+        Index { entries: vec![own, lower(record + 1, 8, index)], spare: 0 }
+    });
+    file.z_variables.push(Variable { max_rec: 8, chain: vec![index], ..plain });
+    let file = in_order(&file);
+    for record in 0..8 {
+        assert_eq!(value(&file, record), Ok(record as u64));
+        assert_eq!(read::levels(&file, 8, 0, record), Ok(record + 1));
+    }
+    assert_eq!((value(&file, 8), read::levels(&file, 8, 0, 8)), (Err(20), Err(20)));
 }

@@ -1,7 +1,8 @@
 //! Each clause of the check by a file that breaks it: verdict and step of the refusal.
 
 use tlepozaluh_host::build::in_order;
-use tlepozaluh_host::build::model::{Attribute, Entry, File, Index, Values, Variable};
+use tlepozaluh_host::build::model::{Attribute, Entry, File, Index, IndexEntry, Lower};
+use tlepozaluh_host::build::model::{Values, Variable};
 use tlepozaluh_host::build::records::put;
 use tlepozaluh_host::second::check::{run, Granted};
 use tlepozaluh_host::second::tables::{data_type, encoding, DataType};
@@ -40,7 +41,7 @@ fn try_cases(name: &str, file: &[u8], cases: &[Case]) {
 /// File H: VDR at 372, VXR at 504, VVR at 536, length 550.
 fn file_h() -> Vec<u8> {
     let mut file = base();
-    let chain = vec![Index { entries: vec![values(0, 3)], spare: 0 }];
+    let chain = vec![Index::of(vec![values(0, 3)])];
     file.z_variables.push(variable(2, chain));
     in_order(&file)
 }
@@ -146,7 +147,7 @@ fn walk_to_a_variable() {
 
 #[test]
 fn walk_along_an_index() {
-    let cases: [Case; 26] = [
+    let cases: [Case; 27] = [
         (&[(392, 536)], 8, 10),
         (&[(392, 0)], 11, 10),
         (&[(392, 0), (396, 0)], 12, 10),
@@ -171,7 +172,8 @@ fn walk_along_an_index() {
         (&[(528, i64::MAX >> 32)], 10, 11),
         (&[(532, 0)], 8, 11),
         (&[(532, 0), (524, -1)], 12, 11),
-        (&[(532, 504)], 8, 11),
+        (&[(532, 504)], 9, 11),
+        (&[(532, 372)], 8, 11),
         (&[(532, 537)], 8, 11),
     ];
     try_cases("H", &file_h(), &cases);
@@ -183,9 +185,9 @@ fn walk_along_an_index() {
 fn ranges_rise_along_the_whole_chain() {
     let mut file = base();
     let chain = vec![
-        Index { entries: vec![values(0, 2)], spare: 1 },
-        Index { entries: vec![], spare: 0 },
-        Index { entries: vec![values(5, 1)], spare: 0 },
+        Index { spare: 1, ..Index::of(vec![values(0, 2)]) },
+        Index::of(vec![]),
+        Index::of(vec![values(5, 1)]),
     ];
     file.z_variables.push(variable(5, chain));
     let file = in_order(&file);
@@ -203,6 +205,88 @@ fn ranges_rise_along_the_whole_chain() {
     ];
     try_cases("three VXRs", &file, &cases);
 }
+
+/// A lower VXR of these values, named for a range.
+fn lower(first: i64, last: i64, values: Vec<Values>) -> IndexEntry {
+    IndexEntry::Lower(Lower { first, last, index: Index::of(values) })
+}
+
+/// VXR 504 (44) with the entries 0..5, which names VXR 548 (44), and 6..6, VVR 614 (10); below 0..1, VVR 592 (12), and
+/// 4..4, VVR 604 (10).
+#[test]
+fn walk_along_two_levels() {
+    let mut file = base();
+    let entries =
+        vec![lower(0, 5, vec![values(0, 2), values(4, 1)]), IndexEntry::Values(values(6, 1))];
+    file.z_variables.push(variable(4, vec![Index { entries, spare: 0 }]));
+    let file = in_order(&file);
+    assert_eq!(file.len(), 624);
+    try_cases("two levels", &file, &TWO_LEVELS);
+}
+
+/// The cases of the file of two levels.
+const TWO_LEVELS: [Case; 33] = [
+    (&[], 0, 22),
+    (&[(556, 504)], 11, 14),
+    (&[(556, -1)], 11, 14),
+    (&[(556, 1), (560, 3)], 10, 14),
+    (&[(560, 3)], 10, 14),
+    (&[(564, 3)], 10, 14),
+    (&[(524, 1)], 12, 15),
+    (&[(532, 3)], 12, 16),
+    (&[(532, 4)], 0, 22),
+    (&[(532, 6)], 12, 18),
+    (&[(524, -1)], 12, 14),
+    (&[(528, 5)], 12, 18),
+    (&[(568, -1)], 12, 15),
+    (&[(572, 1), (580, 1)], 12, 16),
+    (&[(572, 2), (580, 2), (388, 2)], 0, 22),
+    (&[(580, 6)], 12, 16),
+    (&[(540, 504)], 9, 14),
+    (&[(540, 0)], 8, 14),
+    (&[(540, 372)], 8, 14),
+    (&[(540, 592)], 10, 14),
+    (&[(552, 7)], 10, 14),
+    (&[(596, 6)], 10, 15),
+    (&[(584, 548)], 9, 15),
+    (&[(588, 504)], 9, 16),
+    (&[(588, 592)], 9, 16),
+    (&[(544, 548)], 9, 18),
+    (&[(512, 548)], 9, 19),
+    (&[(396, 548)], 11, 19),
+    (&[(388, 5)], 12, 19),
+    (&[(388, 2)], 12, 19),
+    (&[(388, 6)], 0, 22),
+    (&[(564, 0)], 12, 17),
+    (&[(564, 0), (388, -1)], 13, 20),
+];
+
+/// One entry a level and the values 0..2 in the lowest: VXRs from 504 on, 32 bytes each.
+#[test]
+fn levels_of_one_entry() {
+    for levels in 1..=9_usize {
+        let mut file = base();
+        let index = Index::of_levels(vec![values(0, 3)], levels);
+        file.z_variables.push(variable(2, vec![index]));
+        let file = in_order(&file);
+        let (verdict, steps) = if levels < 9 { (0, 12 + 3 * levels as u64) } else { (23, 26) };
+        assert_eq!(run(&file, &mut vec![0; file.len()]), Granted { verdict, steps }, "{levels}");
+        if levels == 8 {
+            try_cases("eight levels", &file, &EIGHT_LEVELS);
+        }
+    }
+}
+
+/// The eighth VXR is at 728, the VVR at 760.
+const EIGHT_LEVELS: [Case; 7] = [
+    (&[], 0, 36),
+    (&[(756, 504)], 23, 25),
+    (&[(756, 728)], 23, 25),
+    (&[(764, 6)], 23, 25),
+    (&[(724, 504)], 9, 24),
+    (&[(748, 1), (756, 504)], 23, 25),
+    (&[(748, -1), (756, 504)], 12, 25),
+];
 
 /// ADRs at 372 and 646; g/rEntries 0 at 488 and 3 at 538; zEntry 1 at 590; length 762.
 fn file_of_attributes() -> Vec<u8> {
@@ -288,7 +372,7 @@ fn walk_along_r_variables() {
     file.r_sizes = vec![2, 3];
     let plain = Variable::plain(of_type(1), vec![2, 3]);
     let records = (0..5).map(|_| vec![1; 6]).collect();
-    let chain = vec![Index { entries: vec![Values { first: 0, records }], spare: 0 }];
+    let chain = vec![Index::of(vec![Values { first: 0, records }])];
     file.r_variables.push(plain.clone());
     file.r_variables.push(Variable { max_rec: 4, chain, ..plain });
     let file = in_order(&file);

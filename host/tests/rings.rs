@@ -3,7 +3,7 @@
 use tlepozaluh_host::build::records::put;
 use tlepozaluh_host::samples;
 use tlepozaluh_host::second::check::run;
-use tlepozaluh_host::second::read::{attribute, read_entry, read_value, variable};
+use tlepozaluh_host::second::read::{attribute, levels, read_entry, read_value, variable};
 
 /// File, verdict, step of the refusal.
 const RINGS: [(&str, i32, u64); 11] = [
@@ -17,7 +17,7 @@ const RINGS: [(&str, i32, u64); 11] = [
     ("ring_vdr_self", 9, 19),
     ("ring_vxr_self", 9, 18),
     ("ring_vxr_two", 9, 16),
-    ("vxr_entry_is_itself", 8, 17),
+    ("vxr_entry_is_itself", 9, 17),
 ];
 
 fn ring(name: &str) -> Vec<u8> {
@@ -46,6 +46,8 @@ fn a_ring_answers_below_the_limit() {
     assert_eq!(read_value(&file, 8, 119, 2, &[], 0).map(|answer| answer.offset), Ok(548));
     assert_eq!(read_value(&file, 8, 120, 2, &[], 0), Err(20));
     assert_eq!(read_value(&file, 8, 120, 3, &[], 0), Err(16));
+    assert_eq!((levels(&file, 8, 120, 2), levels(&file, 8, 121, 2)), (Ok(1), Err(20)));
+    assert_eq!((levels(&file, 8, 119, 2), levels(&file, 8, 120, 3)), (Ok(1), Err(16)));
     let file = ring("ring_adr");
     assert_eq!(attribute(&file, 121).map(|found| found.offset), Ok(831));
     assert_eq!(attribute(&file, 122), Err(20));
@@ -71,4 +73,13 @@ fn a_ring_of_index_records_ends() {
     assert_eq!(read_value(&file, 8, 0, 0, &[], 0), Err(20));
     put(&mut file, 548 + 16, 0);
     assert_eq!(read_value(&file, 8, 0, 3, &[], 0), Err(20));
+}
+
+/// An index record that an entry of its own names: the levels end the way.
+#[test]
+fn a_ring_of_levels_ends() {
+    let file = ring("vxr_entry_is_itself");
+    let max_rec = variable(&file, 8, 0).expect("a variable").max_rec;
+    let answers: Vec<_> = (0..=max_rec).map(|record| levels(&file, 8, 0, record)).collect();
+    assert!(answers.contains(&Err(20)), "{answers:?}");
 }

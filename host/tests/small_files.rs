@@ -24,7 +24,7 @@ fn variable(number: i64, sizes: &[i64], records: Vec<Vec<u64>>) -> Variable {
     let data_type = data_type(number).expect("data type");
     let mut variable = Variable::plain(data_type, sizes.to_vec());
     variable.max_rec = records.len() as i64 - 1;
-    variable.chain = vec![Index { entries: vec![Values { first: 0, records }], spare: 0 }];
+    variable.chain = vec![Index::of(vec![Values { first: 0, records }])];
     variable
 }
 

@@ -1,12 +1,13 @@
 //! Single steps whose numbers turn on the order in which a step looks at things (docs/STATE.md): each with the answer and
 //! the state that are due, from the proved checker and from the second one.
 
-use tlepozaluh_host::bindings::{State, STATE_LENGTH};
+use tlepozaluh_host::bindings::{self, State, STATE_LENGTH};
 use tlepozaluh_host::build::in_order;
-use tlepozaluh_host::build::model::{Attribute, Entry, File, Index, Values, Variable};
+use tlepozaluh_host::build::model::{Attribute, Entry, File, Index, IndexEntry, Lower};
+use tlepozaluh_host::build::model::{Values, Variable};
 use tlepozaluh_host::build::records::put;
 use tlepozaluh_host::pair::{Compared, Pair};
-use tlepozaluh_host::second::check::Check;
+use tlepozaluh_host::second::check::{self, Check};
 use tlepozaluh_host::second::tables::{data_type, encoding, DataType};
 
 const OFFSET: u32 = 2_147_483_647;
@@ -20,14 +21,31 @@ fn of_type(number: i64) -> DataType {
     data_type(number).expect("data type")
 }
 
-/// File H of document 01: VDR at 372, VXR at 504, VVR at 536, length 550.
-fn file_h() -> Vec<u8> {
-    let records = (1..=3).map(|value| vec![value]).collect();
-    let chain = vec![Index { entries: vec![Values { first: 0, records }], spare: 0 }];
+/// Values from a record number on.
+fn values(first: i64, count: u64) -> Values {
+    Values { first, records: (1..=count).map(|value| vec![value]).collect() }
+}
+
+/// A file of one zVariable of 2-byte numbers with this index, VDR at 372 and VXR at 504.
+fn file_of(max_rec: i64, index: Index) -> Vec<u8> {
     let plain = Variable::plain(of_type(2), Vec::new());
     let mut file = base();
-    file.z_variables.push(Variable { max_rec: 2, chain, ..plain });
+    file.z_variables.push(Variable { max_rec, chain: vec![index], ..plain });
     in_order(&file)
+}
+
+/// File H of document 01: VDR at 372, VXR at 504, VVR at 536, length 550.
+fn file_h() -> Vec<u8> {
+    file_of(2, Index::of(vec![values(0, 3)]))
+}
+
+/// A VXR at 504 whose entry 0..5 names a lower one at 536, with 0..1 at 580 and 4..4 at 592; MaxRec 4, length 602. The
+/// entry's First, Last and Offset stand at 524, 528 and 532, the lower next at 544, the lower Firsts at 556, Lasts at 564
+/// and Offsets at 572.
+fn file_of_two_levels() -> Vec<u8> {
+    let index = Index::of(vec![values(0, 2), values(4, 1)]);
+    let lower = IndexEntry::Lower(Lower { first: 0, last: 5, index });
+    file_of(4, Index { entries: vec![lower], spare: 0 })
 }
 
 /// One ADR at 372 with the g/rEntries 0 at 488 and 3 at 537; an unused record of zeros at 586, length 662.
@@ -57,8 +75,27 @@ fn changed(file: &[u8], fields: &[(usize, i64)]) -> Vec<u8> {
     changed
 }
 
+/// The first twelve numbers of a state.
+type Numbers = [u32; 12];
+
+/// A level: record, next, last.
+type Level = [u32; 3];
+
+/// The state of these numbers and these levels, the nearest first.
+fn state(numbers: Numbers, levels: &[Level]) -> State {
+    let mut state = [0; STATE_LENGTH];
+    let all = numbers.iter().chain(levels.iter().flatten());
+    state.iter_mut().zip(all).for_each(|(place, number)| *place = *number);
+    state
+}
+
+/// One step, from a state without levels, that refuses with this number.
+fn refuses(file: &[u8], marks: &[u8], numbers: Numbers, number: i32) {
+    refuses_from(file, marks, state(numbers, &[]), number);
+}
+
 /// One step that refuses with this number: the state is finished with it, and no mark changes.
-fn refuses(file: &[u8], marks: &[u8], state: State, number: i32) {
+fn refuses_from(file: &[u8], marks: &[u8], state: State, number: i32) {
     let mut finished = [0; STATE_LENGTH];
     finished[0] = number as u32 + 1;
     let mut pair = Pair::new(&state, marks);
@@ -68,8 +105,13 @@ fn refuses(file: &[u8], marks: &[u8], state: State, number: i32) {
     assert_eq!((pair.state(), pair.marks()), (finished.as_slice(), marks));
 }
 
+/// One step between states without levels.
+fn goes_on(file: &[u8], marks: &[u8], from: Numbers, next: Numbers, claimed: Option<usize>) {
+    goes_from(file, marks, state(from, &[]), state(next, &[]), claimed);
+}
+
 /// One step that goes on to a state, and claims the record at an offset if there is one.
-fn goes_on(file: &[u8], marks: &[u8], state: State, next: State, claimed: Option<usize>) {
+fn goes_from(file: &[u8], marks: &[u8], state: State, next: State, claimed: Option<usize>) {
     let mut after = marks.to_vec();
     claimed.into_iter().for_each(|at| after[at] = 2);
     let mut pair = Pair::new(&state, marks);
@@ -138,7 +180,7 @@ fn the_count_of_entries() {
 fn an_adr_at_the_end() {
     let file = file_of_entries();
     let marks = swept(&file);
-    let from = |link: u32, before_end: u32, entries: u32, floor: u32| -> State {
+    let from = |link: u32, before_end: u32, entries: u32, floor: u32| -> Numbers {
         [0, 662, 7, 5, link, 0, 0, 662 - before_end, 0, entries, floor, 0]
     };
     let no_start = changed(&file, &[(384, 489)]);
@@ -166,7 +208,7 @@ fn a_gdr_at_the_end() {
     let file = file_of_entries();
     let marks = swept(&file);
     let at_the_end = |bytes: i64| changed(&file, &[(16, 662 - bytes)]);
-    let head = |kind: u32, count: u32, greatest: u32| -> State {
+    let head = |kind: u32, count: u32, greatest: u32| -> Numbers {
         [0, 662, 3, kind, 320, count, greatest, 0, 0, 0, 0, 0]
     };
     refuses(&at_the_end(27), &marks, head(3, 0, 0), 20);
@@ -177,7 +219,7 @@ fn a_gdr_at_the_end() {
     refuses(&at_the_end(43), &marks, head(8, 0, 0), 20);
     refuses(&at_the_end(44), &marks, head(8, 1, 0), 11);
     goes_on(&at_the_end(44), &marks, head(8, 0, 0), [0, 662, 6, 0, 634, 0, 0, 0, 0, 0, 0, 0], None);
-    let attributes = |count: u32| -> State { [0, 662, 6, 0, 320, count, 0, 0, 0, 0, 0, 0] };
+    let attributes = |count: u32| -> Numbers { [0, 662, 6, 0, 320, count, 0, 0, 0, 0, 0, 0] };
     refuses(&at_the_end(31), &marks, attributes(0), 20);
     refuses(&at_the_end(32), &marks, attributes(1), 11);
     goes_on(&at_the_end(32), &marks, attributes(0), [0, 662, 8, 0, 674, 0, 0, 0, 0, 0, 0, 0], None);
@@ -203,7 +245,7 @@ fn the_dimension_count_at_the_end() {
 fn an_index_entry_at_the_end() {
     let file = file_h();
     let marks = swept(&file);
-    let vxr_at_the_end = |bytes: usize, first: i64, last: i64| -> (Vec<u8>, State) {
+    let vxr_at_the_end = |bytes: usize, first: i64, last: i64| -> (Vec<u8>, Numbers) {
         let vxr = 550 - bytes;
         let fields = [(vxr + 12, 1), (vxr + 16, 1), (vxr + 20, first), (vxr + 24, last)];
         (changed(&file, &fields), [0, 550, 5, 8, 0, 0, 3, 372, vxr as u32, 0, 1, 0])
@@ -234,7 +276,7 @@ fn an_index_entry_at_the_end() {
 fn a_value_record_too_short() {
     let file = file_h();
     let marks = swept(&file);
-    let state = |vdr: u32| -> State { [0, 550, 5, 8, 0, 0, 3, vdr, 504, 0, 0, 0] };
+    let state = |vdr: u32| -> Numbers { [0, 550, 5, 8, 0, 0, 3, vdr, 504, 0, 0, 0] };
     refuses(&file, &marks, state(549), 20);
     let short = changed(&file, &[(536, 7)]);
     refuses(&short, &marks, state(549), 10);
@@ -258,5 +300,284 @@ fn an_unclaimed_record_that_leaves_the_file() {
     marks[372] = 2;
     for size in [7, 0, 9, 1000, -1] {
         refuses(&changed(&file, &[(372, size)]), &marks, state, 20);
+    }
+}
+
+/// The level that the first entry of the file of two levels leads down from.
+const ABOVE: Level = [504, 1, 5];
+
+/// The point before an entry of the lower VXR of the file of two levels.
+fn at_lower(entry: u32, floor: u32) -> State {
+    state([0, 602, 5, 8, 0, 0, 5, 372, 536, entry, floor, 0], &[ABOVE])
+}
+
+/// H with n levels of one entry each takes three steps more a level: a record, an entry and a next.
+#[test]
+fn steps_of_levels() {
+    for levels in 1..=8 {
+        let file = file_of(2, Index::of_levels(vec![values(0, 3)], levels));
+        let mut pair = Pair::fresh(&vec![0; file.len()]);
+        let answer = pair.grant(&file, u64::MAX, &mut Compared::default());
+        assert_eq!(answer, Ok((0, 15 + 3 * (levels as u64 - 1))), "{levels} levels");
+    }
+}
+
+/// The eighth level's entry that names an index record is 23: the ninth is neither claimed nor judged.
+#[test]
+fn nine_levels() {
+    let file = file_of(2, Index::of_levels(vec![values(0, 3)], 9));
+    let ninth = 504 + 8 * 32;
+    for file in [file.clone(), changed(&file, &[(ninth + 8, 1), (ninth + 12, 7)])] {
+        let mut pair = Pair::fresh(&vec![0; file.len()]);
+        assert_eq!(pair.grant(&file, u64::MAX, &mut Compared::default()), Ok((23, 26)));
+        assert_eq!((pair.state()[0], pair.marks()[ninth]), (24, 1));
+    }
+}
+
+/// 23 comes right after the type, before 9, 10 and 11; one level higher the same record is claimed twice.
+#[test]
+fn too_deep_before_claimed_twice() {
+    let file = changed(&file_of_two_levels(), &[(572, 504)]);
+    let mut marks = swept(&file);
+    let from =
+        |levels: usize| state([0, 602, 5, 8, 0, 0, 5, 372, 536, 0, 0, 0], &vec![ABOVE; levels]);
+    for mark in [1, 2] {
+        marks[504] = mark;
+        refuses_from(&file, &marks, from(7), 23);
+        refuses_from(&changed(&file, &[(512, 1), (516, 5)]), &marks, from(7), 23);
+        refuses_from(&changed(&file, &[(508, 5)]), &marks, from(7), 8);
+    }
+    refuses_from(&file, &marks, from(6), 9);
+    marks[504] = 0;
+    refuses_from(&file, &marks, from(7), 8);
+}
+
+/// Values may be named at the eighth level.
+#[test]
+fn values_of_the_eighth_level() {
+    let file = file_of_two_levels();
+    let marks = swept(&file);
+    let next = |levels: &[Level]| state([0, 602, 5, 8, 0, 0, 5, 372, 536, 1, 2, 0], levels);
+    for levels in [vec![ABOVE], vec![ABOVE; 7]] {
+        let from = state([0, 602, 5, 8, 0, 0, 5, 372, 536, 0, 0, 0], &levels);
+        goes_from(&file, &marks, from, next(&levels), Some(580));
+    }
+}
+
+/// A range below that leaves the one above is 12, before its link is looked at.
+#[test]
+fn a_lower_range_before_its_link() {
+    let file = changed(&file_of_two_levels(), &[(572, 581), (576, 0)]);
+    let marks = swept(&file);
+    refuses_from(&file, &marks, at_lower(0, 0), 8);
+    refuses_from(&file, &marks, at_lower(1, 2), 8);
+    refuses_from(&file, &marks, at_lower(0, 1), 12);
+    refuses_from(&changed(&file, &[(556, -1)]), &marks, at_lower(0, 0), 12);
+    refuses_from(&changed(&file, &[(564, -1)]), &marks, at_lower(0, 0), 12);
+    refuses_from(&changed(&file, &[(564, 5)]), &marks, at_lower(0, 0), 8);
+    refuses_from(&changed(&file, &[(564, 6)]), &marks, at_lower(0, 0), 12);
+    refuses_from(&changed(&file, &[(568, 6)]), &marks, at_lower(1, 2), 12);
+}
+
+/// A Last above that of the nearest level is 12 though the Offset passes the end; only the nearest level counts.
+#[test]
+fn a_lower_range_before_the_end() {
+    let file = file_h();
+    let marks = swept(&file);
+    let vxr = 550 - 28;
+    let fields = [(vxr + 12, 1), (vxr + 16, 1), (vxr + 20, 1), (vxr + 24, 4)];
+    let file = changed(&file, &fields);
+    let numbers = [0, 550, 5, 8, 0, 0, 3, 372, vxr as u32, 0, 1, 0];
+    refuses(&file, &marks, numbers, 20);
+    for (last, number) in [(0, 12), (3, 12), (4, 20), (5, 20), (OFFSET, 20)] {
+        refuses_from(&file, &marks, state(numbers, &[[504, 1, last], [504, 1, 0]]), number);
+    }
+}
+
+/// A lower record's rule comes before its next, and both before its claim: no mark changes.
+#[test]
+fn a_lower_record_before_its_next() {
+    let file = file_of_two_levels();
+    let marks = swept(&file);
+    let numbers = [0, 602, 5, 8, 0, 0, 5, 372, 504, 0, 0, 0];
+    for next in [1, -1, 504, 536] {
+        refuses(&changed(&file, &[(544, next)]), &marks, numbers, 11);
+        refuses(&changed(&file, &[(544, next), (548, 3)]), &marks, numbers, 10);
+        refuses(&changed(&file, &[(544, next), (552, 3)]), &marks, numbers, 10);
+        refuses(&changed(&file, &[(544, next), (552, -1)]), &marks, numbers, 10);
+    }
+    let next = state([0, 602, 5, 8, 0, 0, 5, 372, 536, 0, 0, 0], &[ABOVE]);
+    goes_from(&file, &marks, state(numbers, &[]), next, Some(536));
+}
+
+/// A check from fresh meets a lower next on the claim.
+#[test]
+fn a_lower_next_on_the_claim() {
+    let file = changed(&file_of_two_levels(), &[(544, 504)]);
+    let mut pair = Pair::fresh(&vec![0; file.len()]);
+    assert_eq!(pair.grant(&file, u64::MAX, &mut Compared::default()), Ok((11, 13)));
+    assert_eq!((pair.marks()[504], pair.marks()[536]), (2, 1));
+}
+
+/// A lower record that ends before its fields is 10, one that the file ends before is 20.
+#[test]
+fn a_lower_record_at_the_end() {
+    let file = file_of_two_levels();
+    let mut marks = swept(&file);
+    let numbers = [0, 602, 5, 8, 0, 0, 5, 372, 504, 0, 0, 0];
+    for (bytes, size, number) in [(7, 32, 20), (8, 19, 10), (8, 20, 20), (19, 20, 20), (20, 20, 10)]
+    {
+        let at = 602 - bytes;
+        marks[at] = 1;
+        let fields = [(532, at as i64), (at, size), (at + 4, 6), (at + 8, 0), (at + 12, 1)];
+        refuses(&changed(&file, &fields), &marks, numbers, number);
+        marks[at] = 0;
+    }
+}
+
+/// The number of an entry that led down goes up to 2,147,483,648, and there is no entry behind that.
+#[test]
+fn the_greatest_numbers_of_a_level() {
+    let file = file_of_two_levels();
+    let marks = swept(&file);
+    let numbers = [0, 602, 4, 8, 544, 0, 5, 372, 536, 0, 5, 1];
+    let from = |level: Level| state(numbers, &[level]);
+    let top = |floor: u32| state([0, 602, 4, 8, 512, 0, 5, 372, 504, 0, floor, 1], &[]);
+    goes_from(&file, &marks, from([504, COUNT, 5]), top(6), None);
+    goes_from(&file, &marks, from([504, 1, OFFSET]), top(COUNT), None);
+    refuses_from(&file, &marks, from([OFFSET, COUNT, OFFSET]), 20);
+    for level in [[504, COUNT + 1, 5], [504, 1, OFFSET + 1], [OFFSET + 1, 1, 5], [504, 0, 5]] {
+        refuses_from(&file, &marks, from(level), 20);
+    }
+}
+
+/// A level below one that is not there, part of a level, and levels in a phase without any are 20 in one step.
+#[test]
+fn holes_among_levels() {
+    let file = file_of_two_levels();
+    let marks = swept(&file);
+    let none = [0; 3];
+    for numbers in
+        [[0, 602, 4, 8, 544, 0, 5, 372, 536, 0, 5, 1], [0, 602, 5, 8, 0, 0, 5, 372, 536, 0, 0, 0]]
+    {
+        for levels in [
+            vec![none, ABOVE],
+            vec![ABOVE, none, ABOVE],
+            vec![ABOVE, ABOVE, ABOVE, ABOVE, ABOVE, none, ABOVE],
+            vec![[504, 0, 0]],
+            vec![[0, 0, 5]],
+            vec![ABOVE, [504, 0, 0]],
+            vec![ABOVE, [0, 0, 1]],
+        ] {
+            refuses_from(&file, &marks, state(numbers, &levels), 20);
+        }
+    }
+    for numbers in [
+        [0; 12],
+        [0, 602, 1, 0, 8, 0, 0, 0, 0, 0, 0, 0],
+        [0, 602, 2, 0, 0, 0, 0, 0, 0, 0, 0, 0],
+        [0, 602, 3, 8, 324, 0, 0, 0, 0, 0, 0, 0],
+        [0, 602, 6, 0, 328, 0, 0, 0, 0, 0, 0, 0],
+        [0, 602, 7, 5, 384, 0, 0, 372, 0, 0, 0, 0],
+        [0, 602, 8, 0, 356, 0, 0, 0, 0, 0, 0, 0],
+    ] {
+        refuses_from(&file, &marks, state(numbers, &[ABOVE]), 20);
+    }
+}
+
+/// States of twelve numbers, fresh, under way or finished, are 20 in 0 steps, and neither they nor the marks change.
+#[test]
+fn states_of_twelve_numbers() {
+    let file = file_h();
+    let marks = swept(&file);
+    let mut states = vec![[0; 12], [0, 550, 5, 8, 0, 0, 3, 372, 504, 0, 0, 0]];
+    states.extend((1..=24).map(|verdict| [verdict, 0, 0, 0, 0, 0, 0, 0, 0, 0, 0, 0]));
+    for old in states {
+        for steps in [0, 1, u64::MAX] {
+            let mut pair = Pair::new(&old, &marks);
+            assert_eq!(pair.grant(&file, steps, &mut Compared::default()), Ok((20, 0)));
+            assert_eq!((pair.state(), pair.marks()), (old.as_slice(), marks.as_slice()));
+            let (mut lent, mut second) = (marks.clone(), old);
+            let granted = check::grant(&file, &mut lent, &mut second, steps);
+            assert_eq!((granted.verdict, granted.steps, second, lent), (20, 0, old, marks.clone()));
+        }
+        let mut begun = old;
+        assert_eq!((bindings::check_begin(&mut begun), begun), (20, old));
+    }
+}
+
+/// Below the top chain a next that is not zero is 11 at once, also if it leads to an index record.
+#[test]
+fn a_lower_next_that_is_not_zero() {
+    let file = file_of_two_levels();
+    let mut marks = swept(&file);
+    let numbers = [0, 602, 4, 8, 544, 0, 5, 372, 536, 0, 5, 1];
+    for next in [1, -1, 504, 580, 602, 1000] {
+        let file = changed(&file, &[(544, next)]);
+        refuses_from(&file, &marks, state(numbers, &[ABOVE]), 11);
+        refuses_from(&file, &marks, state(numbers, &[[OFFSET, 1, 5]]), 11);
+    }
+    let file = changed(&file, &[(544, 504)]);
+    marks[504] = 1;
+    let next = state([0, 602, 5, 8, 0, 0, 5, 372, 504, 0, 5, 1], &[]);
+    goes_from(&file, &marks, state(numbers, &[]), next, Some(504));
+}
+
+/// Behind a lower record the one above is gone on with, at the entry that the level names or at its own next.
+#[test]
+fn up_from_a_lower_record() {
+    let file = file_of_two_levels();
+    let marks = swept(&file);
+    let from = |levels: &[Level]| state([0, 602, 4, 8, 544, 0, 5, 372, 536, 0, 5, 1], levels);
+    let next = state([0, 602, 4, 8, 512, 0, 5, 372, 504, 0, 6, 1], &[]);
+    goes_from(&file, &marks, from(&[ABOVE]), next, None);
+    let next = state([0, 602, 5, 8, 0, 0, 5, 372, 536, 1, 10, 1], &[[504, 1, 9]]);
+    goes_from(&file, &marks, from(&[[536, 1, 9], [504, 1, 9]]), next, None);
+    let next = state([0, 602, 4, 8, 544, 0, 5, 372, 536, 0, 10, 1], &[[504, 1, 9]]);
+    goes_from(&file, &marks, from(&[[536, 2, 9], [504, 1, 9]]), next, None);
+    let all: Vec<Level> = (0..7).map(|number| [504, 1, number]).collect();
+    let next = state([0, 602, 4, 8, 512, 0, 5, 372, 504, 0, 1, 1], &all[1..]);
+    goes_from(&file, &marks, from(&all), next, None);
+}
+
+/// The record above is looked at after the link: what passes the end is 20, a link that is not zero 11 before that.
+#[test]
+fn a_record_above_at_the_end() {
+    let file = file_of_two_levels();
+    let marks = swept(&file);
+    let from = |link: u32, record: u32| {
+        state([0, 602, 4, 8, link, 0, 5, 372, 536, 0, 5, 1], &[[record, 1, 5]])
+    };
+    for record in [602 - 19, 602 - 16, 602, 603, OFFSET] {
+        refuses_from(&file, &marks, from(544, record), 20);
+        refuses_from(&file, &marks, from(504, record), 11);
+    }
+    for link in [599, 602, OFFSET] {
+        refuses_from(&file, &marks, from(link, 504), 20);
+    }
+    let record = 602 - 20;
+    let next = state([0, 602, 4, 8, record + 8, 0, 5, 372, record, 0, 6, 1], &[]);
+    let file = changed(&file, &[(598, 1)]);
+    goes_from(&file, &marks, from(544, record), next, None);
+}
+
+/// An empty lower record: its next is taken with the First of the entry that names it.
+#[test]
+fn an_empty_lower_record() {
+    let file = changed(&file_of_two_levels(), &[(552, 0), (524, 3)]);
+    let marks = swept(&file);
+    let from = state([0, 602, 5, 8, 0, 0, 5, 372, 504, 0, 0, 0], &[]);
+    let next = state([0, 602, 4, 8, 544, 0, 5, 372, 536, 0, 3, 0], &[ABOVE]);
+    goes_from(&file, &marks, from, next, Some(536));
+}
+
+/// MaxRec in the range of an entry that names an index record is not covered by it.
+#[test]
+fn max_rec_in_a_gap_below() {
+    for (max_rec, answer) in [(-1, (0, 20)), (1, (0, 20)), (2, (12, 17)), (5, (12, 17))] {
+        let file = changed(&file_of_two_levels(), &[(388, max_rec)]);
+        let mut pair = Pair::fresh(&vec![0; file.len()]);
+        let whole = pair.grant(&file, u64::MAX, &mut Compared::default());
+        assert_eq!(whole, Ok(answer), "MaxRec {max_rec}");
     }
 }

@@ -15,6 +15,9 @@
 #define MISSING 0
 #endif
 
+/* How many numbers of a state come before its levels. */
+enum { PLAIN = 12 };
+
 /* Buffers of one check, each an allocation of its own. */
 struct lent {
     uint8_t *file, *marks;
@@ -80,7 +83,9 @@ static int32_t grant(struct lent *lent, uint64_t steps)
                                      lent->steps);
 
     grants++;
-    expect((answer >= TLZ_RUNNING && answer <= TLZ_NOT_CARRIED) || answer == TLZ_BAD_STATE || answer == TLZ_OTHER_FILE, "answer");
+    expect((answer >= TLZ_RUNNING && answer <= TLZ_NOT_CARRIED) || answer == TLZ_BAD_STATE || answer == TLZ_OTHER_FILE ||
+               answer == TLZ_TOO_DEEP,
+           "answer");
     expect(*lent->steps <= steps, "steps");
     expect(answer != TLZ_RUNNING || *lent->steps == steps, "fewer steps and not finished");
     return answer;
@@ -116,16 +121,20 @@ static void short_marks(const uint8_t *file, size_t length)
     give_back(&lent);
 }
 
-/* States of every length but the right one. */
+/* States of every length but the right one, each finished as accepted; they are refused and stay as they are. */
 static void other_lengths(const uint8_t *file, size_t length)
 {
     for (size_t n = 0; n < 2 * TLZ_STATE_LEN; n++) {
         struct lent lent = lend(file, length, length, n);
-        memset(lent.state, 1, n * sizeof *lent.state);
+        memset(lent.state, 0, n * sizeof *lent.state);
+        if (n > 0)
+            lent.state[0] = 1;
         if (n != TLZ_STATE_LEN) {
             expect(tlz_check_begin(lent.state, n) == TLZ_BAD_STATE, "begin with another length");
             expect(grant(&lent, any(3)) == TLZ_BAD_STATE && *lent.steps == 0, "another length");
         }
+        for (size_t i = 0; i < n; i++)
+            expect(lent.state[i] == (i == 0), "a state of another length was written");
         give_back(&lent);
     }
 }
@@ -147,14 +156,31 @@ static uint32_t made_up_number(size_t length)
     }
 }
 
+/* Levels of an index, none to seven; now and then one is missing, or has any numbers. */
+static void make_up_levels(uint32_t *state, size_t length)
+{
+    uint64_t levels = any(8);
+
+    for (uint64_t i = 0; i < levels; i++) {
+        uint32_t *level = state + PLAIN + 3 * i;
+        int odd = any(20) == 0;
+        level[0] = odd ? made_up_number(length) : (uint32_t)any(length + 1);
+        level[1] = odd ? made_up_number(length) : 1 + (uint32_t)any(3);
+        level[2] = odd ? made_up_number(length) : (uint32_t)any(20);
+    }
+}
+
 /* A state of a phase with the numbers that have no meaning there left 0, most of the time. */
 static void make_up(uint32_t *state, size_t length)
 {
     static const uint16_t meant[] = { 0, 0x010, 0, 0x070, 0xdf0, 0xfe0, 0x030, 0x6b0, 0x110 };
     uint32_t phase = (uint32_t)any(9);
 
-    for (int i = 0; i < TLZ_STATE_LEN; i++)
+    memset(state, 0, TLZ_STATE_LEN * sizeof *state);
+    for (int i = 0; i < PLAIN; i++)
         state[i] = (meant[phase] >> i & 1) != 0 || any(100) == 0 ? made_up_number(length) : 0;
+    if (phase == 4 || phase == 5 || any(100) == 0)
+        make_up_levels(state, length);
     state[1] = phase == 0 ? 0 : (uint32_t)length;
     state[2] = phase;
     state[11] &= 1;

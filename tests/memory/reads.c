@@ -16,7 +16,7 @@
 #define MISSING 0
 #endif
 
-enum { CALLS = 14, ANSWERS = 21, NUMBERS = 3, ROOM = 65536 };
+enum { CALLS = 15, ANSWERS = 21, NUMBERS = 3, ROOM = 65536 };
 
 /* What a call may set, each number an allocation of its own; what they held before. */
 struct lent {
@@ -107,6 +107,8 @@ static int32_t ask_variable(const struct lent *l, uint64_t call)
         return tlz_read_size(l->file, l->length, of, which, number(2), l->field);
     case 4:
         return tlz_read_variance(l->file, l->length, of, which, number(2), l->field);
+    case 14:
+        return tlz_read_levels(l->file, l->length, of, which, number(12), l->field);
     default:
         return tlz_read_variable_name(l->file, l->length, of, which, l->numbers[0], l->numbers[1]);
     }
@@ -138,7 +140,7 @@ static int32_t ask(const struct lent *l, uint64_t call)
 {
     if (call == 0)
         return ask_value(l);
-    if (call < 6)
+    if (call < 6 || call == 14)
         return ask_variable(l, call);
     if (call < 11 || call == 13)
         return ask_attribute(l, call);
@@ -168,6 +170,8 @@ static void judge(const struct lent *l, uint64_t call, int32_t answer)
         expect(*l->numbers[0] + *l->numbers[1] <= l->length && *l->numbers[1] <= 64, "a name outside the file", call);
     if (answer == 0 && (call == 0 || call == 1 || call == 6 || call == 13))
         expect(*l->numbers[0] <= TLZ_CHARACTER && *l->numbers[2] < l->length, "a value", call);
+    if (answer == 0 && call == 14)
+        expect(*l->field >= 1 && *l->field <= 8, "levels", call);
     calls[call]++;
     answers[answer >= 0 && answer < ANSWERS ? answer : 1]++;
 }

@@ -101,11 +101,16 @@ def ours(path):
         yield from attribute_lines(attribute)
 
 
+def dump_of(path):
+    """The dump of a sample; none of one that is refused."""
+    found = [path.with_suffix(form) for form in (".vax.jcdf", ".jcdf", ".dump")]
+    return next((dump for dump in found if dump.exists()), None)
+
+
 def theirs(path):
     """The dump without offsets, counts of entries and what cannot be asked for."""
-    vax = path.with_suffix(".vax.jcdf")
     fixed = False
-    for line in (vax if vax.exists() else path.with_suffix(".jcdf")).read_text().splitlines():
+    for line in dump_of(path).read_text().splitlines():
         words = [word for word in line.split(" ") if not word.startswith(("@", "ngr=", "maxgr=", "nz=", "maxz=", "attr="))]
         if line.startswith("CDF"):
             words = line.split(" ")
@@ -120,7 +125,7 @@ def theirs(path):
 
 
 lines = 0
-samples = sorted(folder.glob("*.cdf"))
+samples = sorted(path for path in folder.glob("*.cdf") if dump_of(path) is not None)
 for sample in samples:
     if WRONG.get(sample.stem, ()) is None:
         list(ours(sample))

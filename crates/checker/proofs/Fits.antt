@@ -5,39 +5,40 @@ use mathlib.Core.List.{List}
 use Prim.Native.Nat.{ℕ, _≤_}
 use native.Mathlib.Omega.{arith}
 use lib.Dec.{leb, eqb}
-use lib.ListN.{length}
 use mathlib.Core.Bool.{Bool}
 use borrow.Author.Tests.{leb-true, eqb-true}
 use Rattle.checker.specs.declared.state.Stage.{Stage}
 use Rattle.checker.specs.declared.state.Stage.the-variants.{Fresh, Sweep, Walking, Done, Strange}
-use Rattle.checker.specs.Saved.{stageRange, verdictRange}
+use Rattle.checker.specs.Saved.{stageRange}
 use Rattle.checker.specs.Ready.{Ready, VerdictFits, Told, Loaded}
+use Rattle.checker.proofs.Above.{levels-small}
 use Rattle.checker.proofs.Sound.{SoundBy}
 
 pub ranged-fits : (l : ℕ) (g : Stage) → stageRange l g ≡ true → VerdictFits g
 ranged-fits l Fresh e = tt
 ranged-fits l (Sweep o) e = tt
-ranged-fits l (Walking w) e = tt
+ranged-fits l (Walking w up) e = tt
 ranged-fits l (Done v) e = absurd (true≢false (sym e))
 ranged-fits l Strange e = tt
 
-told-small : (v : ℕ) → Told v → v ≤ 20
-told-small v t = go (leb v 14) refl (t .in-range)
+told-small : (v : ℕ) → Told v → v ≤ 23
+told-small v t = go (leb v 14) (eqb v 20) refl refl (t .in-range)
   where
-    go : (b : Bool) → leb v 14 ≡ b → (b || eqb v 20) ≡ true → v ≤ 20
-    go true h e = omega (arith, leb-true v 14 h)
-    go false h e = omega (arith, eqb-true v 20 e)
+    go : (a b : Bool) → leb v 14 ≡ a → eqb v 20 ≡ b → (a || b || eqb v 23) ≡ true → v ≤ 23
+    go true b h k e = omega (arith, leb-true v 14 h)
+    go false true h k e = omega (arith, eqb-true v 20 k)
+    go false false h k e = omega (arith, eqb-true v 23 e)
 
 pub loaded-fits : (n : ℕ) (g : Stage) → Loaded n g → VerdictFits g
 loaded-fits n Fresh h = tt
 loaded-fits n (Sweep o) h = tt
-loaded-fits n (Walking w) h = tt
+loaded-fits n (Walking w up) h = tt
 loaded-fits n (Done v) h = told-small v (h .1)
 loaded-fits n Strange h = tt
 
 pub sound-ready : (Odd : ℕ → List ℕ → Type 0) (f : List ℕ) (n : ℕ) (m : List ℕ) (g : Stage) → SoundBy Odd f n m g → Ready f m g
 sound-ready Odd f n m Fresh h = tt
 sound-ready Odd f n m (Sweep o) h = record { marks = h .0 .3; short = h .0 .2 }
-sound-ready Odd f n m (Walking w) h = (record { marks = h .0 .3; short = h .0 .2 }, h .1)
+sound-ready Odd f n m (Walking w up) h = (record { marks = h .0 .3; short = h .0 .2 }, h .1, levels-small up (h .2 .there))
 sound-ready Odd f n m (Done v) h = told-small v (h .1)
 sound-ready Odd f n m Strange h = tt

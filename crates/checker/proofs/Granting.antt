@@ -1,7 +1,7 @@
 -- What a grant comes to, from what its code finds. Assumes nothing.
-use mathlib.Core.Path.{_≡_, refl, sym, ap, _∙_}
+use mathlib.Core.Path.{_≡_, sym, ap, _∙_}
 use mathlib.Core.Logic.{inl, inr}
-use mathlib.Core.Bool.{Bool, true, false, cond, _||_}
+use mathlib.Core.Bool.{true, false}
 use mathlib.Core.List.{List}
 use Prim.Native.Nat.{ℕ}
 use lib.ListN.{length}
@@ -10,12 +10,12 @@ use borrow.Author.Tests.{ne-eqb}
 use Rattle.checker.specs.declared.state.State.{State}
 use Rattle.checker.specs.Step.{conf, Run, finished, answerOf, runOf}
 use Rattle.checker.specs.Saved.{save, load}
-use Rattle.checker.specs.Grant.{Granted, granted, otherFile, worked, grantBy, grantOf}
+use Rattle.checker.specs.Grant.{granted, otherFile, worked, grantBy, grantOf}
 use Rattle.checker.proofs.Cases.{right-length, idle}
 
-module _ (f m l : List ℕ) (n : ℕ) (twelve : length l ≡ 12) (s : State) (is : s ≡ load l) where
+module _ (f m l : List ℕ) (n : ℕ) (long : length l ≡ 33) (s : State) (is : s ≡ load l) where
   by-state : grantBy f m l n s ≡ grantOf f m l n
-  by-state = ap (λ (t : State). grantBy f m l n t) is ∙ sym (right-length f m l n twelve)
+  by-state = ap (λ (t : State). grantBy f m l n t) is ∙ sym (right-length f m l n long)
 
   pub of-finished : finished (s .stage) ≡ true → (a : ℤ) → a ≡ answerOf (s .stage) → granted a 0 l m ≡ grantOf f m l n
   of-finished e a h = ap (λ (z : ℤ). granted z 0 l m) h ∙ sym (idle f m l n s (inl e)) ∙ by-state

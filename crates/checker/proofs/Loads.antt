@@ -1,20 +1,21 @@
 -- What a load makes of numbers, and of those of a save. Assumes nothing.
 use mathlib.Core.Path.{_≡_, refl, sym, ap, _∙_}
 use mathlib.Core.Bool.{Bool, true, false, cond, true≢false, _&&_}
-use mathlib.Core.List.{List, [], _∷_}
-use Prim.Native.Nat.{ℕ, suc, _-_}
+use mathlib.Core.List.{List, [], _∷_, _++_}
+use Prim.Native.Nat.{ℕ, suc, _+_, _-_}
 use native.Mathlib.Omega.{arith}
-use lib.ListN.{length, getD}
+use lib.ListN.{length, getD, length-append}
 use lib.Dec.{eqb, eqb·suc-zero}
-use borrow.Author.Tests.{eq-eqb, ne-eqb}
+use borrow.Author.Tests.{eq-eqb}
 use lib.IntN.{pos}
+use Rattle.walk.specs.declared.places.Levels.{Levels}
 use Rattle.walk.specs.declared.places.Walk as W
 use Rattle.walk.specs.declared.places.Walk.the-variants.{Start, Vars, Chain, Entry, Attrs, Entries, Unused}
 use Rattle.checker.specs.declared.state.Stage.{Stage}
 use Rattle.checker.specs.declared.state.Stage.the-variants.{Fresh, Sweep, Walking, Done, Strange}
 use Rattle.checker.specs.declared.state.State.{State}
 use Rattle.checker.specs.Step.{done, answerOf}
-use Rattle.checker.specs.Saved.{stateLength, saveStage, save, stageRange, stageBy, sameNumbers, checked, verdictRange, load}
+use Rattle.checker.specs.Saved.{stateLength, saveStage, levelsIn, saveLevels, save, stageRange, levelsBy, stageBy, begins, levelsFit, checked, verdictRange, load}
 use Rattle.checker.proofs.Outcomes.{at}
 use Rattle.checker.proofs.Passed.{both}
 use Rattle.checker.specs.Ready.{Told, Loaded}
@@ -23,15 +24,21 @@ use Rattle.checker.specs.Ready.{Told, Loaded}
 loaded-range : (n : ℕ) (g : Stage) → stageRange n g ≡ true → Loaded n g
 loaded-range n Fresh e = e
 loaded-range n (Sweep o) e = e
-loaded-range n (Walking w) e = e
+loaded-range n (Walking w up) e = e
 loaded-range n (Done v) e = absurd (true≢false (sym e))
 loaded-range n Strange e = tt
 
 checked-loaded : (s : List ℕ) (n : ℕ) (g : Stage) → Loaded n (checked s n g)
-checked-loaded s n g = go (stageRange n g && sameNumbers (saveStage n g) s) refl
+checked-loaded s n g = go (stageRange n g && same && fit) refl
   where
-    go : (b : Bool) → (stageRange n g && sameNumbers (saveStage n g) s) ≡ b → Loaded n (cond b g Strange)
-    go true e = loaded-range n g (both (stageRange n g) (sameNumbers (saveStage n g) s) e .0)
+    same : Bool
+    same = begins (saveStage n g) s
+
+    fit : Bool
+    fit = levelsFit (levelsBy s) g
+
+    go : (b : Bool) → (stageRange n g && same && fit) ≡ b → Loaded n (cond b g Strange)
+    go true e = loaded-range n g (both (stageRange n g) same (both (stageRange n g && same) fit e .0) .0)
     go false e = tt
 
 record IsLoaded (s : State) : Type 0 where
@@ -51,53 +58,53 @@ load-is l = go (eqb (getD l 0 0) 0) (verdictRange (getD l 0 0 - 1)) refl .loaded
     go false false e = record { loaded = tt }
 
 -- ---- of the numbers of a save it makes the state again
-same-refl : (l : List ℕ) → sameNumbers l l ≡ true
-same-refl [] = refl
-same-refl (x ∷ xs) = rw (eq-eqb x x refl, same-refl xs)
-
-checked-self : (s : List ℕ) (n : ℕ) (g : Stage) → stageRange n g ≡ true → saveStage n g ≡ s → checked s n g ≡ g
-checked-self s n g h e = rw (h, e, same-refl s)
+begins-own : (l r : List ℕ) → begins l (l ++ r) ≡ true
+begins-own [] r = refl
+begins-own (x ∷ xs) r = rw (eq-eqb x x refl, begins-own xs r)
 
 module _ (n : ℕ) where
-  abbrev self : (g : Stage) → stageRange n g ≡ true → _≡_ {A = State} (at n (checked (saveStage n g) n g)) (at n g)
-  self g h = ap (λ (x : Stage). at n x) (checked-self (saveStage n g) n g h refl)
+  abbrev saveBoth : Stage → List ℕ
+  saveBoth g = saveStage n g ++ saveLevels (levelsIn g)
 
-  load-walk : (w : W.Walk) → stageRange n (Walking w) ≡ true → load (saveStage n (Walking w)) ≡ at n (Walking w)
+  self : (g : Stage) → stageRange n g ≡ true → levelsFit (levelsBy (saveBoth g)) g ≡ true → _≡_ {A = State} (at n (checked (saveBoth g) n g)) (at n g)
+  self g h k = rw (h, begins-own (saveStage n g) (saveLevels (levelsIn g)), k)
+
+  load-walk : (w : W.Walk) (up : Levels) → stageRange n (Walking w up) ≡ true → load (saveBoth (Walking w up)) ≡ at n (Walking w up)
   unfolding load stageBy
-  load-walk Start h = self (Walking Start) h
-  load-walk (Vars k p i g) h = self (Walking (Vars k p i g)) h
-  load-walk (Chain u p x floor true) h = self (Walking (Chain u p x floor true)) h
-  load-walk (Chain u p x floor false) h = self (Walking (Chain u p x floor false)) h
-  load-walk (Entry u x i floor true) h = self (Walking (Entry u x i floor true)) h
-  load-walk (Entry u x i floor false) h = self (Walking (Entry u x i floor false)) h
-  load-walk (Attrs p i) h = self (Walking (Attrs p i)) h
-  load-walk (Entries k a i p e g) h = self (Walking (Entries k a i p e g)) h
-  load-walk (Unused p b) h = self (Walking (Unused p b)) h
+  load-walk Start up h = self (Walking Start up) h refl
+  load-walk (Vars k p i g) up h = self (Walking (Vars k p i g) up) h refl
+  load-walk (Chain u p x floor true) up h = self (Walking (Chain u p x floor true) up) h refl
+  load-walk (Chain u p x floor false) up h = self (Walking (Chain u p x floor false) up) h refl
+  load-walk (Entry u x i floor true) up h = self (Walking (Entry u x i floor true) up) h refl
+  load-walk (Entry u x i floor false) up h = self (Walking (Entry u x i floor false) up) h refl
+  load-walk (Attrs p i) up h = self (Walking (Attrs p i) up) h refl
+  load-walk (Entries k a i p e g) up h = self (Walking (Entries k a i p e g) up) h refl
+  load-walk (Unused p b) up h = self (Walking (Unused p b) up) h refl
 
-  load-done : (v : ℕ) → Told v → load (saveStage n (Done v)) ≡ done v
+  load-done : (v : ℕ) → Told v → load (saveBoth (Done v)) ≡ done v
   unfolding load
   load-done v t =
       let less : suc v - 1 ≡ v = omega arith in
       rw (eqb·suc-zero v, less, t .in-range)
 
-  load-stage : (g : Stage) → Loaded n g → load (saveStage n g) ≡ at n g
+  load-stage : (g : Stage) → Loaded n g → load (saveBoth g) ≡ at n g
   unfolding load stageBy
-  load-stage Fresh h = self Fresh h
-  load-stage (Sweep o) h = self (Sweep o) h
-  load-stage (Walking w) h = load-walk w h
+  load-stage Fresh h = self Fresh h refl
+  load-stage (Sweep o) h = self (Sweep o) h refl
+  load-stage (Walking w up) h = load-walk w up h
   load-stage (Done v) h = load-done v (h .1) ∙ ap (λ (k : ℕ). at k (Done v)) (sym (h .0))
   load-stage Strange h = refl
 
-  length-stage : (g : Stage) → length (saveStage n g) ≡ stateLength
+  length-stage : (g : Stage) → length (saveStage n g) ≡ 12
   length-stage Fresh = refl
   length-stage (Sweep o) = refl
-  length-stage (Walking Start) = refl
-  length-stage (Walking (Vars k p i g)) = refl
-  length-stage (Walking (Chain u p x floor c)) = refl
-  length-stage (Walking (Entry u x i floor c)) = refl
-  length-stage (Walking (Attrs p i)) = refl
-  length-stage (Walking (Entries k a i p e g)) = refl
-  length-stage (Walking (Unused p b)) = refl
+  length-stage (Walking Start up) = refl
+  length-stage (Walking (Vars k p i g) up) = refl
+  length-stage (Walking (Chain u p x floor c) up) = refl
+  length-stage (Walking (Entry u x i floor c) up) = refl
+  length-stage (Walking (Attrs p i) up) = refl
+  length-stage (Walking (Entries k a i p e g) up) = refl
+  length-stage (Walking (Unused p b) up) = refl
   length-stage (Done v) = refl
   length-stage Strange = refl
 
@@ -107,20 +114,22 @@ load-save s h = load-stage (s .length) (s .stage) h
 
 pub length-save : (s : State) → length (save s) ≡ stateLength
 unfolding save
-length-save s = length-stage (s .length) (s .stage)
+length-save s =
+    let g = s .stage in
+    length-append (saveStage (s .length) g) (saveLevels (levelsIn g)) ∙ ap (λ (k : ℕ). k + 21) (length-stage (s .length) g)
 
 -- ---- a finished check has a verdict that is never 21, and notes no length
 pub not-21 : (n : ℕ) (g : Stage) → Loaded n g → answerOf g ≡ pos 21 → ⊥
 not-21 n Fresh h e = let z : _≡_ {A = ℕ} 0 1 = cc in omega arith
 not-21 n (Sweep o) h e = let z : _≡_ {A = ℕ} 0 1 = cc in omega arith
-not-21 n (Walking w) h e = let z : _≡_ {A = ℕ} 0 1 = cc in omega arith
+not-21 n (Walking w up) h e = let z : _≡_ {A = ℕ} 0 1 = cc in omega arith
 not-21 n (Done v) h e = let z : v ≡ 21 = cc in true≢false (sym (rw z at (h .1 .in-range)))
 not-21 n Strange h e = let z : _≡_ {A = ℕ} 0 1 = cc in omega arith
 
 pub done-0 : (g : Stage) → answerOf g ≡ pos 0 → g ≡ Done 0
 done-0 Fresh e = cc
 done-0 (Sweep o) e = cc
-done-0 (Walking w) e = cc
+done-0 (Walking w up) e = cc
 done-0 (Done v) e = let z : v ≡ 0 = cc in rw z
 done-0 Strange e = cc
 

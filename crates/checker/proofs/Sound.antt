@@ -5,7 +5,7 @@ use mathlib.Core.Bool.{Bool, true, false, cond, not, true≢false, and-false, _&
 use mathlib.Core.List.{List}
 use Prim.Native.Nat.{ℕ, _+_, _≤_}
 use native.Mathlib.Omega.{arith}
-use lib.ListN.{length, length-set}
+use lib.ListN.{length, set, length-set}
 use lib.Dec.{ltb, leb, eqb}
 use borrow.Author.Tests.{leb-true, ltb-false, eqb-true, le-leb, le-ltb, eq-eqb, ne-eqb}
 use Rattle.format.specs.Fields.{endOf}
@@ -13,19 +13,23 @@ use Rattle.records.specs.Rules.{sizeAt}
 use Rattle.records.specs.Opening.{tooLong, magicsRight, whollyCompressed, cdrRight, singleFile, gdrAt, gdrRight, opening}
 use Rattle.marks.specs.Marks.{marked}
 use Rattle.walk.specs.Bounds.{VarKind, EntryKind, SmallVar, Within}
+use Rattle.walk.specs.Levels.{noLevels, roomBelow}
 use Rattle.walk.specs.Walk.{turnOf}
+use Rattle.walk.specs.declared.places.Levels.{Levels}
 use Rattle.walk.specs.declared.places.Var.{Var}
 use Rattle.walk.specs.declared.places.Walk as W
 use Rattle.walk.specs.declared.places.Walk.the-variants.{Start, Vars, Chain, Entry, Attrs, Entries, Unused}
 use Rattle.walk.specs.declared.places.Turn as T
-use Rattle.walk.specs.declared.places.Turn.the-variants.{Over, End, Take}
+use Rattle.walk.specs.declared.places.Turn.the-variants.{Over, End, Take, Down, Up}
 use Rattle.walk.proofs.Closed.{NextWithin, within-turn}
 use Rattle.checker.specs.declared.state.Stage.{Stage}
 use Rattle.checker.specs.declared.state.Stage.the-variants.{Fresh, Sweep, Walking, Done, Strange}
 use Rattle.checker.specs.declared.state.State.{State}
 use Rattle.checker.specs.Step.{Conf, conf, Run, fresh, finished, stepOf, runOf}
-use Rattle.checker.specs.Saved.{save, lengthRange, offsetRange, linkRange, countRange, varRange, walkRange}
+use Rattle.checker.specs.Saved.{save, lengthRange, offsetRange, linkRange, countRange, varRange, walkRange, levelsThere, levelList, levelsRange}
 use Rattle.checker.specs.Grant.{otherFile, worked, grantBy, grantOf}
+use Rattle.checker.proofs.Placed.{NextPlaced, placed-turn}
+use Rattle.checker.proofs.Above.{Above, top-above, range-above, above-range, pushed-there, popped-there, levels-small}
 use Rattle.checker.proofs.Outcomes.{TurnGoes, Goes, step-by}
 use Rattle.checker.proofs.Passed.{both, opened, tiled, marked-length}
 use Rattle.checker.proofs.Runs.{run-none, run-over, run-keeps}
@@ -165,7 +169,7 @@ Noted f n m = (n ≡ length f) × (372 ≤ length f) × (length f ≤ 2147483647
 abbrev pub SoundBy : (ℕ → List ℕ → Type 0) → List ℕ → ℕ → List ℕ → Stage → Type 0
 SoundBy Odd f n m Fresh = n ≡ 0
 SoundBy Odd f n m (Sweep o) = Noted f n m × (8 ≤ o) × (o ≤ 2147483647)
-SoundBy Odd f n m (Walking w) = Noted f n m × Within w
+SoundBy Odd f n m (Walking w up) = Noted f n m × Within w × Above up w
 SoundBy Odd f n m (Done v) = (n ≡ 0) × Told v
 SoundBy Odd f n m Strange = Odd n m
 
@@ -202,13 +206,26 @@ module _ (Odd : ℕ → List ℕ → Type 0) (f : List ℕ) where
       n : ℕ
       n = c .state .length
 
-      turn : (t : T.Turn) → Noted f n m → NextWithin t → TurnGoes (Sound Odd f) f m n t
-      turn (Over v w) a b = record { sound = (a, b) }
-      turn (End v) a b = tt
-      turn (Take early t typed late w) a b = λ e. record { sound = ((a .0, a .1, a .2, rw (length-set m t 2) (a .3)), b) }
+      claimed : (t : ℕ) → Noted f n m → Noted f n (set m t 2)
+      claimed t a = (a .0, a .1, a .2, rw (length-set m t 2) (a .3))
 
-      swept : (m : List ℕ) (o : ℕ) → Noted f n m → 8 ≤ o → o ≤ 2147483647 → (b : Bool) → SoundBy Odd f n m (cond b (Walking Start) (Sweep o))
-      swept m o a b d true = (a, record { kinds = tt; small = tt })
+      turn : (up : Levels) (t : T.Turn)
+          → Noted f n m
+          → levelsThere (levelList up) ≡ true
+          → NextWithin t
+          → NextPlaced (up .a) t
+          → TurnGoes (Sound Odd f) f m n up t
+      turn up (Over w v) a e b p = record { sound = (a, b, record { there = e; placed = p }) }
+      turn up (End v) a e b p = tt
+      turn up (Take w early t typed late) a e b p =
+          λ x. record { sound = (claimed t a, b, record { there = e; placed = p (x .early-passed) (x .late-passed) }) }
+      turn up (Down w t typed l) a e b p =
+          λ x. record { sound = (claimed t a, b .0, record { there = pushed-there up l (b .1) (b .2) e; placed = p }) }
+      turn up (Up w) a e b p = record { sound = (a, b, record { there = popped-there up e; placed = p (up .b) }) }
+
+      swept : (m : List ℕ) (o : ℕ) → Noted f n m → 8 ≤ o → o ≤ 2147483647 → (b : Bool)
+          → SoundBy Odd f n m (cond b (Walking Start noLevels) (Sweep o))
+      swept m o a b d true = (a, record { kinds = tt; small = tt }, top-above)
       swept m o a b d false = (a, b, d)
 
       goes : (s : Stage) → SoundBy Odd f n m s → Goes (Sound Odd f) f m n s
@@ -223,7 +240,12 @@ module _ (Odd : ℕ → List ℕ → Type 0) (f : List ℕ) where
           let next = o + sizeAt f o in
           let noted : Noted f n (marked m o (sizeAt f o)) = (a .0, a .1, a .2, rw l (a .3)) in
           record { sound = swept (marked m o (sizeAt f o)) next noted (omega arith) (omega arith) (eqb next (endOf f)) }
-      goes (Walking w) g = turn (turnOf f w) (g .0) (within-turn f w (g .1) .next-within)
+      goes (Walking w up) g =
+          let near = up .a in
+          let room = roomBelow up in
+          let there = g .2 .there in
+          turn up (turnOf f up w) (g .0) there
+          (within-turn f near room w (levels-small up there .0) (g .1) .next-within) (placed-turn f near room w (g .2 .placed) .next-placed)
       goes (Done v) g = tt
       goes Strange g = tt
 
@@ -237,7 +259,7 @@ module _ (Odd : ℕ → List ℕ → Type 0) (f : List ℕ) where
   sound-stage : (n : ℕ) (m : List ℕ) (s : Stage) → SoundBy Odd f n m s → Loaded n s
   sound-stage n m Fresh h = rw h
   sound-stage n m (Sweep o) h = rw (in-length n m (h .0), le-leb 8 o (h .1), le-leb o 2147483647 (h .2))
-  sound-stage n m (Walking w) h = rw (in-length n m (h .0)) (in-range w (h .1))
+  sound-stage n m (Walking w up) h = rw (in-length n m (h .0), in-range w (h .1)) (above-range up w (h .2))
   sound-stage n m (Done v) h = h
   sound-stage n m Strange h = tt
 
@@ -272,7 +294,10 @@ module _ (f : List ℕ) where
       let p = both (lengthRange n && leb 8 o) (offsetRange o) h in
       let q = both (lengthRange n) (leb 8 o) (p .0) in
       (noted-lent n m (q .0) e, leb-true 8 o (q .1), leb-true o 2147483647 (p .1))
-  loaded-by n m (Walking w) h e = let p = both (lengthRange n) (walkRange w) h in (noted-lent n m (p .0) e, range-within w (p .1))
+  loaded-by n m (Walking w up) h e =
+      let p = both (lengthRange n && walkRange w) (levelsRange up w) h in
+      let q = both (lengthRange n) (walkRange w) (p .0) in
+      (noted-lent n m (q .0) e, range-within w (q .1), range-above up w (p .1))
   loaded-by n m (Done v) h e = h
   loaded-by n m Strange h e = e
 
@@ -288,7 +313,7 @@ module _ (f : List ℕ) where
   unfolding otherFile
   sound-own n m Fresh h = rw h
   sound-own n m (Sweep o) h = noted-own n m (h .0)
-  sound-own n m (Walking w) h = noted-own n m (h .0)
+  sound-own n m (Walking w up) h = noted-own n m (h .0)
   sound-own n m (Done v) h = rw (h .0)
   sound-own n m Strange h = h
 

@@ -6,23 +6,25 @@ use Prim.Native.Nat.{ℕ, zero, suc, _+_, _-_, _*_}
 use lib.ListN.{length}
 use lib.Dec.{ltb, leb, eqb}
 use lib.IntN.{ℤ, pos, negsuc}
-use Rattle.format.specs.Fields.{endOf, isAt, sameAt, inOrder, linkAt, bitAt, before}
+use Rattle.format.specs.Fields.{endOf, isAt, sameAt, linkAt, bitAt, before}
 use Rattle.records.specs.Rules.{sizeAt, reachOf, judged}
 use Rattle.records.specs.Opening.{tooLong, whollyCompressed, cdrRight, singleFile, gdrAt, gdrRight, magicsRight, opening}
 use Rattle.records.specs.Tiles.{tileRight, typeUncarried, tile}
 use Rattle.records.specs.Attributes.{adrRight, adrRule, aedrRight, aedrRule}
-use Rattle.records.specs.Index.{entriesAt, firstPlace, lastPlace, offsetPlace, rises, rangeNumber, entryOf, vxrRight, vxrRule, vvrRule}
+use Rattle.records.specs.Index.{entriesAt, firstPlace, lastPlace, offsetPlace, rises, closes, rangeNumber, entryOf, indexAt, vxrRight, vxrRule, vvrRule}
 use Rattle.records.specs.Unused.{uirRule}
 use Rattle.records.specs.declared.index.Entry as E
 use Rattle.variables.specs.declared.vdr.Variable.{Variable}
 use Rattle.variables.specs.declared.vdr.Layout.{Layout}
 use Rattle.variables.specs.Vdr.{carriedOf, vdrFields, headOf, countPlace, countRight, layoutOf, sizeExact, dimensionsRight, recordBytes, vdrFault, dimensioned, variableOf}
 use Rattle.walk.specs.Numbers.{first, unless}
-use Rattle.walk.specs.Walk.{typeNumber, followed, gdrNamed, fieldNumber, tallied, tallyPlace, numNumber, varsTally, varNumber, chainTally, valuesNumber, attrNumber, entriesTally, entryNumber, unusedNumber, turnOf}
+use Rattle.walk.specs.Walk.{typeNumber, followed, gdrNamed, fieldNumber, tallied, tallyPlace, numNumber, varsTally, varNumber, chainTally, valuesNumber, lowerNumber, attrNumber, entriesTally, entryNumber, unusedNumber, turnBy}
+use Rattle.walk.specs.Levels.{isNone, mostOf}
+use Rattle.walk.specs.declared.places.Level.{Level}
 use Rattle.walk.specs.declared.places.Walk as W
 use Rattle.walk.specs.declared.places.Walk.the-variants.{Start, Vars, Chain, Entry, Attrs, Entries, Unused}
 use Rattle.walk.specs.declared.places.Turn as T
-use Rattle.walk.specs.declared.places.Turn.the-variants.{Over, End, Take}
+use Rattle.walk.specs.declared.places.Turn.the-variants.{Over, End, Take, Down, Up}
 use Rattle.marks.specs.Marks.{unclaimedAt, followedAt, leftFrom, leftOf}
 use Rattle.checker.specs.Ready.{Told}
 use Rattle.checker.specs.Step.{openNumber}
@@ -56,6 +58,9 @@ told-14 = record { in-range = refl }
 pub told-20 : Told 20
 told-20 = record { in-range = refl }
 
+told-23 : Told 23
+told-23 = record { in-range = refl }
+
 told-unless : (v : ℕ) (b : Bool) → Told v → Told (unless v b)
 told-unless v b h = told-cond b told-0 h
 
@@ -82,23 +87,23 @@ record ToldEntry (e : E.Entry) : Type 0 where
 
 -- the numbers of a step of the walk
 abbrev pub TurnNumbers : T.Turn → Type 0
-TurnNumbers (Over v w) = Told v
+TurnNumbers (Over w v) = Told v
 TurnNumbers (End v) = Told v
-TurnNumbers (Take early t typed late w) = Told early × Told typed × Told late
+TurnNumbers (Take w early t typed late) = Told early × Told typed × Told late
+TurnNumbers (Down w t typed l) = Told typed
+TurnNumbers (Up w) = Unit {0}
 
 pub record TurnTold (t : T.Turn) : Type 0 where
   pub told : TurnNumbers t
 
-over-told : {v : ℕ} {w : W.Walk} → Told v → TurnTold (Over v w)
+over-told : {v : ℕ} {w : W.Walk} → Told v → TurnTold (Over w v)
 over-told h = record { told = h }
 
 end-told : {v : ℕ} → Told v → TurnTold (End v)
 end-told h = record { told = h }
 
-take-told : {early t typed late : ℕ} {w : W.Walk} → Told early → Told typed → Told late → TurnTold (Take early t typed late w)
+take-told : {early t typed late : ℕ} {w : W.Walk} → Told early → Told typed → Told late → TurnTold (Take w early t typed late)
 take-told a b c = record { told = (a, b, c) }
-
--- what the three ways of a link have, following it has
 
 module _ (f : List ℕ) where
   told-opening : Told (opening f)
@@ -202,21 +207,27 @@ module _ (f : List ℕ) where
       told-first (reachOf f (e .link) 8 ∷ v .fault ∷ vvrRule f (e .link) (e .last - e .first + 1) (v .bytes) ∷ [])
       (told-reach (e .link) 8, (h .told, (told-vvr (e .link) (e .last - e .first + 1) (v .bytes), tt)))
 
-  told-range : (first last offset floor : ℕ) → Told (rangeNumber f first last offset floor)
+  told-range : (first last offset floor most : ℕ) → Told (rangeNumber f first last offset floor most)
   unfolding rangeNumber
-  told-range first last offset floor =
+  told-range first last offset floor most =
       told-cond (rises f first floor)
-      (told-cond (ltb (endOf f) (last + 4)) told-20 (told-cond (inOrder f first last) (told-cond (ltb (endOf f) (offset + 4)) told-20 told-0) told-12))
+      (told-cond (ltb (endOf f) (last + 4)) told-20 (told-cond (closes f first last most) (told-cond (ltb (endOf f) (offset + 4)) told-20 told-0) told-12))
       told-12
 
-  told-entry : (x i floor : ℕ) → ToldEntry (entryOf f x i floor)
+  told-entry : (x i floor most : ℕ) → ToldEntry (entryOf f x i floor most)
   unfolding entryOf
-  told-entry x i floor =
+  told-entry x i floor most =
       let first = firstPlace x i in
       let last = lastPlace x (entriesAt f x) i in
       let offset = offsetPlace x (entriesAt f x) i in
       cond-keeps ToldEntry (ltb (endOf f) (first + 4)) (record { told = told-20 })
-      (cond-keeps ToldEntry (eqb (rangeNumber f first last offset floor) 0) (record { told = told-0 }) (record { told = told-range first last offset floor }))
+      (cond-keeps ToldEntry (eqb (rangeNumber f first last offset floor most) 0)
+      (record { told = told-0 }) (record { told = told-range first last offset floor most }))
+
+  told-lower : (o : ℕ) → Told (lowerNumber f o)
+  unfolding lowerNumber
+  told-lower o =
+      told-first (vxrRule f o ∷ unless 11 (isAt f (o + 8) (pos 0)) ∷ []) (told-vxr o, (told-unless 11 (isAt f (o + 8) (pos 0)) told-11, tt))
 
   -- ---- attributes and unused records
   told-attr : (n o : ℕ) → Told (attrNumber f n o)
@@ -257,28 +268,36 @@ module _ (f : List ℕ) where
   told-last m v h = told-first (v ∷ leftOf f m ∷ []) (h, (told-left m (length f) 8, tt))
 
   -- ---- a step of the walk
-  pub told-turn : (w : W.Walk) → TurnTold (turnOf f w)
-  unfolding turnOf followed
-  told-turn Start =
+  pub told-turn : (near : Level) (room : Bool) (w : W.Walk) → TurnTold (turnBy f near room w)
+  unfolding turnBy followed
+  told-turn near room Start =
       cond-keeps TurnTold (gdrNamed f) (take-told told-0 (told-type (gdrAt f) (pos 2)) told-0) (end-told told-20)
-  told-turn (Vars k p n greatest) =
+  told-turn near room (Vars k p n greatest) =
       link-keeps f TurnTold p (end-told told-20)
       (cond-keeps TurnTold (gdrNamed f) (over-told (told-vars k n greatest)) (end-told told-20))
       (take-told told-0 (told-type (linkAt f p) (pos k)) (told-var k n (linkAt f p)))
-  told-turn (Chain u p x floor covered) =
+  told-turn near room (Chain u p x floor covered) =
       link-keeps f TurnTold p (end-told told-20)
-      (over-told (told-chain (u .vdr) x covered))
-      (take-told told-0 (told-type (linkAt f p) (pos 6)) (told-vxr (linkAt f p)))
-  told-turn (Entry u x i floor covered) =
-      let e = entryOf f x i floor in
-      take-told (told-entry x i floor .told) (told-type (e .link) (pos 7)) (told-values (variableOf f (u .kind) (u .vdr)) e (told-variable (u .kind) (u .vdr)))
-  told-turn (Attrs p n) =
+      (cond-keeps TurnTold (isNone near) (over-told (told-chain (u .vdr) x covered))
+      (cond-keeps TurnTold (ltb (endOf f) (near .vxr + 20)) (end-told told-20) (record { told = tt })))
+      (cond-keeps TurnTold (isNone near)
+      (take-told told-0 (told-type (linkAt f p) (pos 6)) (told-vxr (linkAt f p))) (end-told told-11))
+  told-turn near room (Entry u x i floor covered) =
+      let e = entryOf f x i floor (mostOf near) in
+      let fault = told-entry x i floor (mostOf near) .told in
+      let deep = told-unless 23 room told-23 in
+      cond-keeps TurnTold (indexAt f (e .link))
+      (cond-keeps TurnTold (eqb (e .fault) 0 && eqb (lowerNumber f (e .link)) 0)
+      (record { told = deep }) (take-told fault deep (told-lower (e .link))))
+      (take-told fault (told-type (e .link) (pos 7))
+      (told-values (variableOf f (u .kind) (u .vdr)) e (told-variable (u .kind) (u .vdr))))
+  told-turn near room (Attrs p n) =
       link-keeps f TurnTold p (end-told told-20)
       (cond-keeps TurnTold (gdrNamed f) (over-told (told-field (gdrAt f + 28) (pos n))) (end-told told-20))
       (take-told told-0 (told-type (linkAt f p) (pos 4)) (told-attr n (linkAt f p)))
-  told-turn (Entries k a n p e greatest) =
+  told-turn near room (Entries k a n p e greatest) =
       link-keeps f TurnTold p (end-told told-20) (over-told (told-entries k a e greatest))
       (take-told told-0 (told-type (linkAt f p) (pos k)) (told-aedr a (linkAt f p)))
-  told-turn (Unused p b) =
+  told-turn near room (Unused p b) =
       link-keeps f TurnTold p (end-told told-20) (end-told told-0)
       (take-told told-0 (told-type (linkAt f p) (negsuc 0)) (told-unused b (linkAt f p)))

@@ -5,17 +5,25 @@ use lib.ListN.{length}
 use mathlib.Core.Path.{_≡_}
 use mathlib.Core.Bool.{true, cond}
 use lib.Dec.{eqb}
-use Rattle.walk.specs.Bounds.{Within}
+use Rattle.walk.specs.Bounds.{Within, SmallLevels}
+use Rattle.walk.specs.declared.places.Levels.{Levels}
 use Rattle.walk.specs.declared.places.Walk as W
-use Rattle.checker.specs.Step.{done}
+use Rattle.checker.specs.Step.{done, walking}
 use Rattle.checker.specs.Saved.{stageRange, verdictRange}
 use Rattle.checker.specs.declared.state.State.{State}
+use Rattle.checker.specs.declared.state.Went.{Went}
+use Rattle.checker.specs.declared.state.Went.the-variants.{On, Over}
 use Rattle.checker.specs.declared.state.Stage.{Stage}
 use Rattle.checker.specs.declared.state.Stage.the-variants.{Fresh, Sweep, Walking, Done, Strange}
 
+-- where a step of the walk leaves a check that has noted the length n, with the levels after it
+abbrev pub wentTo : ℕ → Levels → Went → State
+wentTo n up (On w) = walking n w up
+wentTo n up (Over v) = done v
+
 -- a list that is over: refused with v, or on to the next link
-abbrev pub overTo : ℕ → ℕ → W.Walk → State
-overTo n v w = cond (eqb v 0) (record { length = n; stage = Walking w }) (done v)
+abbrev pub overTo : ℕ → W.Walk → Went
+overTo v w = cond (eqb v 0) (On w) (Over v)
 
 -- the file is one that an opening lets pass, and the marks are long enough
 pub record Lent (f m : List ℕ) : Type 0 where
@@ -25,16 +33,16 @@ pub record Lent (f m : List ℕ) : Type 0 where
 abbrev pub Ready : List ℕ → List ℕ → Stage → Type 0
 Ready f m Fresh = Unit {0}
 Ready f m (Sweep o) = Lent f m
-Ready f m (Walking w) = Lent f m × Within w
-Ready f m (Done v) = v ≤ 20
+Ready f m (Walking w up) = Lent f m × Within w × SmallLevels up
+Ready f m (Done v) = v ≤ 23
 Ready f m Strange = Unit {0}
 
--- a verdict is a number of the table
+-- a bound of the verdicts, so that verdict + 1 can be saved; Told says which they are
 abbrev pub VerdictFits : Stage → Type 0
 VerdictFits Fresh = Unit {0}
 VerdictFits (Sweep o) = Unit {0}
-VerdictFits (Walking w) = Unit {0}
-VerdictFits (Done v) = v ≤ 20
+VerdictFits (Walking w up) = Unit {0}
+VerdictFits (Done v) = v ≤ 23
 VerdictFits Strange = Unit {0}
 
 -- a verdict that a saved state may tell
@@ -45,6 +53,6 @@ pub record Told (v : ℕ) : Type 0 where
 abbrev pub Loaded : ℕ → Stage → Type 0
 Loaded n Fresh = stageRange n Fresh ≡ true
 Loaded n (Sweep o) = stageRange n (Sweep o) ≡ true
-Loaded n (Walking w) = stageRange n (Walking w) ≡ true
+Loaded n (Walking w up) = stageRange n (Walking w up) ≡ true
 Loaded n (Done v) = (n ≡ 0) × Told v
 Loaded n Strange = Unit {0}

@@ -1,9 +1,12 @@
--- The saved state: twelve numbers, their ranges, load and save; docs/STATE.md gives them in words. Assumes nothing.
+-- The saved state: thirty-three numbers, their ranges, load and save; docs/STATE.md gives them in words. Assumes nothing.
 use Prim.Native.Nat.{ℕ, suc, _+_, _-_}
 use mathlib.Core.Bool.{Bool, true, false, cond, _&&_, _||_}
-use mathlib.Core.List.{List, [], _∷_}
+use mathlib.Core.List.{List, [], _∷_, _++_}
 use lib.ListN.{length, getD}
 use lib.Dec.{leb, eqb}
+use Rattle.walk.specs.Levels.{noLevels}
+use Rattle.walk.specs.declared.places.Level.{Level}
+use Rattle.walk.specs.declared.places.Levels.{Levels}
 use Rattle.walk.specs.declared.places.Var.{Var}
 use Rattle.walk.specs.declared.places.Walk as W
 use Rattle.walk.specs.declared.places.Walk.the-variants.{Start, Vars, Chain, Entry, Attrs, Entries, Unused}
@@ -14,7 +17,7 @@ use Rattle.checker.specs.Step.{done}
 
 -- how many numbers a saved state has
 abbrev pub stateLength : ℕ
-stateLength = 12
+stateLength = 33
 
 abbrev pub bit : Bool → ℕ
 bit b = cond b 1 0
@@ -29,15 +32,32 @@ saveWalk l (Attrs p n) = 0 ∷ l ∷ 6 ∷ 0 ∷ p ∷ n ∷ 0 ∷ 0 ∷ 0 ∷ 0
 saveWalk l (Entries k a n p e g) = 0 ∷ l ∷ 7 ∷ k ∷ p ∷ n ∷ 0 ∷ a ∷ 0 ∷ e ∷ g ∷ 0 ∷ []
 saveWalk l (Unused p b) = 0 ∷ l ∷ 8 ∷ 0 ∷ p ∷ 0 ∷ 0 ∷ 0 ∷ b ∷ 0 ∷ 0 ∷ 0 ∷ []
 
+-- the first twelve numbers
 abbrev pub saveStage : ℕ → Stage → List ℕ
 saveStage l Fresh = 0 ∷ l ∷ 0 ∷ 0 ∷ 0 ∷ 0 ∷ 0 ∷ 0 ∷ 0 ∷ 0 ∷ 0 ∷ 0 ∷ []
 saveStage l (Sweep o) = 0 ∷ l ∷ 1 ∷ 0 ∷ o ∷ 0 ∷ 0 ∷ 0 ∷ 0 ∷ 0 ∷ 0 ∷ 0 ∷ []
-saveStage l (Walking w) = saveWalk l w
+saveStage l (Walking w up) = saveWalk l w
 saveStage l (Done v) = suc v ∷ l ∷ 0 ∷ 0 ∷ 0 ∷ 0 ∷ 0 ∷ 0 ∷ 0 ∷ 0 ∷ 0 ∷ 0 ∷ []
 saveStage l Strange = 0 ∷ l ∷ 9 ∷ 0 ∷ 0 ∷ 0 ∷ 0 ∷ 0 ∷ 0 ∷ 0 ∷ 0 ∷ 0 ∷ []
 
+-- the index records above the one that is walked; elsewhere there is none
+abbrev pub levelsIn : Stage → Levels
+levelsIn Fresh = noLevels
+levelsIn (Sweep o) = noLevels
+levelsIn (Walking w up) = up
+levelsIn (Done v) = noLevels
+levelsIn Strange = noLevels
+
+abbrev pub saveLevel : Level → List ℕ
+saveLevel l = l .vxr ∷ l .next ∷ l .last ∷ []
+
+-- the other twenty-one: three a level, the nearest first
+abbrev pub saveLevels : Levels → List ℕ
+saveLevels s =
+    saveLevel (s .a) ++ (saveLevel (s .b) ++ (saveLevel (s .c) ++ (saveLevel (s .d) ++ (saveLevel (s .e) ++ (saveLevel (s .f) ++ saveLevel (s .g))))))
+
 unfoldable pub save : State → List ℕ
-save s = saveStage (s .length) (s .stage)
+save s = saveStage (s .length) (s .stage) ++ saveLevels (levelsIn (s .stage))
 
 -- ---- ranges
 -- a length that an opening notes; an offset, a place in a list or an entry; where a link stands; a count, or a number + 1
@@ -65,10 +85,39 @@ walkRange (Attrs p n) = linkRange p && countRange n
 walkRange (Entries k a n p e g) = (eqb k 5 || eqb k 9) && offsetRange a && offsetRange n && linkRange p && countRange e && countRange g
 walkRange (Unused p b) = linkRange p && offsetRange b
 
+-- a level that is there; one that is not
+abbrev pub levelThere : Level → Bool
+levelThere l = offsetRange (l .vxr) && leb 1 (l .next) && countRange (l .next) && offsetRange (l .last)
+
+abbrev pub noneThere : Level → Bool
+noneThere l = eqb (l .vxr) 0 && eqb (l .next) 0 && eqb (l .last) 0
+
+abbrev pub levelList : Levels → List Level
+levelList s = s .a ∷ s .b ∷ s .c ∷ s .d ∷ s .e ∷ s .f ∷ s .g ∷ []
+
+abbrev pub noneOf : List Level → Bool
+noneOf [] = true
+noneOf (l ∷ ls) = noneThere l && noneOf ls
+
+-- "After a level that is not there none is there"
+abbrev pub levelsThere : List Level → Bool
+levelsThere [] = true
+levelsThere (l ∷ ls) = (levelThere l && levelsThere ls) || noneOf (l ∷ ls)
+
+-- levels stand above an index record alone
+abbrev pub levelsRange : Levels → W.Walk → Bool
+levelsRange up Start = noneOf (levelList up)
+levelsRange up (Vars k p n g) = noneOf (levelList up)
+levelsRange up (Chain u p x floor c) = levelsThere (levelList up)
+levelsRange up (Entry u x i floor c) = levelsThere (levelList up)
+levelsRange up (Attrs p n) = noneOf (levelList up)
+levelsRange up (Entries k a n p e g) = noneOf (levelList up)
+levelsRange up (Unused p b) = noneOf (levelList up)
+
 abbrev pub stageRange : ℕ → Stage → Bool
 stageRange l Fresh = eqb l 0
 stageRange l (Sweep o) = lengthRange l && leb 8 o && offsetRange o
-stageRange l (Walking w) = lengthRange l && walkRange w
+stageRange l (Walking w up) = lengthRange l && walkRange w && levelsRange up w
 stageRange l (Done v) = false
 stageRange l Strange = false
 
@@ -77,39 +126,66 @@ stageRange l Strange = false
 abbrev pub varBy : List ℕ → Var
 varBy s = record { kind = getD s 3 0; vdr = getD s 7 0; place = getD s 5 0; greatest = getD s 6 0 }
 
+-- the levels
+abbrev pub levelBy : List ℕ → ℕ → Level
+levelBy s p = record { vxr = getD s p 0; next = getD s (p + 1) 0; last = getD s (p + 2) 0 }
+
+abbrev pub levelsBy : List ℕ → Levels
+levelsBy s =
+    record {
+      a = levelBy s 12;
+      b = levelBy s 15;
+      c = levelBy s 18;
+      d = levelBy s 21;
+      e = levelBy s 24;
+      f = levelBy s 27;
+      g = levelBy s 30;
+    }
+
+abbrev pub walkingBy : List ℕ → W.Walk → Stage
+walkingBy s w = Walking w (levelsBy s)
+
 -- the place of the walk in a list, by the phase
 abbrev pub laterBy : List ℕ → ℕ → Stage
 laterBy s phase =
-    cond (eqb phase 6) (Walking (Attrs (getD s 4 0) (getD s 5 0)))
-    (cond (eqb phase 7) (Walking (Entries (getD s 3 0) (getD s 7 0) (getD s 5 0) (getD s 4 0) (getD s 9 0) (getD s 10 0)))
-    (cond (eqb phase 8) (Walking (Unused (getD s 4 0) (getD s 8 0))) Strange))
+    cond (eqb phase 6) (walkingBy s (Attrs (getD s 4 0) (getD s 5 0)))
+    (cond (eqb phase 7) (walkingBy s (Entries (getD s 3 0) (getD s 7 0) (getD s 5 0) (getD s 4 0) (getD s 9 0) (getD s 10 0)))
+    (cond (eqb phase 8) (walkingBy s (Unused (getD s 4 0) (getD s 8 0))) Strange))
 
 abbrev pub listBy : List ℕ → ℕ → Stage
 listBy s phase =
-    cond (eqb phase 3) (Walking (Vars (getD s 3 0) (getD s 4 0) (getD s 5 0) (getD s 6 0)))
-    (cond (eqb phase 4) (Walking (Chain (varBy s) (getD s 4 0) (getD s 8 0) (getD s 10 0) (eqb (getD s 11 0) 1)))
-    (cond (eqb phase 5) (Walking (Entry (varBy s) (getD s 8 0) (getD s 9 0) (getD s 10 0) (eqb (getD s 11 0) 1)))
+    cond (eqb phase 3) (walkingBy s (Vars (getD s 3 0) (getD s 4 0) (getD s 5 0) (getD s 6 0)))
+    (cond (eqb phase 4) (walkingBy s (Chain (varBy s) (getD s 4 0) (getD s 8 0) (getD s 10 0) (eqb (getD s 11 0) 1)))
+    (cond (eqb phase 5) (walkingBy s (Entry (varBy s) (getD s 8 0) (getD s 9 0) (getD s 10 0) (eqb (getD s 11 0) 1)))
     (laterBy s phase)))
 
 -- the stage that the numbers would be, by their phase; a number that has no place in a stage is not looked at here
 unfoldable pub stageBy : List ℕ → ℕ → Stage
-stageBy s phase = cond (eqb phase 0) Fresh (cond (eqb phase 1) (Sweep (getD s 4 0)) (cond (eqb phase 2) (Walking Start) (listBy s phase)))
+stageBy s phase = cond (eqb phase 0) Fresh (cond (eqb phase 1) (Sweep (getD s 4 0)) (cond (eqb phase 2) (walkingBy s Start) (listBy s phase)))
 
-abbrev pub sameNumbers : List ℕ → List ℕ → Bool
-sameNumbers [] [] = true
-sameNumbers [] (y ∷ ys) = false
-sameNumbers (x ∷ xs) [] = false
-sameNumbers (x ∷ xs) (y ∷ ys) = eqb x y && sameNumbers xs ys
+-- s begins with the numbers of xs
+abbrev pub begins : List ℕ → List ℕ → Bool
+begins [] s = true
+begins (x ∷ xs) [] = false
+begins (x ∷ xs) (y ∷ ys) = eqb x y && begins xs ys
+
+-- a stage that is no walk has no levels
+abbrev pub levelsFit : Levels → Stage → Bool
+levelsFit up Fresh = noneOf (levelList up)
+levelsFit up (Sweep o) = noneOf (levelList up)
+levelsFit up (Walking w ls) = true
+levelsFit up (Done v) = true
+levelsFit up Strange = true
 
 -- the numbers are those of that stage: each in its range, and those without a place in it 0
 abbrev pub checked : List ℕ → ℕ → Stage → Stage
-checked s l g = cond (stageRange l g && sameNumbers (saveStage l g) s) g Strange
+checked s l g = cond (stageRange l g && begins (saveStage l g) s && levelsFit (levelsBy s) g) g Strange
 
--- "finished": the verdict number alone says so, 0 to 14 and 20
+-- "finished": the verdict number alone says so, 0 to 14, 20 and 23
 abbrev pub verdictRange : ℕ → Bool
-verdictRange v = leb v 14 || eqb v 20
+verdictRange v = leb v 14 || eqb v 20 || eqb v 23
 
--- twelve numbers as a state
+-- thirty-three numbers as a state
 unfoldable pub load : List ℕ → State
 load s =
     cond (eqb (getD s 0 0) 0) (record { length = getD s 1 0; stage = checked s (getD s 1 0) (stageBy s (getD s 2 0)) })

@@ -16,7 +16,7 @@ fn answer(g: Stage) -> i32
     match g {
         Stage::Fresh => -1,
         Stage::Sweep { at: _ } => -1,
-        Stage::Walking { walk: _ } => -1,
+        Stage::Walking { walk: _, up: _ } => -1,
         Stage::Done { verdict } => verdict as i32,
         Stage::Strange => -1,
     }
@@ -30,12 +30,12 @@ fn other_file(f: &[u8], m: &[u8], noted: u32) -> bool
     (n != 0) & ((n != f.len()) | (m.len() < n))
 }
 
-// A fresh state of 12 numbers, and -1, as no check has a verdict yet; or 20, and nothing changed, where there are not 12.
+// A fresh state of 33 numbers, and -1, as no check has a verdict yet; or 20, and nothing changed, where there are not 33.
 #[no_mangle]
 pub extern "C" fn tlz_check_begin(state: &mut [u32]) -> i32
     ensures { λ r. ⌜ begun r (now (state .exit)) ≡ beginOf (now (state .entry)) ⌝ }
 {
-    if state.len() != 12 {
+    if state.len() != 33 {
         return 20;
     }
     let fresh = State {
@@ -59,7 +59,7 @@ pub extern "C" fn tlz_check_grant(
         ≡ grantOf (now (file .entry)) (now (marks .entry)) (now (state .entry)) grant ⌝ }
 {
     *steps = 0;
-    if state.len() != 12 {
+    if state.len() != 33 {
         return 20;
     }
     let s = saved::load_state(state);

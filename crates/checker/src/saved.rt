@@ -1,12 +1,16 @@
-// The saved state: twelve numbers.
+// The saved state: thirty-three numbers.
 ghost use mathlib.Core.Path.{_≡_};
-ghost use lib.ListN.{length};
+ghost use mathlib.Core.List.{_++_};
+ghost use Prim.Native.Nat.{_+_, _≤_};
+ghost use lib.ListN.{length, take};
 ghost use Rattle.checker.specs.Ready.{VerdictFits};
-ghost use Rattle.checker.specs.declared.state.Stage.the-variants.{Walking};
-ghost use Rattle.checker.specs.Saved.{bit, saveWalk, saveStage, save, varRange, walkRange, stageRange, varBy, laterBy, listBy, stageBy, sameNumbers, checked, load};
+ghost use Rattle.checker.specs.Saved.{bit, saveWalk, saveStage, levelsIn, saveLevels, save, varRange, walkRange, levelThere, noneThere, levelList, noneOf, levelsThere, levelsRange, stageRange, varBy, levelBy, levelsBy, walkingBy, laterBy, listBy, stageBy, begins, levelsFit, checked, load};
 use crate::state::Stage;
 use crate::state::State;
 use crate::steps;
+use walk::levels;
+use walk::places::Level;
+use walk::places::Levels;
 use walk::places::Var;
 use walk::places::Walk;
 
@@ -82,7 +86,7 @@ fn walk_numbers(l: u32, w: Walk) -> [u32; 12]
     }
 }
 
-// The numbers of a stage.
+// The first twelve numbers of a stage.
 fn stage_numbers(l: u32, g: Stage) -> [u32; 12]
     requires { ⌜ VerdictFits g ⌝ }
     ensures { λ r. ⌜ r ≡ saveStage l g ⌝ }
@@ -90,9 +94,22 @@ fn stage_numbers(l: u32, g: Stage) -> [u32; 12]
     match g {
         Stage::Fresh => [0, l, 0, 0, 0, 0, 0, 0, 0, 0, 0, 0],
         Stage::Sweep { at } => [0, l, 1, 0, at, 0, 0, 0, 0, 0, 0, 0],
-        Stage::Walking { walk } => walk_numbers(l, walk),
+        Stage::Walking { walk, up: _ } => walk_numbers(l, walk),
         Stage::Done { verdict } => [verdict + 1, l, 0, 0, 0, 0, 0, 0, 0, 0, 0, 0],
         Stage::Strange => [0, l, 9, 0, 0, 0, 0, 0, 0, 0, 0, 0],
+    }
+}
+
+// The levels of a stage.
+fn levels_in(g: Stage) -> Levels
+    ensures { λ r. ⌜ r ≡ levelsIn g ⌝ }
+{
+    match g {
+        Stage::Fresh => levels::no_levels(),
+        Stage::Sweep { at: _ } => levels::no_levels(),
+        Stage::Walking { walk: _, up } => up,
+        Stage::Done { verdict: _ } => levels::no_levels(),
+        Stage::Strange => levels::no_levels(),
     }
 }
 
@@ -161,6 +178,79 @@ fn walk_range(w: Walk) -> bool
     }
 }
 
+// The numbers of a level that is there.
+fn level_there(l: Level) -> bool
+    ensures { λ r. ⌜ r ≡ levelThere l ⌝ }
+{
+    (l.vxr <= 2147483647) & (1 <= l.next) & (l.next <= 2147483648) & (l.last <= 2147483647)
+}
+
+// The numbers of one that is not.
+fn none_there(l: Level) -> bool
+    ensures { λ r. ⌜ r ≡ noneThere l ⌝ }
+{
+    (l.vxr == 0) & (l.next == 0) & (l.last == 0)
+}
+
+// No level is there.
+fn none_of(s: Levels) -> bool
+    ensures { λ r. ⌜ r ≡ noneOf (levelList s) ⌝ }
+{
+    let a = s.a;
+    let b = s.b;
+    let c = s.c;
+    let d = s.d;
+    let e = s.e;
+    let f = s.f;
+    let g = s.g;
+    none_there(a)
+        & (none_there(b)
+            & (none_there(c) & (none_there(d) & (none_there(e) & (none_there(f) & none_there(g))))))
+}
+
+// After a level that is not there none is there.
+fn levels_there(s: Levels) -> bool
+    ensures { λ r. ⌜ r ≡ levelsThere (levelList s) ⌝ }
+{
+    let a = s.a;
+    let b = s.b;
+    let c = s.c;
+    let d = s.d;
+    let e = s.e;
+    let f = s.f;
+    let g = s.g;
+    let none_g = none_there(g);
+    let none_f = none_there(f) & none_g;
+    let none_e = none_there(e) & none_f;
+    let none_d = none_there(d) & none_e;
+    let none_c = none_there(c) & none_d;
+    let none_b = none_there(b) & none_c;
+    let none_a = none_there(a) & none_b;
+    let from_g = level_there(g) | none_g;
+    let from_f = (level_there(f) & from_g) | none_f;
+    let from_e = (level_there(e) & from_f) | none_e;
+    let from_d = (level_there(d) & from_e) | none_d;
+    let from_c = (level_there(c) & from_d) | none_c;
+    let from_b = (level_there(b) & from_c) | none_b;
+    (level_there(a) & from_b) | none_a
+}
+
+// Levels stand above an index record alone.
+fn levels_range(up: Levels, w: Walk) -> bool
+    ensures { λ r. ⌜ r ≡ levelsRange up w ⌝ }
+{
+    let none = none_of(up);
+    match w {
+        Walk::Start => none,
+        Walk::Vars { .. } => none,
+        Walk::Chain { .. } => levels_there(up),
+        Walk::Entry { .. } => levels_there(up),
+        Walk::Attrs { .. } => none,
+        Walk::Entries { .. } => none,
+        Walk::Unused { .. } => none,
+    }
+}
+
 // The numbers of a stage are in their ranges.
 fn stage_range(l: u32, g: Stage) -> bool
     ensures { λ r. ⌜ r ≡ stageRange l g ⌝ }
@@ -169,7 +259,7 @@ fn stage_range(l: u32, g: Stage) -> bool
     match g {
         Stage::Fresh => l == 0,
         Stage::Sweep { at } => known & (8 <= at) & (at <= 2147483647),
-        Stage::Walking { walk } => known & walk_range(walk),
+        Stage::Walking { walk, up } => known & walk_range(walk) & levels_range(up, walk),
         Stage::Done { verdict: _ } => false,
         Stage::Strange => false,
     }
@@ -177,7 +267,7 @@ fn stage_range(l: u32, g: Stage) -> bool
 
 // The variable that the numbers tell of.
 fn var_of(s: &[u32]) -> Var
-    requires { ⌜ length (now s) ≡ 12 ⌝ }
+    requires { ⌜ length (now s) ≡ 33 ⌝ }
     ensures { λ r. ⌜ r ≡ varBy (now (s .entry)) ⌝ }
 {
     Var {
@@ -188,80 +278,137 @@ fn var_of(s: &[u32]) -> Var
     }
 }
 
+// The level that the numbers from a place on tell of.
+fn level_of(s: &[u32], p: usize) -> Level
+    requires { ⌜ p + 3 ≤ length (now s) ⌝ }
+    ensures { λ r. ⌜ r ≡ levelBy (now (s .entry)) p ⌝ }
+{
+    Level {
+        vxr: s[p],
+        next: s[p + 1],
+        last: s[p + 2],
+    }
+}
+
+// The levels that the numbers tell of.
+fn levels_of(s: &[u32]) -> Levels
+    requires { ⌜ length (now s) ≡ 33 ⌝ }
+    ensures { λ r. ⌜ r ≡ levelsBy (now (s .entry)) ⌝ }
+{
+    let a = level_of(s, 12);
+    let b = level_of(s, 15);
+    let c = level_of(s, 18);
+    let d = level_of(s, 21);
+    let e = level_of(s, 24);
+    let f = level_of(s, 27);
+    let g = level_of(s, 30);
+    Levels {
+        a,
+        b,
+        c,
+        d,
+        e,
+        f,
+        g,
+    }
+}
+
 // The place of the walk in a list that the numbers tell of, by their phase.
 fn list_of(s: &[u32], phase: u32) -> Stage
-    requires { ⌜ length (now s) ≡ 12 ⌝ }
+    requires { ⌜ length (now s) ≡ 33 ⌝ }
     ensures { λ r. ⌜ r ≡ listBy (now (s .entry)) phase ⌝ }
 {
     if phase == 3 {
-        return walking(Walk::Vars {
-            kind: s[3],
-            link: s[4],
-            count: s[5],
-            greatest: s[6],
-        });
+        return walking(
+            s,
+            Walk::Vars {
+                kind: s[3],
+                link: s[4],
+                count: s[5],
+                greatest: s[6],
+            },
+        );
     }
     if phase == 4 {
-        return walking(Walk::Chain {
-            var: var_of(s),
-            link: s[4],
-            before: s[8],
-            floor: s[10],
-            covered: s[11] == 1,
-        });
+        return walking(
+            s,
+            Walk::Chain {
+                var: var_of(s),
+                link: s[4],
+                before: s[8],
+                floor: s[10],
+                covered: s[11] == 1,
+            },
+        );
     }
     if phase == 5 {
-        return walking(Walk::Entry {
-            var: var_of(s),
-            vxr: s[8],
-            entry: s[9],
-            floor: s[10],
-            covered: s[11] == 1,
-        });
+        return walking(
+            s,
+            Walk::Entry {
+                var: var_of(s),
+                vxr: s[8],
+                entry: s[9],
+                floor: s[10],
+                covered: s[11] == 1,
+            },
+        );
     }
     later_list_of(s, phase)
 }
 
 // The same for the lists after the variables.
 fn later_list_of(s: &[u32], phase: u32) -> Stage
-    requires { ⌜ length (now s) ≡ 12 ⌝ }
+    requires { ⌜ length (now s) ≡ 33 ⌝ }
     ensures { λ r. ⌜ r ≡ laterBy (now (s .entry)) phase ⌝ }
 {
     if phase == 6 {
-        return walking(Walk::Attrs {
-            link: s[4],
-            count: s[5],
-        });
+        return walking(
+            s,
+            Walk::Attrs {
+                link: s[4],
+                count: s[5],
+            },
+        );
     }
     if phase == 7 {
-        return walking(Walk::Entries {
-            kind: s[3],
-            adr: s[7],
-            place: s[5],
-            link: s[4],
-            count: s[9],
-            greatest: s[10],
-        });
+        return walking(
+            s,
+            Walk::Entries {
+                kind: s[3],
+                adr: s[7],
+                place: s[5],
+                link: s[4],
+                count: s[9],
+                greatest: s[10],
+            },
+        );
     }
     if phase == 8 {
-        return walking(Walk::Unused {
-            link: s[4],
-            before: s[8],
-        });
+        return walking(
+            s,
+            Walk::Unused {
+                link: s[4],
+                before: s[8],
+            },
+        );
     }
     Stage::Strange
 }
 
-// A stage of the walk.
-fn walking(w: Walk) -> Stage
-    ensures { λ r. ⌜ r ≡ Walking w ⌝ }
+// A stage of the walk, with the levels that the numbers tell of.
+fn walking(s: &[u32], w: Walk) -> Stage
+    requires { ⌜ length (now s) ≡ 33 ⌝ }
+    ensures { λ r. ⌜ r ≡ walkingBy (now (s .entry)) w ⌝ }
 {
-    Stage::Walking { walk: w }
+    Stage::Walking {
+        walk: w,
+        up: levels_of(s),
+    }
 }
 
 // The stage that the numbers tell of, by their phase.
 fn stage_of(s: &[u32], phase: u32) -> Stage
-    requires { ⌜ length (now s) ≡ 12 ⌝ }
+    requires { ⌜ length (now s) ≡ 33 ⌝ }
     ensures { λ r. ⌜ r ≡ stageBy (now (s .entry)) phase ⌝ }
 {
     if phase == 0 {
@@ -271,15 +418,15 @@ fn stage_of(s: &[u32], phase: u32) -> Stage
         return Stage::Sweep { at: s[4] };
     }
     if phase == 2 {
-        return walking(Walk::Start);
+        return walking(s, Walk::Start);
     }
     list_of(s, phase)
 }
 
-// Twelve numbers are those of a slice.
-fn same_numbers(a: [u32; 12], s: &[u32]) -> bool
-    requires { ⌜ length (now s) ≡ 12 ⌝ }
-    ensures { λ r. ⌜ r ≡ sameNumbers a (now (s .entry)) ⌝ }
+// A slice begins with twelve numbers.
+fn begins_with(a: [u32; 12], s: &[u32]) -> bool
+    requires { ⌜ length (now s) ≡ 33 ⌝ }
+    ensures { λ r. ⌜ r ≡ begins a (now (s .entry)) ⌝ }
 {
     let mut i = 0;
     while i < 12 {
@@ -291,15 +438,31 @@ fn same_numbers(a: [u32; 12], s: &[u32]) -> bool
     true
 }
 
+// A stage that is no walk has no levels.
+fn levels_fit(up: Levels, g: Stage) -> bool
+    ensures { λ r. ⌜ r ≡ levelsFit up g ⌝ }
+{
+    match g {
+        Stage::Fresh => none_of(up),
+        Stage::Sweep { at: _ } => none_of(up),
+        Stage::Walking { walk: _, up: _ } => true,
+        Stage::Done { verdict: _ } => true,
+        Stage::Strange => true,
+    }
+}
+
 // A stage, or that its numbers are not those of a saved state.
 fn checked_stage(s: &[u32], l: u32, g: Stage) -> Stage
-    requires { ⌜ length (now s) ≡ 12 ⌝ }
+    requires { ⌜ length (now s) ≡ 33 ⌝ }
     ensures { λ r. ⌜ r ≡ checked (now (s .entry)) l g ⌝ }
 {
     if !stage_range(l, g) {
         return Stage::Strange;
     }
-    if !same_numbers(stage_numbers(l, g), s) {
+    if !begins_with(stage_numbers(l, g), s) {
+        return Stage::Strange;
+    }
+    if !levels_fit(levels_of(s), g) {
         return Stage::Strange;
     }
     g
@@ -307,7 +470,7 @@ fn checked_stage(s: &[u32], l: u32, g: Stage) -> Stage
 
 // A state from its numbers.
 pub fn load_state(s: &[u32]) -> State
-    requires { ⌜ length (now s) ≡ 12 ⌝ }
+    requires { ⌜ length (now s) ≡ 33 ⌝ }
     ensures { λ r. ⌜ r ≡ load (now (s .entry)) ⌝ }
 {
     let told = s[0];
@@ -319,7 +482,7 @@ pub fn load_state(s: &[u32]) -> State
         };
     }
     let verdict = told - 1;
-    if (verdict <= 14) | (verdict == 20) {
+    if (verdict <= 14) | (verdict == 20) | (verdict == 23) {
         return steps::refused(verdict);
     }
     State {
@@ -328,13 +491,49 @@ pub fn load_state(s: &[u32]) -> State
     }
 }
 
+// The numbers of the levels into a slice, behind the first twelve.
+fn save_levels(s: &mut [u32], up: Levels)
+    requires { ⌜ length (now s) ≡ 33 ⌝ }
+    ensures { λ _. ⌜ now (s .exit) ≡ take 12 (now (s .entry)) ++ saveLevels up ⌝ }
+{
+    let a = up.a;
+    let b = up.b;
+    let c = up.c;
+    let d = up.d;
+    let e = up.e;
+    let f = up.f;
+    let g = up.g;
+    s[12] = a.vxr;
+    s[13] = a.next;
+    s[14] = a.last;
+    s[15] = b.vxr;
+    s[16] = b.next;
+    s[17] = b.last;
+    s[18] = c.vxr;
+    s[19] = c.next;
+    s[20] = c.last;
+    s[21] = d.vxr;
+    s[22] = d.next;
+    s[23] = d.last;
+    s[24] = e.vxr;
+    s[25] = e.next;
+    s[26] = e.last;
+    s[27] = f.vxr;
+    s[28] = f.next;
+    s[29] = f.last;
+    s[30] = g.vxr;
+    s[31] = g.next;
+    s[32] = g.last;
+}
+
 // The numbers of a state into a slice.
 pub fn save_state(s: &mut [u32], t: State)
-    requires { ⌜ (length (now s) ≡ 12) × VerdictFits (t .stage) ⌝ }
+    requires { ⌜ (length (now s) ≡ 33) × VerdictFits (t .stage) ⌝ }
     ensures { λ _. ⌜ now (s .exit) ≡ save t ⌝ }
 {
     let g = t.stage;
     let a = stage_numbers(t.length, g);
+    save_levels(s, levels_in(g));
     let mut i = 0;
     while i < 12 {
         s[i] = a[i];

@@ -1,29 +1,33 @@
 -- What the walk costs: at each place, the links that are still to come from the records on the way to it. Assumes nothing.
 use mathlib.Core.Path.{_≡_, refl}
-use mathlib.Core.Bool.{Bool, true, false, cond, _||_}
+use mathlib.Core.Bool.{Bool, true, false, cond, _&&_, _||_}
 use mathlib.Core.List.{List}
 use Prim.Native.Nat.{ℕ, suc, _+_, _-_, _≤_, _<_, max}
 use native.Mathlib.Omega.{arith}
 use lib.Dec.{ltb, eqb}
 use lib.IntN.{pos, negsuc}
-use borrow.Author.Tests.{ltb-true}
-use Rattle.format.specs.Fields.{linkAt, isAt, afterAt}
+use borrow.Author.Tests.{ltb-true, eqb-true, eqb-false, ne-eqb}
+use Rattle.format.specs.Fields.{endOf, linkAt, isAt, afterAt}
 use Rattle.records.specs.Rules.{sizeAt}
 use Rattle.records.specs.Opening.{gdrAt}
 use Rattle.records.specs.Attributes.{adrRight, adrRule, aedrRight, aedrRule}
-use Rattle.records.specs.Index.{usedAt, vxrRight, vxrRule, entryOf}
+use Rattle.records.specs.Index.{usedAt, vxrRight, vxrRule, indexAt, entryOf}
 use Rattle.records.specs.Unused.{uirRule}
 use Rattle.records.specs.declared.index.Entry.{Entry}
 use Rattle.variables.specs.Vdr.{carriedOf, headOf, variableOf}
 use Rattle.walk.specs.Numbers.{unless}
-use Rattle.walk.specs.Walk.{turnOf, typeNumber, takes, followed, gdrNamed, fieldNumber, varsTally, afterVars, varNumber, intoIndex, varsOver, varTaken, chainOver, entered, vxrTaken, covers, valuesNumber, entryTurn, attrNumber, attrsOver, attrTaken, afterEntries, entriesOver, oneMore, numNumber, entryNumber, entryTaken, unusedNumber, unusedTaken}
+use Rattle.walk.specs.Walk.{turnBy, turnOf, typeNumber, takes, followed, gdrNamed, fieldNumber, varsTally, afterVars, varNumber, intoIndex, varsOver, varTaken, chainOver, entered, indexOver, vxrTaken, indexTaken, covers, valuesNumber, entryRefused, valuesTurn, lowerNumber, lowerTurn, entryTurn, attrNumber, attrsOver, attrTaken, afterEntries, entriesOver, oneMore, numNumber, entryNumber, entryTaken, unusedNumber, unusedTaken}
+use Rattle.walk.specs.Levels.{isNone, mostOf, roomBelow, pushed, popped}
 use Rattle.walk.specs.declared.places.Var.{Var}
+use Rattle.walk.specs.declared.places.Level.{Level}
+use Rattle.walk.specs.declared.places.Levels.{Levels}
 use Rattle.walk.specs.declared.places.Walk as W
 use Rattle.walk.specs.declared.places.Walk.the-variants.{Start, Vars, Chain, Entry as AtEntry, Attrs, Entries, Unused}
 use Rattle.walk.specs.declared.places.Turn as T
-use Rattle.walk.specs.declared.places.Turn.the-variants.{Over, End}
-use Rattle.walk.proofs.Closed.{cond-keeps, link-keeps}
+use Rattle.walk.specs.declared.places.Turn.the-variants.{Over, End, Down, Up}
+use Rattle.walk.proofs.Closed.{cond-keeps, link-keeps, unless-zero}
 use Rattle.demands.proofs.Laws.{first-two, first-three}
+use Rattle.demands.proofs.Places.{Place, top, moveBy}
 use Rattle.demands.proofs.Bound.{Pays, Paid, weightOf}
 use Rattle.demands.proofs.Records.{judged-reads, adr-size, aedr-size, vxr-size, vdr-reads}
 
@@ -31,14 +35,28 @@ use Rattle.demands.proofs.Records.{judged-reads, adr-size, aedr-size, v
 abbrev ofTwo : ℕ → ℕ → ℕ
 ofTwo z k = cond (eqb k z) 3 4
 
-abbrev pub cost : List ℕ → W.Walk → ℕ
-cost f Start = 1
-cost f (Vars k p n g) = ofTwo 8 k
-cost f (Chain u p x l c) = suc (ofTwo 8 (u .kind))
-cost f (AtEntry u x i l c) = suc (usedAt f x - suc i) + suc (ofTwo 8 (u .kind))
-cost f (Attrs p n) = 2
-cost f (Entries k a n p e g) = ofTwo 9 k
-cost f (Unused p b) = 1
+abbrev own : List ℕ → W.Walk → ℕ
+own f Start = 1
+own f (Vars k p n g) = ofTwo 8 k
+own f (Chain u p x l c) = suc (ofTwo 8 (u .kind))
+own f (AtEntry u x i l c) = suc (usedAt f x - suc i) + suc (ofTwo 8 (u .kind))
+own f (Attrs p n) = 2
+own f (Entries k a n p e g) = ofTwo 9 k
+own f (Unused p b) = 1
+
+-- what a record above still owes: its entries that are left, and its next
+abbrev owedBy : List ℕ → Level → ℕ
+owedBy f l = cond (isNone l) 0 (suc (usedAt f (l .vxr) - l .next))
+
+abbrev owed : List ℕ → Levels → ℕ
+owed f s = owedBy f (s .a) + (owedBy f (s .b) + (owedBy f (s .c) + (owedBy f (s .d) + (owedBy f (s .e) + (owedBy f (s .f) + owedBy f (s .g))))))
+
+abbrev pub cost : List ℕ → Place → ℕ
+cost f p = own f (p .walk) + owed f (p .up)
+
+pub start-cost : (f : List ℕ) → cost f (top Start) ≡ 1
+unfolding isNone
+start-cost f = refl
 
 of-two : (z k : ℕ) → (3 ≤ ofTwo z k) × (ofTwo z k ≤ 4)
 of-two z k = go (eqb k z)
@@ -66,6 +84,10 @@ module _ (f : List ℕ) where
   unfolding vxrRule
   vxr-heavy o e = omega (arith, vxr-size f o (judged-reads f o 20 (vxrRight f o) e .1))
 
+  lower-heavy : (o : ℕ) → lowerNumber f o ≡ 0 → suc (usedAt f o) ≤ weightOf f o
+  unfolding lowerNumber
+  lower-heavy o e = vxr-heavy o (first-two (vxrRule f o) (unless 11 (isAt f (o + 8) (pos 0))) e .0)
+
   adr-heavy : (n o : ℕ) → attrNumber f n o ≡ 0 → 3 ≤ weightOf f o
   unfolding attrNumber adrRule
   adr-heavy n o e =
@@ -80,80 +102,138 @@ module _ (f : List ℕ) where
   unfolding unusedNumber uirRule
   uir-heavy b o e = omega (arith, judged-reads f o 16 true (first-two (uirRule f o) (unless 11 (isAt f (o + 12) (pos b))) e .0) .0 .holds)
 
-  some-cost : (w : W.Walk) → 1 ≤ cost f w
-  some-cost Start = omega arith
-  some-cost (Vars k p n g) = omega (arith, of-two 8 k)
-  some-cost (Chain u p x l c) = omega arith
-  some-cost (AtEntry u x i l c) = omega arith
-  some-cost (Attrs p n) = omega arith
-  some-cost (Entries k a n p e g) = omega (arith, of-two 9 k)
-  some-cost (Unused p b) = omega arith
+  some-own : (w : W.Walk) → 1 ≤ own f w
+  some-own Start = omega arith
+  some-own (Vars k p n g) = omega (arith, of-two 8 k)
+  some-own (Chain u p x l c) = omega arith
+  some-own (AtEntry u x i l c) = omega arith
+  some-own (Attrs p n) = omega arith
+  some-own (Entries k a n p e g) = omega (arith, of-two 9 k)
+  some-own (Unused p b) = omega arith
 
-  entered-cost : (u : Var) (x i l : ℕ) (c : Bool) → cost f (entered f u x i l c) ≤ usedAt f x - i + suc (ofTwo 8 (u .kind))
+  entered-cost : (u : Var) (x i l : ℕ) (c : Bool) → own f (entered f u x i l c) ≤ usedAt f x - i + suc (ofTwo 8 (u .kind))
   entered-cost u x i l c = go (ltb i (usedAt f x)) refl
     where
       go : (b : Bool) → ltb i (usedAt f x) ≡ b
-          → cost f (cond b (AtEntry u x i l c) (Chain u (x + 8) x l c)) ≤ usedAt f x - i + suc (ofTwo 8 (u .kind))
+          → own f (cond b (AtEntry u x i l c) (Chain u (x + 8) x l c)) ≤ usedAt f x - i + suc (ofTwo 8 (u .kind))
       go true e = omega (arith, ltb-true i (usedAt f x) e)
       go false e = omega arith
 
-  abbrev Pay : ℕ → T.Turn → Type 0
-  Pay c t = Pays (cost f) (weightOf f) c t
+  -- one level down, from entry i of the VXR at x, and one level up
+  owed-down : (s : Levels) (x i last : ℕ) → roomBelow s ≡ true
+      → owed f (pushed (record { vxr = x; next = i + 1; last = last }) s) ≡ suc (usedAt f x - suc i) + owed f s
+  unfolding roomBelow isNone
+  owed-down s x i last e =
+      let z : owedBy f (s .g) ≡ 0 = rw e in
+      let y : owedBy f (record { vxr = x; next = i + 1; last = last }) ≡ suc (usedAt f x - suc i) = rw (ne-eqb (i + 1) 0 (λ z. omega arith)) (omega arith) in
+      omega arith
 
-  pay-takes : (c b t k l : ℕ) (next : W.Walk) → (l ≡ 0 → cost f next < c + weightOf f t) → Pay c (takes b t k l next)
-  pay-takes c b t k l next h = λ eb ek el. rw (eb, el) (h el)
+  owed-up : (s : Levels) → isNone (s .a) ≡ false → owed f s ≡ suc (usedAt f (s .a .vxr) - s .a .next) + owed f (popped s)
+  unfolding isNone
+  owed-up s e =
+      let z : owedBy f (s .a) ≡ suc (usedAt f (s .a .vxr) - s .a .next) = rw e in
+      omega arith
 
-  pay-followed : (c p : ℕ) (zero : T.Turn) (taken : ℕ → T.Turn) → Pay c zero → ((o : ℕ) → Pay c (taken o)) → Pay c (followed f p zero taken)
-  unfolding followed
-  pay-followed c p zero taken x y =
-      link-keeps f (Pay c) p {x = zero} {y = taken (linkAt f p)} tt x (y (linkAt f p))
-
-  after-vars : (k : ℕ) → cost f (afterVars f k) < ofTwo 8 k
+  after-vars : (k : ℕ) → own f (afterVars f k) < ofTwo 8 k
   after-vars k = go (eqb k 8)
     where
-      go : (b : Bool) → cost f (cond b (Attrs (gdrAt f + 16) 0) (Vars 8 (gdrAt f + 12) 0 0)) < cond b 3 4
+      go : (b : Bool) → own f (cond b (Attrs (gdrAt f + 16) 0) (Vars 8 (gdrAt f + 12) 0 0)) < cond b 3 4
       go true = omega arith
       go false = omega arith
 
-  after-entries : (k a n : ℕ) → cost f (afterEntries k a n) < ofTwo 9 k
+  after-entries : (k a n : ℕ) → own f (afterEntries k a n) < ofTwo 9 k
   after-entries k a n = go (eqb k 9)
     where
-      go : (b : Bool) → cost f (cond b (Attrs (a + 8) (n + 1)) (Entries 9 a n (a + 36) 0 0)) < cond b 3 4
+      go : (b : Bool) → own f (cond b (Attrs (a + 8) (n + 1)) (Entries 9 a n (a + 36) 0 0)) < cond b 3 4
       go true = omega arith
       go false = omega arith
 
-  pay-entry : (u : Var) (x i : ℕ) (c : Bool) (e : Entry) → Pay (suc (usedAt f x - suc i) + suc (ofTwo 8 (u .kind))) (entryTurn f u x i c e)
-  pay-entry u x i c e =
-      pay-takes (suc (usedAt f x - suc i) + suc (ofTwo 8 (u .kind))) (e .fault) (e .link) (typeNumber f (e .link) (pos 7)) (valuesNumber f (variableOf f (u .kind) (u .vdr)) e)
-      (entered f u x (i + 1) (e .last + 1) (c || covers f (u .vdr) e)) (λ z. omega (arith, entered-cost u x (i + 1) (e .last + 1) (c || covers f (u .vdr) e)))
+  module _ (up : Levels) where
+    abbrev Pay : ℕ → T.Turn → Type 0
+    Pay c t = Pays (cost f) (weightOf f) (c + owed f up) (moveBy up t)
+
+    pay-takes : (c b t k l : ℕ) (next : W.Walk) → (l ≡ 0 → own f next < c + weightOf f t) → Pay c (takes b t k l next)
+    pay-takes c b t k l next h = λ eb ek el. rw (eb, el) (omega (arith, h el))
+
+    pay-followed : (c p : ℕ) (zero : T.Turn) (taken : ℕ → T.Turn) → Pay c zero → ((o : ℕ) → Pay c (taken o)) → Pay c (followed f p zero taken)
+    unfolding followed
+    pay-followed c p zero taken x y =
+        link-keeps f (Pay c) p {x = zero} {y = taken (linkAt f p)} tt x (y (linkAt f p))
+
+    -- the end of the top chain, or of a lower record
+    pay-over : (u : Var) (x : ℕ) (c : Bool) → Pay (suc (ofTwo 8 (u .kind))) (indexOver f u (up .a) x c)
+    pay-over u x c = go (isNone (up .a)) refl (ltb (endOf f) (up .a .vxr + 20))
+      where
+        go : (b : Bool) → isNone (up .a) ≡ b → (d : Bool)
+            → Pay (suc (ofTwo 8 (u .kind)))
+            (cond b (chainOver f u x c) (cond d (End 20) (Up (entered f u (up .a .vxr) (up .a .next) (up .a .last + 1) c))))
+        go true e d = omega arith
+        go false e true = tt
+        go false e false = omega (arith, owed-up up e, entered-cost u (up .a .vxr) (up .a .next) (up .a .last + 1) c)
+
+    pay-next : (u : Var) (l : ℕ) (c : Bool) (o : ℕ) → Pay (suc (ofTwo 8 (u .kind))) (indexTaken f u (up .a) l c o)
+    pay-next u l c o =
+        cond-keeps (Pay (suc (ofTwo 8 (u .kind)))) (isNone (up .a)) {x = vxrTaken f u l c o} {y = End 11}
+        (pay-takes (suc (ofTwo 8 (u .kind))) 0 o (typeNumber f o (pos 6)) (vxrRule f o) (entered f u o 0 l c)
+        (λ z. omega (arith, vxr-heavy o z, entered-cost u o 0 l c))) tt
+
+    -- an entry that names values, or an index record: that record pays for its entries and its next, the rest stays owed above
+    module _ (u : Var) (x i : ℕ) (c : Bool) (e : Entry) where
+      abbrev here : ℕ
+      here = suc (usedAt f x - suc i) + suc (ofTwo 8 (u .kind))
+
+      pay-values : Pay here (valuesTurn f u x i c e)
+      pay-values =
+          pay-takes here (e .fault) (e .link) (typeNumber f (e .link) (pos 7)) (valuesNumber f (variableOf f (u .kind) (u .vdr)) e)
+          (entered f u x (i + 1) (e .last + 1) (c || covers f (u .vdr) e))
+          (λ z. omega (arith, entered-cost u x (i + 1) (e .last + 1) (c || covers f (u .vdr) e)))
+
+      pay-lower : Pay here (lowerTurn f u x i c (roomBelow up) e)
+      pay-lower = go (eqb (e .fault) 0) refl (eqb (lowerNumber f (e .link)) 0) refl
+        where
+          down : T.Turn
+          down = Down (entered f u (e .link) 0 (e .first) c) (e .link) (unless 23 (roomBelow up)) (record { vxr = x; next = i + 1; last = e .last })
+
+          go : (a : Bool) → eqb (e .fault) 0 ≡ a → (b : Bool) → eqb (lowerNumber f (e .link)) 0 ≡ b
+              → Pay here (cond (a && b) down (entryRefused e (unless 23 (roomBelow up)) (lowerNumber f (e .link))))
+          go true p true q = λ eb ek el.
+              omega (
+                arith,
+                entered-cost u (e .link) 0 (e .first) c,
+                owed-down up x i (e .last) (unless-zero 22 (roomBelow up) ek),
+                lower-heavy (e .link) (eqb-true (lowerNumber f (e .link)) 0 q),
+              )
+          go true p false q = λ eb ek el. absurd (eqb-false (lowerNumber f (e .link)) 0 q el)
+          go false p b q = λ eb ek el. absurd (eqb-false (e .fault) 0 p eb)
+
+      pay-entry : Pay here (entryTurn f u x i c (roomBelow up) e)
+      pay-entry =
+          cond-keeps (Pay here) (indexAt f (e .link)) {x = lowerTurn f u x i c (roomBelow up) e} {y = valuesTurn f u x i c e} pay-lower pay-values
 
   module _ (gdr : 60 ≤ sizeAt f (gdrAt f)) where
-    pays : (w : W.Walk) → Pay (cost f w) (turnOf f w)
-    unfolding turnOf
-    pays Start =
-        cond-keeps (Pay 1) (gdrNamed f) {x = takes 0 (gdrAt f) (typeNumber f (gdrAt f) (pos 2)) 0 (Vars 3 (gdrAt f + 8) 0 0)} {y = End 20}
-        (pay-takes 1 0 (gdrAt f) (typeNumber f (gdrAt f) (pos 2)) 0 (Vars 3 (gdrAt f + 8) 0 0) (λ z. omega arith)) tt
-    pays (Vars k p n g) =
-        pay-followed (ofTwo 8 k) p (varsOver f k n g) (varTaken f k n g)
-        (cond-keeps (Pay (ofTwo 8 k)) (gdrNamed f) {x = Over (varsTally f k n g) (afterVars f k)} {y = End 20} (after-vars k) tt)
-        (λ o. pay-takes (ofTwo 8 k) 0 o (typeNumber f o (pos k)) (varNumber f k n o) (intoIndex f k n g o) (λ z. omega (arith, vdr-heavy k n o z)))
-    pays (Chain u p x l c) =
-        pay-followed (suc (ofTwo 8 (u .kind))) p (chainOver f u x c) (vxrTaken f u l c)
-        (omega arith)
-        (λ o. pay-takes (suc (ofTwo 8 (u .kind))) 0 o (typeNumber f o (pos 6)) (vxrRule f o) (entered f u o 0 l c)
-        (λ z. omega (arith, vxr-heavy o z, entered-cost u o 0 l c)))
-    pays (AtEntry u x i l c) = pay-entry u x i c (entryOf f x i l)
-    pays (Attrs p n) =
-        pay-followed 2 p (attrsOver f n) (attrTaken f n)
-        (cond-keeps (Pay 2) (gdrNamed f) {x = Over (fieldNumber f (gdrAt f + 28) (pos n)) (Unused (gdrAt f + 44) 0)} {y = End 20} (omega arith) tt)
-        (λ o. pay-takes 2 0 o (typeNumber f o (pos 4)) (attrNumber f n o) (Entries 5 o n (o + 12) 0 0) (λ z. omega (arith, adr-heavy n o z)))
-    pays (Entries k a n p e g) =
-        pay-followed (ofTwo 9 k) p (entriesOver f k a n e g) (entryTaken f k a n e g) (after-entries k a n)
-        (λ o. pay-takes (ofTwo 9 k) 0 o (typeNumber f o (pos k)) (entryNumber f a o)
+    pays : (up : Levels) (w : W.Walk) → Pay up (own f w) (turnOf f up w)
+    unfolding turnBy
+    pays up Start =
+        cond-keeps (Pay up 1) (gdrNamed f) {x = takes 0 (gdrAt f) (typeNumber f (gdrAt f) (pos 2)) 0 (Vars 3 (gdrAt f + 8) 0 0)} {y = End 20}
+        (pay-takes up 1 0 (gdrAt f) (typeNumber f (gdrAt f) (pos 2)) 0 (Vars 3 (gdrAt f + 8) 0 0) (λ z. omega arith)) tt
+    pays up (Vars k p n g) =
+        pay-followed up (ofTwo 8 k) p (varsOver f k n g) (varTaken f k n g)
+        (cond-keeps (Pay up (ofTwo 8 k)) (gdrNamed f) {x = Over (afterVars f k) (varsTally f k n g)} {y = End 20} (omega (arith, after-vars k)) tt)
+        (λ o. pay-takes up (ofTwo 8 k) 0 o (typeNumber f o (pos k)) (varNumber f k n o) (intoIndex f k n g o) (λ z. omega (arith, vdr-heavy k n o z)))
+    pays up (Chain u p x l c) =
+        pay-followed up (suc (ofTwo 8 (u .kind))) p (indexOver f u (up .a) x c) (indexTaken f u (up .a) l c) (pay-over up u x c) (pay-next up u l c)
+    pays up (AtEntry u x i l c) = pay-entry up u x i c (entryOf f x i l (mostOf (up .a)))
+    pays up (Attrs p n) =
+        pay-followed up 2 p (attrsOver f n) (attrTaken f n)
+        (cond-keeps (Pay up 2) (gdrNamed f) {x = Over (Unused (gdrAt f + 44) 0) (fieldNumber f (gdrAt f + 28) (pos n))} {y = End 20} (omega arith) tt)
+        (λ o. pay-takes up 2 0 o (typeNumber f o (pos 4)) (attrNumber f n o) (Entries 5 o n (o + 12) 0 0) (λ z. omega (arith, adr-heavy n o z)))
+    pays up (Entries k a n p e g) =
+        pay-followed up (ofTwo 9 k) p (entriesOver f k a n e g) (entryTaken f k a n e g) (omega (arith, after-entries k a n))
+        (λ o. pay-takes up (ofTwo 9 k) 0 o (typeNumber f o (pos k)) (entryNumber f a o)
         (Entries k a n (o + 8) (oneMore e) (max (afterAt f (o + 20)) g)) (λ z. omega (arith, aedr-heavy a o z)))
-    pays (Unused p b) =
-        pay-followed 1 p (End 0) (unusedTaken f b) tt
-        (λ o. pay-takes 1 0 o (typeNumber f o (negsuc 0)) (unusedNumber f b o) (Unused (o + 8) o) (λ z. omega (arith, uir-heavy b o z)))
+    pays up (Unused p b) =
+        pay-followed up 1 p (End 0) (unusedTaken f b) tt
+        (λ o. pay-takes up 1 0 o (typeNumber f o (negsuc 0)) (unusedNumber f b o) (Unused (o + 8) o) (λ z. omega (arith, uir-heavy b o z)))
 
     pub paid : Paid f (cost f)
-    paid = record { some-cost = some-cost; pays = pays }
+    paid = record { some-cost = λ p. omega (arith, some-own (p .walk)); pays = λ p. pays (p .up) (p .walk) }

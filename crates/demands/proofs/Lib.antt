@@ -1,6 +1,8 @@
 pub mod Plain
 pub mod Laws
+pub mod Goes
 pub mod Turns
+pub mod Places
 pub mod Claims
 pub mod Sweep
 pub mod Bound
@@ -8,11 +10,15 @@ pub mod Records
 pub mod Costs
 pub mod Opened
 pub mod EndsWithin
+pub mod Trees
+pub mod Levels
 pub mod Nested
 pub mod NestedDemand
 pub mod Splits
 pub mod AttributeFacts
 pub mod IndexFacts
+pub mod Lowest
+pub mod OneLevel
 pub mod VariableFacts
 pub mod Demand2
 pub mod Demand3

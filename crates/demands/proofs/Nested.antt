@@ -1,31 +1,42 @@
 -- The walk reads off the lists of a file, each record with the numbers of its rule: nested rules over the file alone. Assumes nothing.
-use mathlib.Core.Path.{_≡_, refl, ap, subst}
-use mathlib.Core.Logic.{_↔_, _≢_, _⊎_, inl, inr}
+use mathlib.Core.Path.{_≡_, refl, sym, ap, _∙_, subst}
+use mathlib.Core.Logic.{_↔_, _≢_, inl, inr}
 use mathlib.Core.Option.{Option, none, some}
-use mathlib.Core.Bool.{Bool, true, false, cond, _||_}
+use mathlib.Core.Bool.{Bool, true, false, cond, _||_, true≢false}
 use mathlib.Core.List.{List, [], _∷_, _++_}
-use Prim.Native.Nat.{ℕ, zero, suc, _+_, _≤_, min, max}
-use native.Mathlib.Nat.{le-refl}
+use Prim.Native.Nat.{ℕ, suc, _+_, _≤_, _<_, min, max}
 use native.Mathlib.Numerals.{add-one}
 use native.Mathlib.Omega.{arith}
 use lib.Dec.{ltb, eqb}
 use lib.IntN.{pos, negsuc}
 use lib.ListN.{length}
 use borrow.Author.Tests.{ltb-false, eqb-true, eqb-false, lt-ltb, le-ltb, ne-eqb}
-use Rattle.format.specs.Fields.{endOf, linkAt, afterAt}
+use Rattle.format.specs.Fields.{endOf, fieldAt, natOr, isAt, linkAt, afterAt}
+use Rattle.format.proofs.SignedTests.{eqZ-true}
 use Rattle.records.specs.Opening.{gdrAt}
-use Rattle.records.specs.Index.{usedAt, vxrRule, entryOf}
+use Rattle.records.specs.Index.{usedAt, vxrRight, vxrRule, indexAt, entryOf}
+use Rattle.records.specs.Tree.{Slot, slotsOf, firstOf, lastOf, namedBy, namedByAll, levelsBelow, flat, namesIndex, entriesUnder}
 use Rattle.records.proofs.Ranges.{EntryParts, entry-is, entry-reads}
 use Rattle.records.specs.declared.index.Entry.{Entry}
 use Rattle.variables.specs.Vdr.{variableOf}
-use Rattle.walk.specs.Walk.{turnOf, typeNumber, takes, followed, overBy, gdrNamed, fieldNumber, varsTally, afterVars, varNumber, intoIndex, chainOver, chainTally, entered, covers, valuesNumber, entryTurn, attrNumber, entriesTally, afterEntries, entriesOver, oneMore, entryNumber, unusedNumber}
+use Rattle.walk.specs.Numbers.{unless}
+use Rattle.walk.specs.Levels.{noLevels, isNone, mostOf, roomBelow, popped}
+use Rattle.walk.specs.Walk.{turnBy, typeNumber, takes, followed, overBy, gdrNamed, fieldNumber, varsTally, afterVars, varNumber, intoIndex, chainOver, chainTally, entered, covers, valuesNumber, entryRefused, valuesTurn, lowerNumber, lowerTurn, entryTurn, chainTurn, attrNumber, entriesTally, afterEntries, entriesOver, oneMore, entryNumber, unusedNumber}
 use Rattle.walk.specs.declared.places.Var.{Var}
+use Rattle.walk.specs.declared.places.Levels.{Levels}
 use Rattle.walk.specs.declared.places.Walk as W
-use Rattle.walk.specs.declared.places.Walk.the-variants.{Start, Vars, Chain, Attrs, Entries, Unused}
+use Rattle.walk.specs.declared.places.Walk.the-variants.{Start, Vars, Chain, Entry as AtEntry, Attrs, Entries, Unused}
 use Rattle.walk.specs.declared.places.Turn as T
-use Rattle.walk.specs.declared.places.Turn.the-variants.{Over, End}
-use Rattle.demands.specs.Acceptance.{Slot, slotsFrom, slotsOf, firstOf, lastOf, namedBy, namedByAll, ListedVdr, ListedAdr, offsets, indexOffsets, variableOffsets, attributeOffsets}
-use Rattle.demands.proofs.Turns.{EndsAt, EndsBy, Ends, Read, Leads, Rules, Listed, LinkEnds, list-leads, none-leads, then-leads, take-leads, claims-as, cons-split}
+use Rattle.walk.specs.declared.places.Turn.the-variants.{Over, End, Down}
+use Rattle.demands.specs.Acceptance.{ListedVdr, ListedAdr, offsets, indexOffsets, variableOffsets, attributeOffsets}
+use Rattle.walk.proofs.Closed.{unless-zero}
+use Rattle.demands.proofs.Laws.{first-two}
+use Rattle.demands.proofs.Records.{judged-reads}
+use Rattle.demands.proofs.Goes.{Ends, Goes, goes-from, goes-to, takes-link, passes-link}
+use Rattle.demands.proofs.Turns.{EndsAt, Leads, Rules, Listed, LinkGoes, LinkEnds, list-leads, none-leads, then-leads, take-leads, claims-as, goes-leads}
+use Rattle.demands.proofs.Places.{Place, place, top, TurnEnds, Steps}
+use Rattle.demands.proofs.Trees.{slot, nextSlot, Row, rowAfter, TreeRules, afterSlot, SlotGood, rows-go}
+use Rattle.demands.proofs.Levels.{levelOf, levelsOf, level-there, room-there, down-up, room-gone}
 
 -- ---- what stands before a record in its list is given nearest first
 abbrev pub headOr0 : List ℕ → ℕ
@@ -41,32 +52,55 @@ greatestBy f place (x ∷ xs) = max (afterAt f (place x)) (greatestBy f place xs
 abbrev pub entryIs : List ℕ → Slot → Entry
 entryIs f s = record { fault = 0; first = firstOf f s; last = lastOf f s; link = namedBy f s }
 
-pub record SlotGood (f : List ℕ) (k v floor : ℕ) (s : Slot) : Type 0 where
-  pub range : EntryParts f (s .vxr) (s .entry) floor
+-- what is carried along the entries of an index: the least that the next First may be, and whether MaxRec is covered
+pub record Carried : Type 0 where
+  pub floor : ℕ
+  pub covered : Bool
+
+abbrev pub carried : ℕ → Bool → Carried
+carried floor covered = record { floor = floor; covered = covered }
+
+-- the range of an entry, and its fields that lie in the file; `above` are the entries that led down to it
+abbrev pub Ranged : List ℕ → List Slot → ℕ → Slot → Type 0
+Ranged f above floor s = EntryParts f (s .vxr) (s .entry) floor (mostOf (levelsOf f above .a))
+
+-- an entry that names values; one that names an index record
+pub record ValuesGood (f : List ℕ) (k v : ℕ) (above : List Slot) (c : Carried) (s : Slot) : Type 0 where
+  pub range : Ranged f above (c .floor) s
   pub typed : typeNumber f (namedBy f s) (pos 7) ≡ 0
   pub values : valuesNumber f (variableOf f k v) (entryIs f s) ≡ 0
 
--- entries one after the other, the last Last + 1 before them, and after
-abbrev pub RowGood : List ℕ → ℕ → ℕ → ℕ → List Slot → Type 0
-RowGood f k v floor [] = Unit {0}
-RowGood f k v floor (s ∷ ss) = SlotGood f k v floor s × RowGood f k v (lastOf f s + 1) ss
+pub record LowerGood (f : List ℕ) (above : List Slot) (c : Carried) (s : Slot) : Type 0 where
+  pub range : Ranged f above (c .floor) s
+  pub lower : lowerNumber f (namedBy f s) ≡ 0
 
-abbrev pub floorAfter : List ℕ → ℕ → List Slot → ℕ
-floorAfter f floor [] = floor
-floorAfter f floor (s ∷ ss) = floorAfter f (lastOf f s + 1) ss
+-- the rules of the index of the VDR at v, of kind k
+abbrev pub indexRules : List ℕ → ℕ → ℕ → TreeRules Carried
+indexRules f k v = record {
+  past = λ c s. carried (lastOf f s + 1) (c .covered || covers f v (entryIs f s));
+  down = λ c s. carried (firstOf f s) (c .covered);
+  back = λ c s d. carried (lastOf f s + 1) (d .covered);
+  values = ValuesGood f k v;
+  lower = LowerGood f;
+}
 
-abbrev pub coveredAfter : List ℕ → ℕ → Bool → List Slot → Bool
-coveredAfter f v c [] = c
-coveredAfter f v c (s ∷ ss) = coveredAfter f v (c || covers f v (entryIs f s)) ss
+-- entries below which n levels may lie, and what is carried after one
+abbrev pub EntryGood : List ℕ → ℕ → ℕ → ℕ → List Slot → Carried → Slot → Type 0
+EntryGood f k v n = SlotGood f (indexRules f k v) n
+
+abbrev pub afterEntry : List ℕ → ℕ → ℕ → ℕ → Carried → Slot → Carried
+afterEntry f k v n = afterSlot f (indexRules f k v) n
+
+abbrev pub RowGood : List ℕ → ℕ → ℕ → ℕ → List Slot → Carried → List Slot → Type 0
+RowGood f k v n above = Row (EntryGood f k v n above) (afterEntry f k v n)
+
+abbrev pub afterRow : List ℕ → ℕ → ℕ → ℕ → Carried → List Slot → Carried
+afterRow f k v n = rowAfter (afterEntry f k v n)
 
 -- the same after the VXRs of a chain
-abbrev pub chainFloor : List ℕ → List ℕ → ℕ
-chainFloor f [] = 0
-chainFloor f (x ∷ xs) = floorAfter f (chainFloor f xs) (slotsOf f x)
-
-abbrev pub chainCovered : List ℕ → ℕ → List ℕ → Bool
-chainCovered f v [] = false
-chainCovered f v (x ∷ xs) = coveredAfter f v (chainCovered f v xs) (slotsOf f x)
+abbrev pub chainCarried : List ℕ → ℕ → ℕ → List ℕ → Carried
+chainCarried f k v [] = carried 0 false
+chainCarried f k v (x ∷ xs) = afterRow f k v levelsBelow (chainCarried f k v xs) (slotsOf f x)
 
 -- ---- the rules of each list
 abbrev pub chainRules : List ℕ → ℕ → ℕ → Rules ℕ
@@ -74,8 +108,8 @@ chainRules f k v = record {
   at = λ x. x;
   here = λ bs p. p + 4 ≤ endOf f;
   good = λ bs x. (typeNumber f x (pos 6) ≡ 0) × (vxrRule f x ≡ 0);
-  below = λ bs x. RowGood f k v (chainFloor f bs) (slotsOf f x);
-  tally = λ bs. chainTally f v (headOr0 bs) (chainCovered f v bs) ≡ 0;
+  below = λ bs x. RowGood f k v levelsBelow [] (chainCarried f k v bs) (slotsOf f x);
+  tally = λ bs. chainTally f v (headOr0 bs) (chainCarried f k v bs .covered) ≡ 0;
 }
 
 abbrev pub varsRules : List ℕ → ℕ → Rules ListedVdr
@@ -133,195 +167,315 @@ NestedObeys f y =
     × (Listed f (attrsRules f) [] (gdrAt f + 16) (y .1 .1 .0) × Listed f (unusedRules f) [] (gdrAt f + 44) (y .1 .1 .1))))
 
 -- ---- a step that ends well, shape by shape
-module _ (f : List ℕ) (E : W.Walk → List ℕ → Type 0) where
-  takes-reads : (b t k l : ℕ) (next : W.Walk) (cs : List ℕ) → EndsBy E (takes b t k l next) cs
-      → (b ≡ 0) × (k ≡ 0) × (l ≡ 0) × (ds : List ℕ) × (cs ≡ t ∷ ds) × E next ds
-  takes-reads b t k l next cs e = (e .0, e .1, e .2, e .3, e .4, subst (λ (w : W.Walk). E w (e .3)) (rw (e .0, e .2)) (e .5))
+module _ (f : List ℕ) (E : Place → List ℕ → Type 0) (up : Levels) where
+  takes-reads : (b t k l : ℕ) (next : W.Walk) (cs : List ℕ) → TurnEnds E up (takes b t k l next) cs
+      → (b ≡ 0) × (k ≡ 0) × (l ≡ 0) × (ds : List ℕ) × (cs ≡ t ∷ ds) × E (place next up) ds
+  takes-reads b t k l next cs e = (e .0, e .1, e .2, e .3, e .4, subst (λ (w : W.Walk). E (place w up) (e .3)) (rw (e .0, e .2)) (e .5))
 
-  takes-makes : (b t k l : ℕ) (next : W.Walk) (cs ds : List ℕ) → b ≡ 0 → k ≡ 0 → l ≡ 0 → cs ≡ t ∷ ds → E next ds → EndsBy E (takes b t k l next) cs
+  takes-makes : (b t k l : ℕ) (next : W.Walk) (cs ds : List ℕ) → b ≡ 0 → k ≡ 0 → l ≡ 0 → cs ≡ t ∷ ds → E (place next up) ds
+      → TurnEnds E up (takes b t k l next) cs
   takes-makes b t k l next cs ds eb ek el ec h = (eb, ek, el, ds, ec, rw (eb, el) h)
 
   -- a turn is not made where a test fails
-  barred-reads : (b : Bool) (t : T.Turn) (cs : List ℕ) → EndsBy E (cond b (End 20) t) cs → (b ≡ false) × EndsBy E t cs
+  barred-reads : (b : Bool) (t : T.Turn) (cs : List ℕ) → TurnEnds E up (cond b (End 20) t) cs → (b ≡ false) × TurnEnds E up t cs
   barred-reads true t cs e = let z = e .0 in absurd (omega arith)
   barred-reads false t cs e = (refl, e)
 
-  allowed-reads : (b : Bool) (t : T.Turn) (cs : List ℕ) → EndsBy E (cond b t (End 20)) cs → (b ≡ true) × EndsBy E t cs
+  allowed-reads : (b : Bool) (t : T.Turn) (cs : List ℕ) → TurnEnds E up (cond b t (End 20)) cs → (b ≡ true) × TurnEnds E up t cs
   allowed-reads true t cs e = (refl, e)
   allowed-reads false t cs e = let z = e .0 in absurd (omega arith)
 
-  module _ {X : Type 0} (r : Rules X) (bs : List X) (p : ℕ) (over : T.Turn) (typed late : ℕ → ℕ) (next : ℕ → W.Walk) (fin : Option W.Walk) (cs : List ℕ)
-      (good : (o : ℕ) → r .good bs o ↔ ((typed o ≡ 0) × (late o ≡ 0))) (tally : EndsBy E over cs ↔ (r .tally bs × EndsAt E fin cs))
+  module _ {X : Type 0} (r : Rules X) (bs : List X) (p : ℕ) (over : T.Turn) (typed late : ℕ → ℕ) (next : ℕ → W.Walk) (fin : Option Place) (cs : List ℕ)
+      (good : (o : ℕ) → r .good bs o ↔ ((typed o ≡ 0) × (late o ≡ 0))) (tally : TurnEnds E up over cs ↔ (r .tally bs × EndsAt E fin cs))
     where
       taken : ℕ → T.Turn
       taken o = takes 0 o (typed o) (late o) (next o)
 
-      followed-reads : (p + 4 ≤ endOf f → r .here bs p) → EndsBy E (followed f p over (λ o. takes 0 o (typed o) (late o) (next o))) cs
-          → LinkEnds f r E bs p fin next cs
+      followed-reads : (p + 4 ≤ endOf f → r .here bs p) → TurnEnds E up (followed f p over (λ o. takes 0 o (typed o) (late o) (next o))) cs
+          → LinkEnds f r E bs p fin (λ o. place (next o) up) cs
       unfolding followed taken
       followed-reads here e =
           let a = barred-reads (ltb (endOf f) (p + 4)) (cond (eqb (linkAt f p) 0) over (taken (linkAt f p))) cs e in
           (here (ltb-false (endOf f) (p + 4) (a .0)), go (eqb (linkAt f p) 0) refl (a .1))
         where
-          go : (b : Bool) → eqb (linkAt f p) 0 ≡ b → EndsBy E (cond b over (taken (linkAt f p))) cs
-              → ((linkAt f p ≡ 0) × (r .tally bs) × (EndsAt E fin cs)) ⊎ ((linkAt f p ≢ 0) × (r .good bs (linkAt f p)) × (ds : List ℕ) × (cs ≡ linkAt f p ∷ ds) × (E (next (linkAt f p)) ds))
+          go : (b : Bool) → eqb (linkAt f p) 0 ≡ b → TurnEnds E up (cond b over (taken (linkAt f p))) cs
+              → LinkGoes f r E bs p fin (λ o. place (next o) up) cs
           go true h e = let t = tally .0 e in inl (eqb-true (linkAt f p) 0 h, t .0, t .1)
           go false h e =
               let o = linkAt f p in
               let t = takes-reads 0 o (typed o) (late o) (next o) cs e in
               inr (eqb-false o 0 h, good o .1 (t .1, t .2), t .3, t .4, t .5)
 
-      followed-makes : (r .here bs p → p + 4 ≤ endOf f) → LinkEnds f r E bs p fin next cs
-          → EndsBy E (followed f p over (λ o. takes 0 o (typed o) (late o) (next o))) cs
+      followed-makes : (r .here bs p → p + 4 ≤ endOf f) → LinkEnds f r E bs p fin (λ o. place (next o) up) cs
+          → TurnEnds E up (followed f p over (λ o. takes 0 o (typed o) (late o) (next o))) cs
       unfolding followed taken
       followed-makes here e = rw (le-ltb (endOf f) (p + 4) (here (e .0))) (go (e .1))
         where
-          go : ((linkAt f p ≡ 0) × (r .tally bs) × (EndsAt E fin cs)) ⊎ ((linkAt f p ≢ 0) × (r .good bs (linkAt f p)) × (ds : List ℕ) × (cs ≡ linkAt f p ∷ ds) × (E (next (linkAt f p)) ds))
-              → EndsBy E (cond (eqb (linkAt f p) 0) over (taken (linkAt f p))) cs
+          go : LinkGoes f r E bs p fin (λ o. place (next o) up) cs
+              → TurnEnds E up (cond (eqb (linkAt f p) 0) over (taken (linkAt f p))) cs
           go (inl h) = rw (h .0) (tally .1 (h .1, h .2))
           go (inr h) =
               let o = linkAt f p in
               let g = good o .0 (h .1) in
               rw (ne-eqb o 0 (h .0)) (takes-makes 0 o (typed o) (late o) (next o) cs (h .2) refl (g .0) (g .1) (h .3) (h .4))
 
-      link-turns : r .here bs p ↔ (p + 4 ≤ endOf f) → EndsBy E (followed f p over (λ o. takes 0 o (typed o) (late o) (next o))) cs
-          ↔ LinkEnds f r E bs p fin next cs
+      link-turns : r .here bs p ↔ (p + 4 ≤ endOf f) → TurnEnds E up (followed f p over (λ o. takes 0 o (typed o) (late o) (next o))) cs
+          ↔ LinkEnds f r E bs p fin (λ o. place (next o) up) cs
       link-turns here = (followed-reads (here .1), followed-makes (here .0))
 
   -- a list of the GDR is over
-  over-turns : (number : ℕ) (next : W.Walk) (cs : List ℕ) → EndsBy E (overBy f number next) cs ↔ (((gdrNamed f ≡ true) × (number ≡ 0)) × E next cs)
+  over-turns : (number : ℕ) (next : W.Walk) (cs : List ℕ)
+      → TurnEnds E up (overBy f number next) cs ↔ (((gdrNamed f ≡ true) × (number ≡ 0)) × E (place next up) cs)
   over-turns number next cs = (
-    λ e. let t = allowed-reads (gdrNamed f) (Over number next) cs e in ((t .0, t .1 .0), t .1 .1),
+    λ e. let t = allowed-reads (gdrNamed f) (Over next number) cs e in ((t .0, t .1 .0), t .1 .1),
     λ t. rw (t .0 .0) (t .0 .1, t .1),
   )
 
 -- ---- an entry
-module _ (f : List ℕ) (E : W.Walk → List ℕ → Type 0) (u : Var) (x i floor : ℕ) (c : Bool) where
-  abbrev here : Slot
-  here = record { vxr = x; entry = i }
+-- a zero field is a zero link
+pub zero-link : (f : List ℕ) (p : ℕ) → isAt f p (pos 0) ≡ true → linkAt f p ≡ 0
+unfolding isAt linkAt
+zero-link f p e = ap (natOr 1) (eqZ-true (fieldAt f p) (pos 0) e)
 
-  abbrev ahead : W.Walk
-  ahead = entered f u x (i + 1) (lastOf f here + 1) (c || covers f (u .vdr) (entryIs f here))
+module _ (f : List ℕ) (E : Place → List ℕ → Type 0) (u : Var) (above : List Slot) (c : Carried) (s : Slot) where
+  abbrev levels : Levels
+  levels = levelsOf f above
 
-  row-reads-one : (cs : List ℕ) → EndsBy E (entryTurn f u x i c (entryOf f x i floor)) cs
-      → SlotGood f (u .kind) (u .vdr) floor here × (ds : List ℕ) × (cs ≡ namedBy f here ∷ ds) × E ahead ds
-  row-reads-one cs e =
-      let p = entry-reads f x i floor (e .0) in
-      let r : EndsBy E (entryTurn f u x i c (entryIs f here)) cs = rw (entry-is f x i floor p) at e in
-      let t = takes-reads f E 0 (namedBy f here) (typeNumber f (namedBy f here) (pos 7)) (valuesNumber f (variableOf f (u .kind) (u .vdr)) (entryIs f here)) ahead cs r in
-      (record { range = p; typed = t .1; values = t .2 }, t .3, t .4, t .5)
+  abbrev looked : Entry
+  looked = entryOf f (s .vxr) (s .entry) (c .floor) (mostOf (levels .a))
 
-  row-makes-one : (cs ds : List ℕ) → SlotGood f (u .kind) (u .vdr) floor here → cs ≡ namedBy f here ∷ ds → E ahead ds
-      → EndsBy E (entryTurn f u x i c (entryOf f x i floor)) cs
-  row-makes-one cs ds g ec h =
-      rw (entry-is f x i floor (g .range))
-      (takes-makes f E 0 (namedBy f here) (typeNumber f (namedBy f here) (pos 7)) (valuesNumber f (variableOf f (u .kind) (u .vdr)) (entryIs f here)) ahead cs ds refl (g .typed) (g .values) ec h)
+  abbrev turnAt : Entry → T.Turn
+  turnAt e = entryTurn f u (s .vxr) (s .entry) (c .covered) (roomBelow levels) e
+
+  abbrev valuesAt : Entry → T.Turn
+  valuesAt e = valuesTurn f u (s .vxr) (s .entry) (c .covered) e
+
+  abbrev lowerAt : Entry → T.Turn
+  lowerAt e = lowerTurn f u (s .vxr) (s .entry) (c .covered) (roomBelow levels) e
+
+  -- an entry with a number does not end well
+  faultless : (e : Entry) (cs : List ℕ) → TurnEnds E levels (turnAt e) cs → e .fault ≡ 0
+  faultless e cs = go (indexAt f (e .link)) (eqb (e .fault) 0) refl
+    where
+      go : (a b : Bool) → eqb (e .fault) 0 ≡ b → TurnEnds E levels (cond a (lowerAt e) (valuesAt e)) cs → e .fault ≡ 0
+      go false b q h = h .0
+      go true true q h = eqb-true (e .fault) 0 q
+      go true false q h = refused (rw q at h)
+        where
+          refused : TurnEnds E levels (entryRefused e (unless 23 (roomBelow levels)) (lowerNumber f (e .link))) cs → e .fault ≡ 0
+          refused h = h .0
+
+  -- so its range is right, and it names what it says
+  turn-is : (b : Bool) (cs : List ℕ) → namesIndex f s ≡ b
+      → TurnEnds E levels (turnAt looked) cs ↔ (Ranged f above (c .floor) s × TurnEnds E levels (cond b (lowerAt (entryIs f s)) (valuesAt (entryIs f s))) cs)
+  turn-is b cs q = (
+    λ e.
+        let r = entry-reads f (s .vxr) (s .entry) (c .floor) (mostOf (levels .a)) (faultless looked cs e) in
+        (r, subst (λ (t : T.Turn). TurnEnds E levels t cs) (same r) e),
+    λ p. subst (λ (t : T.Turn). TurnEnds E levels t cs) (sym (same (p .0))) (p .1),
+  )
+    where
+      same : Ranged f above (c .floor) s → turnAt looked ≡ cond b (lowerAt (entryIs f s)) (valuesAt (entryIs f s))
+      same r =
+          ap turnAt (entry-is f (s .vxr) (s .entry) (c .floor) (mostOf (levels .a)) r)
+          ∙ ap (λ (b : Bool). cond b (lowerAt (entryIs f s)) (valuesAt (entryIs f s))) q
+
+  abbrev neighbour : Place
+  neighbour = place (entered f u (s .vxr) (s .entry + 1) (lastOf f s + 1) (c .covered || covers f (u .vdr) (entryIs f s))) levels
+
+  values-turns : (cs : List ℕ) → namesIndex f s ≡ false
+      → TurnEnds E levels (turnAt looked) cs ↔ (ValuesGood f (u .kind) (u .vdr) above c s × (ds : List ℕ) × (cs ≡ namedBy f s ∷ ds) × E neighbour ds)
+  values-turns cs h = (
+    λ e.
+        let r = turn-is false cs h .0 e in
+        let t = takes-reads f E levels 0 (namedBy f s) typed late (neighbour .walk) cs (r .1) in
+        (record { range = r .0; typed = t .1; values = t .2 }, t .3, t .4, t .5),
+    λ g.
+        turn-is false cs h .1
+        (g .0 .range, takes-makes f E levels 0 (namedBy f s) typed late (neighbour .walk) cs (g .1) refl (g .0 .typed) (g .0 .values) (g .2) (g .3)),
+  )
+    where
+      typed : ℕ
+      typed = typeNumber f (namedBy f s) (pos 7)
+
+      late : ℕ
+      late = valuesNumber f (variableOf f (u .kind) (u .vdr)) (entryIs f s)
+
+  abbrev inside : Place
+  inside = place (entered f u (namedBy f s) 0 (firstOf f s) (c .covered)) (levelsOf f (s ∷ above))
+
+  lower-reads : (cs : List ℕ) → TurnEnds E levels (lowerAt (entryIs f s)) cs
+      → (unless 23 (roomBelow levels) ≡ 0) × (lowerNumber f (namedBy f s) ≡ 0) × (ds : List ℕ) × (cs ≡ namedBy f s ∷ ds) × E inside ds
+  lower-reads cs = go (eqb (lowerNumber f (namedBy f s)) 0) refl
+    where
+      go : (b : Bool) → eqb (lowerNumber f (namedBy f s)) 0 ≡ b
+          → TurnEnds E levels
+          (cond b (Down (inside .walk) (namedBy f s) (unless 23 (roomBelow levels)) (levelOf f s))
+          (entryRefused (entryIs f s) (unless 23 (roomBelow levels)) (lowerNumber f (namedBy f s)))) cs
+          → (unless 23 (roomBelow levels) ≡ 0) × (lowerNumber f (namedBy f s) ≡ 0) × (ds : List ℕ) × (cs ≡ namedBy f s ∷ ds) × E inside ds
+      go true q e = (e .1, eqb-true (lowerNumber f (namedBy f s)) 0 q, e .3, e .4, e .5)
+      go false q e = absurd (eqb-false (lowerNumber f (namedBy f s)) 0 q (e .2))
+
+  lower-turns : (cs : List ℕ) → roomBelow levels ≡ true → namesIndex f s ≡ true
+      → TurnEnds E levels (turnAt looked) cs ↔ (LowerGood f above c s × (ds : List ℕ) × (cs ≡ namedBy f s ∷ ds) × E inside ds)
+  lower-turns cs room h = (
+    λ e. let r = turn-is true cs h .0 e in let t = lower-reads cs (r .1) in (record { range = r .0; lower = t .1 }, t .2, t .3, t .4),
+    λ g. turn-is true cs h .1 (g .0 .range, rw (g .0 .lower, room) (refl, refl, refl, g .1, g .2, g .3)),
+  )
+
+  full-turns : (cs : List ℕ) → roomBelow levels ≡ false → namesIndex f s ≡ true → TurnEnds E levels (turnAt looked) cs → ⊥
+  full-turns cs room h e = true≢false (sym (unless-zero 22 (roomBelow levels) (lower-reads cs (turn-is true cs h .0 e .1) .0)) ∙ room)
+
+  -- the zero next of the lower record
+  rise-turns : (floor : ℕ) (b : Bool) (cs : List ℕ) → popped (levelsOf f (s ∷ above)) ≡ levels → LowerGood f above c s
+      → TurnEnds E (levelsOf f (s ∷ above)) (chainTurn f (levelOf f s) u (namedBy f s + 8) (namedBy f s) floor b) cs
+      ↔ E (place (entered f u (s .vxr) (s .entry + 1) (lastOf f s + 1) b) levels) cs
+  unfolding followed lowerNumber vxrRule
+  rise-turns floor b cs q g =
+      let y = namedBy f s in
+      let p = first-two (vxrRule f y) (unless 11 (isAt f (y + 8) (pos 0))) (g .lower) in
+      let r = judged-reads f y 20 (vxrRight f y) (p .0) .0 .lies in
+      let i = g .range .last-lies in
+      rw (
+        le-ltb (endOf f) (y + 8 + 4) (omega arith),
+        zero-link f (y + 8) (unless-zero 10 (isAt f (y + 8) (pos 0)) (p .1)),
+        level-there f s,
+        le-ltb (endOf f) (s .vxr + 20) (omega arith),
+        q,
+      )
+      (λ h. h .1, λ h. (refl, h))
 
 -- ---- the walk reads off just that
 module _ (f : List ℕ) where
-  abbrev turn : W.Walk → T.Turn
-  turn = turnOf f
+  abbrev Step : ℕ → Place → List ℕ → Type 0
+  Step k = Ends (Steps f) k
 
-  abbrev Step : ℕ → W.Walk → List ℕ → Type 0
-  Step k = Ends turn k
+  -- the entries of an index
+  module _ (u : Var) where
+    abbrev rules : TreeRules Carried
+    rules = indexRules f (u .kind) (u .vdr)
 
-  -- the entries of a VXR
-  module _ (u : Var) (x : ℕ) where
-    abbrev behind : ℕ → Bool → List Slot → W.Walk
-    behind l c ss = Chain u (x + 8) x (floorAfter f l ss) (coveredAfter f (u .vdr) c ss)
+    -- before an entry of an index record, or past its last
+    abbrev atSlot : List Slot → Carried → Slot → Place
+    atSlot above c s = place (entered f u (s .vxr) (s .entry) (c .floor) (c .covered)) (levelsOf f above)
 
-    abbrev RowRead : ℕ → ℕ → ℕ → Bool → ℕ → List ℕ → Type 0
-    RowRead n i l c k cs =
-        Read turn {B = Unit {0}} (entered f u x i l c) (λ t. RowGood f (u .kind) (u .vdr) l (slotsFrom x i n)) (λ t. namedByAll f (slotsFrom x i n)) (λ t. some (behind l c (slotsFrom x i n))) k cs
+    abbrev entryAt : List Slot → Carried → Slot → Place
+    entryAt above c s = place (AtEntry u (s .vxr) (s .entry) (c .floor) (c .covered)) (levelsOf f above)
 
-    row-reads : (n i l : ℕ) (c : Bool) (k : ℕ) (cs : List ℕ) → i + n ≡ usedAt f x → Step k (entered f u x i l c) cs → RowRead n i l c k cs
-    unfolding turnOf
-    row-reads zero i l c k cs h e =
-        record { what = tt; obeys = tt; left = k; rest = cs; fewer = le-refl k; split = refl; ends = rw (le-ltb i (usedAt f x) (omega arith)) at e }
-    row-reads (suc n) i l c zero cs h e = absurd e
-    row-reads (suc n) i l c (suc k) cs h e =
-        let s : Slot = record { vxr = x; entry = i } in
-        let g = row-reads-one f (Step k) u x i l c cs (rw (lt-ltb i (usedAt f x) (omega arith)) at e) in
-        let r = row-reads n (i + 1) (lastOf f s + 1) (c || covers f (u .vdr) (entryIs f s)) k (g .1) (omega arith) (g .3) in
-        record {
-          what = tt;
-          obeys = (g .0, r .obeys);
-          left = r .left;
-          rest = r .rest;
-          fewer = omega (arith, r .fewer);
-          split = cons-split (namedBy f s) cs (g .1) (namedByAll f (slotsFrom x (i + 1) n)) (r .rest) (g .2) (r .split);
-          ends = r .ends;
-        }
+    abbrev endAt : List Slot → Carried → ℕ → Place
+    endAt above c x = place (Chain u (x + 8) x (c .floor) (c .covered)) (levelsOf f above)
 
-    row-makes : (n i l : ℕ) (c : Bool) (k : ℕ) (cs : List ℕ) → i + n ≡ usedAt f x → RowGood f (u .kind) (u .vdr) l (slotsFrom x i n)
-        → Step k (behind l c (slotsFrom x i n)) cs
-        → (j : ℕ) × Step j (entered f u x i l c) (namedByAll f (slotsFrom x i n) ++ cs)
-    unfolding turnOf
-    row-makes zero i l c k cs h g e = (k, rw (le-ltb i (usedAt f x) (omega arith)) e)
-    row-makes (suc n) i l c k cs h g e =
-        let s : Slot = record { vxr = x; entry = i } in
-        let r = row-makes n (i + 1) (lastOf f s + 1) (c || covers f (u .vdr) (entryIs f s)) k cs (omega arith) (g .1) e in
-        let ds = namedByAll f (slotsFrom x (i + 1) n) ++ cs in
-        (suc (r .0), rw (lt-ltb i (usedAt f x) (omega arith)) (row-makes-one f (Step (r .0)) u x i l c (namedBy f s ∷ ds) ds (g .0) refl (r .1)))
+    at-entry : (above : List Slot) (c : Carried) (s : Slot) → s .entry < usedAt f (s .vxr) → atSlot above c s ≡ entryAt above c s
+    at-entry above c s h = rw (lt-ltb (s .entry) (usedAt f (s .vxr)) h)
 
-    row-lead : (l : ℕ) (c : Bool)
-        → Leads turn {B = Unit {0}} (entered f u x 0 l c) (λ t. RowGood f (u .kind) (u .vdr) l (slotsOf f x)) (λ t. namedByAll f (slotsOf f x)) (λ t. some (behind l c (slotsOf f x)))
-    row-lead l c = record {
-      reads = λ k cs e. row-reads (usedAt f x) 0 l c k cs (omega arith) e;
-      makes = λ t k cs g e. row-makes (usedAt f x) 0 l c k cs (omega arith) g e;
-    }
+    at-end : (above : List Slot) (c : Carried) (x : ℕ) → atSlot above c (slot x (usedAt f x)) ≡ endAt above c x
+    at-end above c x = rw (le-ltb (usedAt f x) (usedAt f x) (omega arith))
+
+    values-go : (above : List Slot) (c : Carried) (s : Slot) → s .entry < usedAt f (s .vxr) → namesIndex f s ≡ false
+        → Goes (Steps f) (atSlot above c s) (ValuesGood f (u .kind) (u .vdr) above c s) (namedBy f s ∷ []) (atSlot above (rules .past c s) (nextSlot s))
+    unfolding turnBy
+    values-go above c s h e =
+        goes-from (Steps f) (at-entry above c s h) (takes-link (Steps f) (entryAt above c s) (namedBy f s) (λ j cs. values-turns f (Step j) u above c s cs e))
+
+    lower-goes : (above : List Slot) (c : Carried) (s : Slot) → length above < levelsBelow → s .entry < usedAt f (s .vxr) → namesIndex f s ≡ true
+        → Goes (Steps f) (atSlot above c s) (LowerGood f above c s) (namedBy f s ∷ []) (atSlot (s ∷ above) (rules .down c s) (slot (namedBy f s) 0))
+    unfolding turnBy
+    lower-goes above c s l h e =
+        goes-from (Steps f) (at-entry above c s h)
+        (takes-link (Steps f) (entryAt above c s) (namedBy f s) (λ j cs. lower-turns f (Step j) u above c s cs (room-there f above l) e))
+
+    full-stays : (above : List Slot) (c : Carried) (s : Slot) → length above ≡ levelsBelow → s .entry < usedAt f (s .vxr) → namesIndex f s ≡ true
+        → (j : ℕ) (cs : List ℕ) → Steps f (Step j) (atSlot above c s) cs → ⊥
+    unfolding turnBy
+    full-stays above c s l h e j cs t =
+        full-turns f (Step j) u above c s cs (room-gone f above l) e (subst (λ (p : Place). Steps f (Step j) p cs) (at-entry above c s h) t)
+
+    rise-goes : (above : List Slot) (c d : Carried) (s : Slot) → length above < levelsBelow → LowerGood f above c s
+        → Goes (Steps f) (atSlot (s ∷ above) d (slot (namedBy f s) (usedAt f (namedBy f s)))) (Unit {0}) [] (atSlot above (rules .back c s d) (nextSlot s))
+    unfolding turnBy
+    rise-goes above c d s l g =
+        goes-from (Steps f) (at-end (s ∷ above) d (namedBy f s))
+        (passes-link (Steps f) (endAt (s ∷ above) d (namedBy f s))
+        (λ j cs. rise-turns f (Step j) u above c s (d .floor) (d .covered) cs (down-up f above l (levelOf f s)) g))
+
+    -- those of a VXR of the top chain, with all that hangs below them
+    row-lead : (x : ℕ) (c : Carried)
+        → Leads (Steps f) {B = Unit {0}} (atSlot [] c (slot x 0)) (λ t. RowGood f (u .kind) (u .vdr) levelsBelow [] c (slotsOf f x))
+        (λ t. namedByAll f (flat (entriesUnder f levelsBelow) (slotsOf f x)))
+        (λ t. some (endAt [] (afterRow f (u .kind) (u .vdr) levelsBelow c (slotsOf f x)) x))
+    row-lead x c =
+        goes-leads (Steps f)
+        (goes-to (Steps f) (at-end [] (afterRow f (u .kind) (u .vdr) levelsBelow c (slotsOf f x)) x)
+        (rows-go (Steps f) f rules atSlot values-go lower-goes full-stays rise-goes levelsBelow (usedAt f x) [] c x 0 refl (omega arith)))
 
   same : (A : Type 0) → A ↔ A
   same A = (λ x. x, λ x. x)
 
-  -- the VXRs of a VDR
-  chain-turns : (u : Var) (k : ℕ) (bs : List ℕ) (p : ℕ) (cs : List ℕ)
-      → EndsBy (Step k) (turn (Chain u p (headOr0 bs) (chainFloor f bs) (chainCovered f (u .vdr) bs))) cs
-      ↔ LinkEnds f (chainRules f (u .kind) (u .vdr)) (Step k) bs p (some (Vars (u .kind) (u .vdr + 8) (u .place + 1) (u .greatest)))
-      (λ o. entered f u o 0 (chainFloor f bs) (chainCovered f (u .vdr) bs)) cs
-  unfolding turnOf
-  chain-turns u k bs p cs =
-      link-turns f (Step k) (chainRules f (u .kind) (u .vdr)) bs p (chainOver f u (headOr0 bs) (chainCovered f (u .vdr) bs)) (λ o. typeNumber f o (pos 6)) (vxrRule f)
-      (λ o. entered f u o 0 (chainFloor f bs) (chainCovered f (u .vdr) bs)) (some ahead) cs (λ o. same ((typeNumber f o (pos 6) ≡ 0) × (vxrRule f o ≡ 0)))
-      (same ((chainTally f (u .vdr) (headOr0 bs) (chainCovered f (u .vdr) bs) ≡ 0) × Step k ahead cs)) (same (p + 4 ≤ endOf f))
-    where
-      ahead : W.Walk
-      ahead = Vars (u .kind) (u .vdr + 8) (u .place + 1) (u .greatest)
+  -- ---- from and to a place with no index record above it
+  abbrev Leading : {B : Type 0} → W.Walk → (B → Type 0) → (B → List ℕ) → W.Walk → Type 0
+  Leading w R c v = Leads (Steps f) (top w) R c (λ b. some (top v))
 
-  chain-lead : (u : Var) (p : ℕ)
-      → Leads turn (Chain u p 0 0 false) (Listed f (chainRules f (u .kind) (u .vdr)) [] p) (indexOffsets f) (λ xs. some (Vars (u .kind) (u .vdr + 8) (u .place + 1) (u .greatest)))
-  chain-lead u p =
-      list-leads turn {B = Unit {0}} f (chainRules f (u .kind) (u .vdr)) (λ o t. o) (λ x. tt) (λ x. namedByAll f (slotsOf f x)) (λ o b. refl) (λ x. refl)
-      (λ bs p. Chain u p (headOr0 bs) (chainFloor f bs) (chainCovered f (u .vdr) bs)) (λ bs o. entered f u o 0 (chainFloor f bs) (chainCovered f (u .vdr) bs))
-      (λ bs. some (Vars (u .kind) (u .vdr + 8) (u .place + 1) (u .greatest))) (chain-turns u) (λ bs o. row-lead u o (chainFloor f bs) (chainCovered f (u .vdr) bs)) [] p
+  arrives : {B : Type 0} {w v x : W.Walk} {R : B → Type 0} {c : B → List ℕ} → v ≡ x → Leading w R c v → Leading w R c x
+  arrives {B} {w} {v} {x} {R} {c} e l = subst (λ (y : W.Walk). Leading w R c y) e l
+
+  abbrev Linking : {X : Type 0} → Rules X → ℕ → List X → ℕ → W.Walk → (ℕ → W.Walk) → List ℕ → Type 0
+  Linking r k bs p v next cs = LinkEnds f r (Step k) bs p (some (top v)) (λ o. top (next o)) cs
+
+  -- the VXRs of a VDR
+  module _ (u : Var) where
+    abbrev ahead : W.Walk
+    ahead = Vars (u .kind) (u .vdr + 8) (u .place + 1) (u .greatest)
+
+    abbrev carriedTo : List ℕ → Carried
+    carriedTo bs = chainCarried f (u .kind) (u .vdr) bs
+
+    abbrev linkOf : List ℕ → ℕ → W.Walk
+    linkOf bs p = Chain u p (headOr0 bs) (carriedTo bs .floor) (carriedTo bs .covered)
+
+    abbrev entriesOf : List ℕ → ℕ → W.Walk
+    entriesOf bs o = entered f u o 0 (carriedTo bs .floor) (carriedTo bs .covered)
+
+    chain-turns : (k : ℕ) (bs : List ℕ) (p : ℕ) (cs : List ℕ)
+        → Steps f (Step k) (top (linkOf bs p)) cs ↔ Linking (chainRules f (u .kind) (u .vdr)) k bs p ahead (entriesOf bs) cs
+    unfolding turnBy isNone
+    chain-turns k bs p cs =
+        link-turns f (Step k) noLevels (chainRules f (u .kind) (u .vdr)) bs p (chainOver f u (headOr0 bs) (carriedTo bs .covered))
+        (λ o. typeNumber f o (pos 6)) (vxrRule f) (entriesOf bs) (some (top ahead)) cs (λ o. same ((typeNumber f o (pos 6) ≡ 0) × (vxrRule f o ≡ 0)))
+        (same ((chainTally f (u .vdr) (headOr0 bs) (carriedTo bs .covered) ≡ 0) × Step k (top ahead) cs)) (same (p + 4 ≤ endOf f))
+
+    chain-lead : (p : ℕ) → Leading (Chain u p 0 0 false) (Listed f (chainRules f (u .kind) (u .vdr)) [] p) (indexOffsets f) ahead
+    chain-lead p =
+        list-leads (Steps f) {B = Unit {0}} f (chainRules f (u .kind) (u .vdr)) (λ o t. o) (λ x. tt)
+        (λ x. namedByAll f (flat (entriesUnder f levelsBelow) (slotsOf f x))) (λ o b. refl) (λ x. refl)
+        (λ bs p. top (linkOf bs p)) (λ bs o. top (entriesOf bs o)) (λ bs. some (top ahead)) chain-turns (λ bs o. row-lead u o (carriedTo bs)) [] p
 
   -- the VDRs of a kind
   abbrev maxRecs : List ListedVdr → ℕ
   maxRecs bs = greatestBy f (λ v. v .vdr + 16) bs
 
   vars-turns : (kind k : ℕ) (bs : List ListedVdr) (p : ℕ) (cs : List ℕ)
-      → EndsBy (Step k) (turn (Vars kind p (length bs) (maxRecs bs))) cs
-      ↔ LinkEnds f (varsRules f kind) (Step k) bs p (some (afterVars f kind)) (λ o. intoIndex f kind (length bs) (maxRecs bs) o) cs
-  unfolding turnOf
+      → Steps f (Step k) (top (Vars kind p (length bs) (maxRecs bs))) cs
+      ↔ Linking (varsRules f kind) k bs p (afterVars f kind) (intoIndex f kind (length bs) (maxRecs bs)) cs
+  unfolding turnBy
   vars-turns kind k bs p cs =
-      link-turns f (Step k) (varsRules f kind) bs p (overBy f (varsTally f kind (length bs) (maxRecs bs)) (afterVars f kind)) (λ o. typeNumber f o (pos kind)) (varNumber f kind (length bs))
-      (λ o. intoIndex f kind (length bs) (maxRecs bs) o) (some (afterVars f kind)) cs (λ o. same ((typeNumber f o (pos kind) ≡ 0) × (varNumber f kind (length bs) o ≡ 0)))
-      (over-turns f (Step k) (varsTally f kind (length bs) (maxRecs bs)) (afterVars f kind) cs) (same (p + 4 ≤ endOf f))
+      let number = varsTally f kind (length bs) (maxRecs bs) in
+      link-turns f (Step k) noLevels (varsRules f kind) bs p (overBy f number (afterVars f kind)) (λ o. typeNumber f o (pos kind)) (varNumber f kind (length bs))
+      (intoIndex f kind (length bs) (maxRecs bs)) (some (top (afterVars f kind))) cs
+      (λ o. same ((typeNumber f o (pos kind) ≡ 0) × (varNumber f kind (length bs) o ≡ 0)))
+      (over-turns f (Step k) noLevels number (afterVars f kind) cs) (same (p + 4 ≤ endOf f))
 
   index-lead : (kind : ℕ) (bs : List ListedVdr) (o : ℕ)
-      → Leads turn (intoIndex f kind (length bs) (maxRecs bs) o) (Listed f (chainRules f kind o) [] (o + 20)) (indexOffsets f)
-      (λ xs. some (Vars kind (o + 8) (suc (length bs)) (max (afterAt f (o + 16)) (maxRecs bs))))
+      → Leading (intoIndex f kind (length bs) (maxRecs bs) o) (Listed f (chainRules f kind o) [] (o + 20)) (indexOffsets f)
+      (Vars kind (o + 8) (suc (length bs)) (max (afterAt f (o + 16)) (maxRecs bs)))
   index-lead kind bs o =
       let u : Var = record { kind = kind; vdr = o; place = length bs; greatest = max (afterAt f (o + 16)) (maxRecs bs) } in
-      subst
-      (λ (n : ℕ). Leads turn (intoIndex f kind (length bs) (maxRecs bs) o) (Listed f (chainRules f kind o) [] (o + 20)) (indexOffsets f)
-      (λ xs. some (Vars kind (o + 8) n (max (afterAt f (o + 16)) (maxRecs bs)))))
-      (add-one (length bs)) (chain-lead u (o + 20))
+      arrives (ap (λ (n : ℕ). Vars kind (o + 8) n (max (afterAt f (o + 16)) (maxRecs bs))) (add-one (length bs))) (chain-lead u (o + 20))
 
-  vars-lead : (kind p : ℕ) → Leads turn (Vars kind p 0 0) (Listed f (varsRules f kind) [] p) (variableOffsets f) (λ xs. some (afterVars f kind))
+  vars-lead : (kind p : ℕ) → Leading (Vars kind p 0 0) (Listed f (varsRules f kind) [] p) (variableOffsets f) (afterVars f kind)
   vars-lead kind p =
-      list-leads turn f (varsRules f kind) (λ o xs. record { vdr = o; vxrs = xs }) (λ v. v .vxrs) (λ v. indexOffsets f (v .vxrs)) (λ o b. refl) (λ x. refl)
-      (λ bs p. Vars kind p (length bs) (maxRecs bs)) (λ bs o. intoIndex f kind (length bs) (maxRecs bs) o) (λ bs. some (afterVars f kind)) (vars-turns kind) (index-lead kind) [] p
+      list-leads (Steps f) f (varsRules f kind) (λ o xs. record { vdr = o; vxrs = xs }) (λ v. v .vxrs) (λ v. indexOffsets f (v .vxrs))
+      (λ o b. refl) (λ x. refl) (λ bs p. top (Vars kind p (length bs) (maxRecs bs))) (λ bs o. top (intoIndex f kind (length bs) (maxRecs bs) o))
+      (λ bs. some (top (afterVars f kind))) (vars-turns kind) (index-lead kind) [] p
 
   -- lists of records below which nothing hangs
   plain-offsets : (xs : List ℕ) → offsets (λ o. o) (λ o. []) xs ≡ xs
@@ -332,90 +486,101 @@ module _ (f : List ℕ) where
   abbrev numbers : List ℕ → ℕ
   numbers bs = greatestBy f (λ e. e + 20) bs
 
-  abbrev nextEntry : ℕ → ℕ → ℕ → List ℕ → ℕ → ℕ → W.Walk
-  nextEntry kind a n bs e o = Entries kind a n (o + 8) e (max (afterAt f (o + 20)) (numbers bs))
-
-  entries-turns : (kind a n k : ℕ) (bs : List ℕ) (p : ℕ) (cs : List ℕ)
-      → EndsBy (Step k) (turn (Entries kind a n p (held (length bs)) (numbers bs))) cs
-      ↔ LinkEnds f (entriesRules f kind a) (Step k) bs p (some (afterEntries kind a n)) (nextEntry kind a n bs (oneMore (held (length bs)))) cs
-  unfolding turnOf
-  entries-turns kind a n k bs p cs =
-      link-turns f (Step k) (entriesRules f kind a) bs p (entriesOver f kind a n (held (length bs)) (numbers bs)) (λ o. typeNumber f o (pos kind)) (entryNumber f a)
-      (nextEntry kind a n bs (oneMore (held (length bs)))) (some (afterEntries kind a n)) cs (λ o. same ((typeNumber f o (pos kind) ≡ 0) × (entryNumber f a o ≡ 0)))
-      (same ((entriesTally f kind a (held (length bs)) (numbers bs) ≡ 0) × Step k (afterEntries kind a n) cs)) (same (p + 4 ≤ endOf f))
-
   held-more : (n : ℕ) → oneMore (held n) ≡ held (suc n)
   unfolding oneMore
   held-more n = omega arith
 
-  entries-lead : (kind a n p : ℕ)
-      → Leads turn (Entries kind a n p 0 0) (Listed f (entriesRules f kind a) [] p) (λ es. es) (λ es. some (afterEntries kind a n))
-  entries-lead kind a n p =
-      claims-as turn (λ es. es) plain-offsets
-      (list-leads turn {B = Unit {0}} f (entriesRules f kind a) (λ o t. o) (λ x. tt) (λ x. []) (λ o b. refl) (λ x. refl)
-      (λ bs p. Entries kind a n p (held (length bs)) (numbers bs)) (λ bs o. nextEntry kind a n bs (oneMore (held (length bs))) o) (λ bs. some (afterEntries kind a n)) (entries-turns kind a n) body [] p)
-    where
-      body : (bs : List ℕ) (o : ℕ)
-          → Leads turn {B = Unit {0}} (nextEntry kind a n bs (oneMore (held (length bs))) o) (λ t. Unit {0}) (λ t. []) (λ t. some (nextEntry kind a n bs (held (suc (length bs))) o))
-      body bs o =
-          subst (λ (j : ℕ). Leads turn {B = Unit {0}} (nextEntry kind a n bs (oneMore (held (length bs))) o) (λ t. Unit {0}) (λ t. []) (λ t. some (nextEntry kind a n bs j o)))
-          (held-more (length bs)) (none-leads turn (nextEntry kind a n bs (oneMore (held (length bs))) o))
+  module _ (kind a n : ℕ) where
+    abbrev nextEntry : List ℕ → ℕ → ℕ → W.Walk
+    nextEntry bs e o = Entries kind a n (o + 8) e (max (afterAt f (o + 20)) (numbers bs))
+
+    entries-turns : (k : ℕ) (bs : List ℕ) (p : ℕ) (cs : List ℕ)
+        → Steps f (Step k) (top (Entries kind a n p (held (length bs)) (numbers bs))) cs
+        ↔ Linking (entriesRules f kind a) k bs p (afterEntries kind a n) (nextEntry bs (oneMore (held (length bs)))) cs
+    unfolding turnBy
+    entries-turns k bs p cs =
+        link-turns f (Step k) noLevels (entriesRules f kind a) bs p (entriesOver f kind a n (held (length bs)) (numbers bs))
+        (λ o. typeNumber f o (pos kind)) (entryNumber f a) (nextEntry bs (oneMore (held (length bs)))) (some (top (afterEntries kind a n))) cs
+        (λ o. same ((typeNumber f o (pos kind) ≡ 0) × (entryNumber f a o ≡ 0)))
+        (same ((entriesTally f kind a (held (length bs)) (numbers bs) ≡ 0) × Step k (top (afterEntries kind a n)) cs)) (same (p + 4 ≤ endOf f))
+
+    entries-lead : (p : ℕ) → Leading (Entries kind a n p 0 0) (Listed f (entriesRules f kind a) [] p) (λ es. es) (afterEntries kind a n)
+    entries-lead p =
+        claims-as (Steps f) (λ es. es) plain-offsets
+        (list-leads (Steps f) {B = Unit {0}} f (entriesRules f kind a) (λ o t. o) (λ x. tt) (λ x. []) (λ o b. refl) (λ x. refl)
+        (λ bs p. top (Entries kind a n p (held (length bs)) (numbers bs))) (λ bs o. top (nextEntry bs (oneMore (held (length bs))) o))
+        (λ bs. some (top (afterEntries kind a n))) entries-turns body [] p)
+      where
+        body : (bs : List ℕ) (o : ℕ)
+            → Leading {B = Unit {0}} (nextEntry bs (oneMore (held (length bs))) o) (λ t. Unit {0}) (λ t. []) (nextEntry bs (held (suc (length bs))) o)
+        body bs o =
+            arrives (ap (λ (j : ℕ). nextEntry bs j o) (held-more (length bs))) (none-leads (Steps f) (top (nextEntry bs (oneMore (held (length bs))) o)))
 
   -- the ADRs
-  attrs-turns : (k : ℕ) (bs : List ListedAdr) (p : ℕ) (cs : List ℕ)
-      → EndsBy (Step k) (turn (Attrs p (length bs))) cs
-      ↔ LinkEnds f (attrsRules f) (Step k) bs p (some (Unused (gdrAt f + 44) 0)) (λ o. Entries 5 o (length bs) (o + 12) 0 0) cs
-  unfolding turnOf
-  attrs-turns k bs p cs =
-      link-turns f (Step k) (attrsRules f) bs p (overBy f (fieldNumber f (gdrAt f + 28) (pos (length bs))) (Unused (gdrAt f + 44) 0)) (λ o. typeNumber f o (pos 4)) (attrNumber f (length bs))
-      (λ o. Entries 5 o (length bs) (o + 12) 0 0) (some (Unused (gdrAt f + 44) 0)) cs (λ o. same ((typeNumber f o (pos 4) ≡ 0) × (attrNumber f (length bs) o ≡ 0)))
-      (over-turns f (Step k) (fieldNumber f (gdrAt f + 28) (pos (length bs))) (Unused (gdrAt f + 44) 0) cs) (same (p + 4 ≤ endOf f))
+  abbrev unusedFirst : W.Walk
+  unusedFirst = Unused (gdrAt f + 44) 0
 
-  attrs-lead : (p : ℕ) → Leads turn (Attrs p 0) (Listed f (attrsRules f) [] p) attributeOffsets (λ xs. some (Unused (gdrAt f + 44) 0))
+  attrs-turns : (k : ℕ) (bs : List ListedAdr) (p : ℕ) (cs : List ℕ)
+      → Steps f (Step k) (top (Attrs p (length bs))) cs ↔ Linking (attrsRules f) k bs p unusedFirst (λ o. Entries 5 o (length bs) (o + 12) 0 0) cs
+  unfolding turnBy
+  attrs-turns k bs p cs =
+      let number = fieldNumber f (gdrAt f + 28) (pos (length bs)) in
+      link-turns f (Step k) noLevels (attrsRules f) bs p (overBy f number unusedFirst) (λ o. typeNumber f o (pos 4)) (attrNumber f (length bs))
+      (λ o. Entries 5 o (length bs) (o + 12) 0 0) (some (top unusedFirst)) cs
+      (λ o. same ((typeNumber f o (pos 4) ≡ 0) × (attrNumber f (length bs) o ≡ 0)))
+      (over-turns f (Step k) noLevels number unusedFirst cs) (same (p + 4 ≤ endOf f))
+
+  attrs-lead : (p : ℕ) → Leading (Attrs p 0) (Listed f (attrsRules f) [] p) attributeOffsets unusedFirst
   attrs-lead p =
-      list-leads turn {B = List ℕ × List ℕ} f (attrsRules f) (λ o b. record { adr = o; grEntries = b .0; zEntries = b .1 }) (λ a. (a .grEntries, a .zEntries)) (λ a. a .grEntries ++ a .zEntries)
-      (λ o b. refl) (λ x. refl) (λ bs p. Attrs p (length bs)) (λ bs o. Entries 5 o (length bs) (o + 12) 0 0) (λ bs. some (Unused (gdrAt f + 44) 0)) attrs-turns body [] p
+      list-leads (Steps f) {B = List ℕ × List ℕ} f (attrsRules f) (λ o b. record { adr = o; grEntries = b .0; zEntries = b .1 })
+      (λ a. (a .grEntries, a .zEntries)) (λ a. a .grEntries ++ a .zEntries) (λ o b. refl) (λ x. refl)
+      (λ bs p. top (Attrs p (length bs))) (λ bs o. top (Entries 5 o (length bs) (o + 12) 0 0)) (λ bs. some (top unusedFirst)) attrs-turns body [] p
     where
       body : (bs : List ListedAdr) (o : ℕ)
-          → Leads turn {B = List ℕ × List ℕ} (Entries 5 o (length bs) (o + 12) 0 0)
+          → Leading {B = List ℕ × List ℕ} (Entries 5 o (length bs) (o + 12) 0 0)
           (λ b. Listed f (entriesRules f 5 o) [] (o + 12) (b .0) × Listed f (entriesRules f 9 o) [] (o + 36) (b .1)) (λ b. b .0 ++ b .1)
-          (λ b. some (Attrs (o + 8) (suc (length bs))))
+          (Attrs (o + 8) (suc (length bs)))
       body bs o =
-          subst
-          (λ (n : ℕ). Leads turn {B = List ℕ × List ℕ} (Entries 5 o (length bs) (o + 12) 0 0)
-          (λ b. Listed f (entriesRules f 5 o) [] (o + 12) (b .0) × Listed f (entriesRules f 9 o) [] (o + 36) (b .1)) (λ b. b .0 ++ b .1)
-          (λ b. some (Attrs (o + 8) n))) (add-one (length bs))
-          (then-leads turn (λ a. Entries 9 o (length bs) (o + 36) 0 0) (entries-lead 5 o (length bs) (o + 12)) (λ a. entries-lead 9 o (length bs) (o + 36)))
+          arrives (ap (λ (n : ℕ). Attrs (o + 8) n) (add-one (length bs)))
+          (then-leads (Steps f) (λ a. top (Entries 9 o (length bs) (o + 36) 0 0)) (entries-lead 5 o (length bs) (o + 12))
+          (λ a. entries-lead 9 o (length bs) (o + 36)))
 
   -- the UIRs
   unused-turns : (k : ℕ) (bs : List ℕ) (p : ℕ) (cs : List ℕ)
-      → EndsBy (Step k) (turn (Unused p (headOr0 bs))) cs ↔ LinkEnds f (unusedRules f) (Step k) bs p none (λ o. Unused (o + 8) o) cs
-  unfolding turnOf
+      → Steps f (Step k) (top (Unused p (headOr0 bs))) cs ↔ LinkEnds f (unusedRules f) (Step k) bs p none (λ o. top (Unused (o + 8) o)) cs
+  unfolding turnBy
   unused-turns k bs p cs =
-      link-turns f (Step k) (unusedRules f) bs p (End 0) (λ o. typeNumber f o (negsuc 0)) (unusedNumber f (headOr0 bs)) (λ o. Unused (o + 8) o) none cs
+      link-turns f (Step k) noLevels (unusedRules f) bs p (End 0) (λ o. typeNumber f o (negsuc 0)) (unusedNumber f (headOr0 bs)) (λ o. Unused (o + 8) o) none cs
       (λ o. same ((typeNumber f o (negsuc 0) ≡ 0) × (unusedNumber f (headOr0 bs) o ≡ 0))) (λ e. (tt, e .1), λ t. (refl, t .1)) (same (p + 4 ≤ endOf f))
 
-  unused-lead : (p : ℕ) → Leads turn (Unused p 0) (Listed f (unusedRules f) [] p) (λ us. us) (λ us. none)
+  unused-lead : (p : ℕ) → Leads (Steps f) (top (Unused p 0)) (Listed f (unusedRules f) [] p) (λ us. us) (λ us. none)
   unused-lead p =
-      claims-as turn (λ us. us) plain-offsets
-      (list-leads turn {B = Unit {0}} f (unusedRules f) (λ o t. o) (λ x. tt) (λ x. []) (λ o b. refl) (λ x. refl)
-      (λ bs p. Unused p (headOr0 bs)) (λ bs o. Unused (o + 8) o) (λ bs. none) unused-turns (λ bs o. none-leads turn (Unused (o + 8) o)) [] p)
+      claims-as (Steps f) (λ us. us) plain-offsets
+      (list-leads (Steps f) {B = Unit {0}} f (unusedRules f) (λ o t. o) (λ x. tt) (λ x. []) (λ o b. refl) (λ x. refl)
+      (λ bs p. top (Unused p (headOr0 bs))) (λ bs o. top (Unused (o + 8) o)) (λ bs. none) unused-turns
+      (λ bs o. none-leads (Steps f) (top (Unused (o + 8) o))) [] p)
 
-  start-turns : (k : ℕ) (cs : List ℕ) → EndsBy (Step k) (turn Start) cs
-      ↔ (((gdrNamed f ≡ true) × (typeNumber f (gdrAt f) (pos 2) ≡ 0)) × (ds : List ℕ) × (cs ≡ gdrAt f ∷ ds) × Step k (Vars 3 (gdrAt f + 8) 0 0) ds)
-  unfolding turnOf
+  start-turns : (k : ℕ) (cs : List ℕ) → Steps f (Step k) (top Start) cs
+      ↔ (((gdrNamed f ≡ true) × (typeNumber f (gdrAt f) (pos 2) ≡ 0)) × (ds : List ℕ) × (cs ≡ gdrAt f ∷ ds) × Step k (top (Vars 3 (gdrAt f + 8) 0 0)) ds)
+  unfolding turnBy
   start-turns k cs = (
     λ e.
-        let t = allowed-reads f (Step k) (gdrNamed f) (takes 0 (gdrAt f) (typeNumber f (gdrAt f) (pos 2)) 0 (Vars 3 (gdrAt f + 8) 0 0)) cs e in
-        let r = takes-reads f (Step k) 0 (gdrAt f) (typeNumber f (gdrAt f) (pos 2)) 0 (Vars 3 (gdrAt f + 8) 0 0) cs (t .1) in
+        let t = allowed-reads f (Step k) noLevels (gdrNamed f) (takes 0 (gdrAt f) typed 0 variables) cs e in
+        let r = takes-reads f (Step k) noLevels 0 (gdrAt f) typed 0 variables cs (t .1) in
         ((t .0, r .1), r .3, r .4, r .5),
-    λ t. rw (t .0 .0) (takes-makes f (Step k) 0 (gdrAt f) (typeNumber f (gdrAt f) (pos 2)) 0 (Vars 3 (gdrAt f + 8) 0 0) cs (t .1) refl (t .0 .1) refl (t .2) (t .3)),
+    λ t. rw (t .0 .0) (takes-makes f (Step k) noLevels 0 (gdrAt f) typed 0 variables cs (t .1) refl (t .0 .1) refl (t .2) (t .3)),
   )
+    where
+      typed : ℕ
+      typed = typeNumber f (gdrAt f) (pos 2)
+
+      variables : W.Walk
+      variables = Vars 3 (gdrAt f + 8) 0 0
 
   -- THE WALK reads off the nested rules
-  pub walk-lead : Leads turn Start (NestedObeys f) (claimsOf f) (λ y. none)
+  pub walk-lead : Leads (Steps f) (top Start) (NestedObeys f) (claimsOf f) (λ y. none)
   walk-lead =
-      take-leads turn Start (Vars 3 (gdrAt f + 8) 0 0) (gdrAt f) ((gdrNamed f ≡ true) × (typeNumber f (gdrAt f) (pos 2) ≡ 0)) start-turns
-      (then-leads turn (λ y. Vars 8 (gdrAt f + 12) 0 0) (vars-lead 3 (gdrAt f + 8))
-      (λ y. then-leads turn (λ y. Attrs (gdrAt f + 16) 0) (vars-lead 8 (gdrAt f + 12))
-      (λ y. then-leads turn (λ y. Unused (gdrAt f + 44) 0) (attrs-lead (gdrAt f + 16)) (λ y. unused-lead (gdrAt f + 44)))))
+      take-leads (Steps f) (top Start) (top (Vars 3 (gdrAt f + 8) 0 0)) (gdrAt f) ((gdrNamed f ≡ true) × (typeNumber f (gdrAt f) (pos 2) ≡ 0)) start-turns
+      (then-leads (Steps f) (λ y. top (Vars 8 (gdrAt f + 12) 0 0)) (vars-lead 3 (gdrAt f + 8))
+      (λ y. then-leads (Steps f) (λ y. top (Attrs (gdrAt f + 16) 0)) (vars-lead 8 (gdrAt f + 12))
+      (λ y. then-leads (Steps f) (λ y. top (Unused (gdrAt f + 44) 0)) (attrs-lead (gdrAt f + 16)) (λ y. unused-lead (gdrAt f + 44)))))

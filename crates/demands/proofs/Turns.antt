@@ -1,4 +1,4 @@
--- The walk without marks: what it claims on its way to its end, and how lists of records are read off it. Assumes nothing.
+-- A walk of any kind: how lists of records are read off it. Assumes nothing.
 use mathlib.Core.Path.{_≡_, refl, sym, ap, _∙_, subst}
 use mathlib.Core.Logic.{_↔_, _≢_, _⊎_, inl, inr}
 use mathlib.Core.Option.{Option, none, some}
@@ -7,10 +7,8 @@ use Prim.Native.Nat.{ℕ, zero, suc, _+_, _≤_}
 use native.Mathlib.Omega.{arith}
 use native.Mathlib.Nat.{le-refl}
 use Rattle.format.specs.Fields.{linkAt}
-use Rattle.walk.specs.declared.places.Walk as W
-use Rattle.walk.specs.declared.places.Turn as T
-use Rattle.walk.specs.declared.places.Turn.the-variants.{Over, End, Take}
 use Rattle.demands.specs.Acceptance.{offsets}
+use Rattle.demands.proofs.Goes.{Ends, Goes}
 
 -- what is claimed in two parts, of which the first begins with t; of which the second is nothing
 pub cons-split : (t : ℕ) (cs ds x rest : List ℕ) → cs ≡ t ∷ ds → ds ≡ x ++ rest → cs ≡ t ∷ (x ++ rest)
@@ -19,26 +17,17 @@ cons-split t cs ds x rest e g = rw (e, g)
 pub whole-split : (cs x rest : List ℕ) → cs ≡ x ++ rest → rest ≡ [] → cs ≡ x
 whole-split cs x rest e g = rw (e, g, append-nil)
 
-abbrev pub EndsAt : (W.Walk → List ℕ → Type 0) → Option W.Walk → List ℕ → Type 0
+-- where the walk goes on ends well, or there is nowhere
+abbrev pub EndsAt : {Place : Type 0} → (Place → List ℕ → Type 0) → Option Place → List ℕ → Type 0
 EndsAt E none cs = cs ≡ []
 EndsAt E (some w) cs = E w cs
 
-abbrev pub EndsBy : (W.Walk → List ℕ → Type 0) → T.Turn → List ℕ → Type 0
-EndsBy E (Over v w) cs = (v ≡ 0) × E w cs
-EndsBy E (End v) cs = (v ≡ 0) × (cs ≡ [])
-EndsBy E (Take b t k l w) cs = (b ≡ 0) × (k ≡ 0) × (l ≡ 0) × (ds : List ℕ) × (cs ≡ t ∷ ds) × E w ds
-
-module _ (turn : W.Walk → T.Turn) where
-  -- from w the walk ends well within k steps, whatever the marks say, and claims cs
-  abbrev pub Ends : ℕ → W.Walk → List ℕ → Type 0
-  Ends zero w cs = ⊥
-  Ends (suc k) w cs = EndsBy (Ends k) (turn w) cs
-
-  abbrev pub EndsG : ℕ → Option W.Walk → List ℕ → Type 0
-  EndsG k g cs = EndsAt (Ends k) g cs
+module _ {Place : Type 0} (Step : (Place → List ℕ → Type 0) → Place → List ℕ → Type 0) where
+  abbrev pub EndsG : ℕ → Option Place → List ℕ → Type 0
+  EndsG k g cs = EndsAt (Ends Step k) g cs
 
   -- the walk that begins at w reads off some b with the rule R, claims c b, and goes on at `to b`
-  pub record Read {B : Type 0} (w : W.Walk) (R : B → Type 0) (c : B → List ℕ) (to : B → Option W.Walk) (k : ℕ) (cs : List ℕ) : Type 0 where
+  pub record Read {B : Type 0} (w : Place) (R : B → Type 0) (c : B → List ℕ) (to : B → Option Place) (k : ℕ) (cs : List ℕ) : Type 0 where
     pub what : B
     pub obeys : R what
     pub left : ℕ
@@ -47,9 +36,9 @@ module _ (turn : W.Walk → T.Turn) where
     pub split : cs ≡ c what ++ rest
     pub ends : EndsG left (to what) rest
 
-  pub record Leads {B : Type 0} (w : W.Walk) (R : B → Type 0) (c : B → List ℕ) (to : B → Option W.Walk) : Type 0 where
-    pub reads : (k : ℕ) (cs : List ℕ) → Ends k w cs → Read w R c to k cs
-    pub makes : (b : B) (k : ℕ) (cs : List ℕ) → R b → EndsG k (to b) cs → (j : ℕ) × Ends j w (c b ++ cs)
+  pub record Leads {B : Type 0} (w : Place) (R : B → Type 0) (c : B → List ℕ) (to : B → Option Place) : Type 0 where
+    pub reads : (k : ℕ) (cs : List ℕ) → Ends Step k w cs → Read w R c to k cs
+    pub makes : (b : B) (k : ℕ) (cs : List ℕ) → R b → EndsG k (to b) cs → (j : ℕ) × Ends Step j w (c b ++ cs)
 
 -- ---- a list of records, each with what hangs below it: an X. `before` are those met so far, the nearest first
 pub record Rules (X : Type 0) : Type 1 where
@@ -65,34 +54,36 @@ Listed f r before p [] = (r .here before p) × (linkAt f p ≡ 0) × (r .tally b
 Listed f r before p (x ∷ xs) =
     (r .here before p) × (linkAt f p ≡ r .at x) × (r .at x ≢ 0) × (r .good before (r .at x)) × (r .below before x) × (Listed f r (x ∷ before) (r .at x + 8) xs)
 
--- a step at a link of such a list ends well: the link is zero and the list is over, or a record that keeps its rule is taken
-abbrev pub LinkEnds : {X : Type 0} → List ℕ → Rules X → (W.Walk → List ℕ → Type 0) → List X → ℕ → Option W.Walk → (ℕ → W.Walk) → List ℕ → Type 0
-LinkEnds f r E bs p fin inside cs =
-    (r .here bs p)
-    × (((linkAt f p ≡ 0) × (r .tally bs) × (EndsAt E fin cs))
-    ⊎ ((linkAt f p ≢ 0) × (r .good bs (linkAt f p)) × (ds : List ℕ) × (cs ≡ linkAt f p ∷ ds) × (E (inside (linkAt f p)) ds)))
+-- a link of such a list is zero and the list is over, or a record that keeps its rule is taken
+abbrev pub LinkGoes : {Place X : Type 0} → List ℕ → Rules X → (Place → List ℕ → Type 0) → List X → ℕ → Option Place → (ℕ → Place) → List ℕ → Type 0
+LinkGoes f r E bs p fin inside cs =
+    ((linkAt f p ≡ 0) × (r .tally bs) × (EndsAt E fin cs))
+    ⊎ ((linkAt f p ≢ 0) × (r .good bs (linkAt f p)) × (ds : List ℕ) × (cs ≡ linkAt f p ∷ ds) × (E (inside (linkAt f p)) ds))
 
-module _ (turn : W.Walk → T.Turn) {X B : Type 0} (f : List ℕ) (r : Rules X) (mk : ℕ → B → X) (sub : X → B) (c : X → List ℕ)
-    (mk-at : (o : ℕ) (b : B) → r .at (mk o b) ≡ o) (mk-sub : (x : X) → mk (r .at x) (sub x) ≡ x)
-    (loop : List X → ℕ → W.Walk) (inside : List X → ℕ → W.Walk) (fin : List X → Option W.Walk)
-    (turns : (k : ℕ) (bs : List X) (p : ℕ) (cs : List ℕ) → EndsBy (Ends turn k) (turn (loop bs p)) cs ↔ LinkEnds f r (Ends turn k) bs p (fin bs) (inside bs) cs)
-    (body : (bs : List X) (o : ℕ) → Leads turn (inside bs o) (λ b. r .below bs (mk o b)) (λ b. c (mk o b)) (λ b. some (loop (mk o b ∷ bs) (o + 8))))
+-- a step at one ends well
+abbrev pub LinkEnds : {Place X : Type 0} → List ℕ → Rules X → (Place → List ℕ → Type 0) → List X → ℕ → Option Place → (ℕ → Place) → List ℕ → Type 0
+LinkEnds f r E bs p fin inside cs = (r .here bs p) × LinkGoes f r E bs p fin inside cs
+
+module _ {Place : Type 0} (Step : (Place → List ℕ → Type 0) → Place → List ℕ → Type 0) {X B : Type 0} (f : List ℕ) (r : Rules X)
+    (mk : ℕ → B → X) (sub : X → B) (c : X → List ℕ) (mk-at : (o : ℕ) (b : B) → r .at (mk o b) ≡ o) (mk-sub : (x : X) → mk (r .at x) (sub x) ≡ x)
+    (loop : List X → ℕ → Place) (inside : List X → ℕ → Place) (fin : List X → Option Place)
+    (turns : (k : ℕ) (bs : List X) (p : ℕ) (cs : List ℕ) → Step (Ends Step k) (loop bs p) cs ↔ LinkEnds f r (Ends Step k) bs p (fin bs) (inside bs) cs)
+    (body : (bs : List X) (o : ℕ) → Leads Step (inside bs o) (λ b. r .below bs (mk o b)) (λ b. c (mk o b)) (λ b. some (loop (mk o b ∷ bs) (o + 8))))
   where
     Reads : List X → ℕ → ℕ → List ℕ → Type 0
-    Reads bs p k cs = Read turn (loop bs p) (Listed f r bs p) (offsets (r .at) c) (λ xs. fin (reverseAux xs bs)) k cs
+    Reads bs p k cs = Read Step (loop bs p) (Listed f r bs p) (offsets (r .at) c) (λ xs. fin (reverseAux xs bs)) k cs
 
     regroup : (o o′ : ℕ) (cs ds x es y z : List ℕ) → o ≡ o′ → cs ≡ o ∷ ds → ds ≡ x ++ es → es ≡ y ++ z → cs ≡ (o′ ∷ (x ++ y)) ++ z
     regroup o o′ cs ds x es y z q e f g = rw (e, f, g, append-assoc, q)
 
     -- one record, and then the rest by the hypothesis
     reads-more : (bs : List X) (p k : ℕ) (cs : List ℕ)
-        → ((bs : List X) (p j : ℕ) (cs : List ℕ) → j ≤ k → Ends turn j (loop bs p) cs → Reads bs p j cs)
-        → LinkEnds f r (Ends turn k) bs p (fin bs) (inside bs) cs → Reads bs p (suc k) cs
+        → ((bs : List X) (p j : ℕ) (cs : List ℕ) → j ≤ k → Ends Step j (loop bs p) cs → Reads bs p j cs)
+        → LinkEnds f r (Ends Step k) bs p (fin bs) (inside bs) cs → Reads bs p (suc k) cs
     unfolding Reads
     reads-more bs p k cs ih e = go (e .1)
       where
-        go : (((linkAt f p ≡ 0) × (r .tally bs) × (EndsAt (Ends turn k) (fin bs) cs))
-            ⊎ ((linkAt f p ≢ 0) × (r .good bs (linkAt f p)) × (ds : List ℕ) × (cs ≡ linkAt f p ∷ ds) × (Ends turn k (inside bs (linkAt f p)) ds))) → Reads bs p (suc k) cs
+        go : LinkGoes f r (Ends Step k) bs p (fin bs) (inside bs) cs → Reads bs p (suc k) cs
         go (inl h) = record { what = []; obeys = (e .0, h .0, h .1); left = k; rest = cs; fewer = omega arith; split = refl; ends = h .2 }
         go (inr h) =
             let o = linkAt f p in
@@ -118,17 +109,17 @@ module _ (turn : W.Walk → T.Turn) {X B : Type 0} (f : List ℕ) (r : Rules X) 
             }
 
     reads-one : (n : ℕ) (bs : List X) (p k : ℕ) (cs : List ℕ) → k ≤ suc n
-        → ((bs : List X) (p j : ℕ) (cs : List ℕ) → j ≤ n → Ends turn j (loop bs p) cs → Reads bs p j cs)
-        → Ends turn k (loop bs p) cs → Reads bs p k cs
+        → ((bs : List X) (p j : ℕ) (cs : List ℕ) → j ≤ n → Ends Step j (loop bs p) cs → Reads bs p j cs)
+        → Ends Step k (loop bs p) cs → Reads bs p k cs
     reads-one n bs p zero cs h ih e = absurd e
     reads-one n bs p (suc k) cs h ih e = reads-more bs p k cs (λ bs p j cs g e. ih bs p j cs (omega arith) e) (turns k bs p cs .0 e)
 
-    reads-all : (n : ℕ) (bs : List X) (p k : ℕ) (cs : List ℕ) → k ≤ n → Ends turn k (loop bs p) cs → Reads bs p k cs
-    reads-all zero bs p k cs h e = let z : k ≡ 0 = omega arith in absurd (subst (λ (j : ℕ). Ends turn j (loop bs p) cs) z e)
+    reads-all : (n : ℕ) (bs : List X) (p k : ℕ) (cs : List ℕ) → k ≤ n → Ends Step k (loop bs p) cs → Reads bs p k cs
+    reads-all zero bs p k cs h e = let z : k ≡ 0 = omega arith in absurd (subst (λ (j : ℕ). Ends Step j (loop bs p) cs) z e)
     reads-all (suc n) bs p k cs h e = reads-one n bs p k cs h (λ bs p j cs g e. reads-all n bs p j cs g e) e
 
-    makes-all : (xs bs : List X) (p k : ℕ) (cs : List ℕ) → Listed f r bs p xs → EndsG turn k (fin (reverseAux xs bs)) cs
-        → (j : ℕ) × Ends turn j (loop bs p) (offsets (r .at) c xs ++ cs)
+    makes-all : (xs bs : List X) (p k : ℕ) (cs : List ℕ) → Listed f r bs p xs → EndsG Step k (fin (reverseAux xs bs)) cs
+        → (j : ℕ) × Ends Step j (loop bs p) (offsets (r .at) c xs ++ cs)
     makes-all [] bs p k cs o e = (suc k, turns k bs p cs .1 (o .0, inl (o .1, o .2, e)))
     makes-all (x ∷ xs) bs p k cs o e =
         let s = makes-all xs (x ∷ bs) (r .at x + 8) k cs (o .5) e in
@@ -139,30 +130,31 @@ module _ (turn : W.Walk → T.Turn) {X B : Type 0} (f : List ℕ) (r : Rules X) 
               (o .0, inr (rw (o .1) (o .2), rw (o .1) (o .3), (c x ++ offsets (r .at) c xs) ++ cs, rw (o .1), rw (o .1, append-assoc) t)),
         )
 
-    pub list-leads : (bs : List X) (p : ℕ) → Leads turn (loop bs p) (Listed f r bs p) (offsets (r .at) c) (λ xs. fin (reverseAux xs bs))
+    pub list-leads : (bs : List X) (p : ℕ) → Leads Step (loop bs p) (Listed f r bs p) (offsets (r .at) c) (λ xs. fin (reverseAux xs bs))
     unfolding Reads
     list-leads bs p = record { reads = λ k cs e. reads-all k bs p k cs (le-refl k) e; makes = λ xs k cs o e. makes-all xs bs p k cs o e }
 
 -- ---- nothing, one piece after another, and one link
-module _ (turn : W.Walk → T.Turn) where
-  pub claims-as : {B : Type 0} {w : W.Walk} {R : B → Type 0} {c : B → List ℕ} (d : B → List ℕ) {to : B → Option W.Walk} → ((b : B) → c b ≡ d b)
-      → Leads turn w R c to → Leads turn w R d to
+module _ {Place : Type 0} (Step : (Place → List ℕ → Type 0) → Place → List ℕ → Type 0) where
+  pub claims-as : {B : Type 0} {w : Place} {R : B → Type 0} {c : B → List ℕ} (d : B → List ℕ) {to : B → Option Place} → ((b : B) → c b ≡ d b)
+      → Leads Step w R c to → Leads Step w R d to
   claims-as {B} {w} {R} {c} d {to} e x = record {
     reads = λ k cs h.
         let r = x .reads k cs h in
-        record { what = r .what; obeys = r .obeys; left = r .left; rest = r .rest; fewer = r .fewer; split = r .split ∙ ap (λ (l : List ℕ). l ++ r .rest) (e (r .what)); ends = r .ends };
-    makes = λ b k cs o h. let s = x .makes b k cs o h in (s .0, subst (λ (l : List ℕ). Ends turn (s .0) w (l ++ cs)) (e b) (s .1));
+        let split = r .split ∙ ap (λ (l : List ℕ). l ++ r .rest) (e (r .what)) in
+        record { what = r .what; obeys = r .obeys; left = r .left; rest = r .rest; fewer = r .fewer; split = split; ends = r .ends };
+    makes = λ b k cs o h. let s = x .makes b k cs o h in (s .0, subst (λ (l : List ℕ). Ends Step (s .0) w (l ++ cs)) (e b) (s .1));
   }
 
-  pub none-leads : (w : W.Walk) → Leads turn {B = Unit {0}} w (λ u. Unit {0}) (λ u. []) (λ u. some w)
+  pub none-leads : (w : Place) → Leads Step {B = Unit {0}} w (λ u. Unit {0}) (λ u. []) (λ u. some w)
   none-leads w = record {
     reads = λ k cs e. record { what = tt; obeys = tt; left = k; rest = cs; fewer = le-refl k; split = refl; ends = e };
     makes = λ b k cs o e. (k, e);
   }
 
-  pub then-leads : {A B : Type 0} {w : W.Walk} {R : A → Type 0} {Q : A → B → Type 0} {c : A → List ℕ} {d : B → List ℕ} (mid : A → W.Walk) {to : A → B → Option W.Walk}
-      → Leads turn w R c (λ a. some (mid a)) → ((a : A) → Leads turn (mid a) (Q a) d (to a))
-      → Leads turn {B = A × B} w (λ p. R (p .0) × Q (p .0) (p .1)) (λ p. c (p .0) ++ d (p .1)) (λ p. to (p .0) (p .1))
+  pub then-leads : {A B : Type 0} {w : Place} {R : A → Type 0} {Q : A → B → Type 0} {c : A → List ℕ} {d : B → List ℕ} (mid : A → Place)
+      {to : A → B → Option Place} → Leads Step w R c (λ a. some (mid a)) → ((a : A) → Leads Step (mid a) (Q a) d (to a))
+      → Leads Step {B = A × B} w (λ p. R (p .0) × Q (p .0) (p .1)) (λ p. c (p .0) ++ d (p .1)) (λ p. to (p .0) (p .1))
   then-leads {A} {B} {w} {R} {Q} {c} {d} mid {to} x y = record {
     reads = λ k cs e.
         let a = x .reads k cs e in
@@ -186,15 +178,15 @@ module _ (turn : W.Walk → T.Turn) where
       join cs x es y z f g = rw (f, g, append-assoc)
 
   -- one link, and then a piece
-  pub take-leads : {B : Type 0} {R : B → Type 0} {c : B → List ℕ} {to : B → Option W.Walk} (w x : W.Walk) (t : ℕ) (Good : Type 0)
-      → ((k : ℕ) (cs : List ℕ) → EndsBy (Ends turn k) (turn w) cs ↔ (Good × (ds : List ℕ) × (cs ≡ t ∷ ds) × Ends turn k x ds)) → Leads turn x R c to
-      → Leads turn w (λ y. Good × R y) (λ y. t ∷ c y) to
+  pub take-leads : {B : Type 0} {R : B → Type 0} {c : B → List ℕ} {to : B → Option Place} (w x : Place) (t : ℕ) (Good : Type 0)
+      → ((k : ℕ) (cs : List ℕ) → Step (Ends Step k) w cs ↔ (Good × (ds : List ℕ) × (cs ≡ t ∷ ds) × Ends Step k x ds)) → Leads Step x R c to
+      → Leads Step w (λ y. Good × R y) (λ y. t ∷ c y) to
   take-leads {B} {R} {c} {to} w x t Good turns p = record {
     reads = reads;
     makes = λ y j cs o h. let s = p .makes y j cs (o .1) h in (suc (s .0), turns (s .0) (t ∷ (c y ++ cs)) .1 (o .0, c y ++ cs, refl, s .1));
   }
     where
-      reads : (j : ℕ) (cs : List ℕ) → Ends turn j w cs → Read turn w (λ y. Good × R y) (λ y. t ∷ c y) to j cs
+      reads : (j : ℕ) (cs : List ℕ) → Ends Step j w cs → Read Step w (λ y. Good × R y) (λ y. t ∷ c y) to j cs
       reads zero cs h = absurd h
       reads (suc j) cs h =
           let g = turns j cs .0 h in
@@ -208,3 +200,12 @@ module _ (turn : W.Walk → T.Turn) where
             split = cons-split t cs (g .1) (c (s .what)) (s .rest) (g .2) (s .split);
             ends = s .ends;
           }
+
+  -- a way that is fixed
+  pub goes-leads : {w v : Place} {R : Type 0} {c : List ℕ} → Goes Step w R c v → Leads Step {B = Unit {0}} w (λ t. R) (λ t. c) (λ t. some v)
+  goes-leads {w} {v} {R} {c} x = record {
+    reads = λ k cs e.
+        let r = x .reads k cs e in
+        record { what = tt; obeys = r .obeys; left = r .left; rest = r .rest; fewer = r .fewer; split = r .split; ends = r .ends };
+    makes = λ t k cs o e. x .makes k cs o e;
+  }

@@ -57,6 +57,9 @@ module _ (f : List ℕ) where
   pub entry-holds : (a k : ℤ) (w : Wanted) → Holds f (fieldBytes (kindAmong 5 9 k)) (entryWay f a k w)
   entry-holds a k w = holds f (kindAmong 5 9 k) (fieldBytes (kindAmong 5 9 k)) (entry-bytes k) (entryWay f a k w) (entry-finds f a k w)
 
+  pub found-inside : (k n : ℤ) (o left : ℕ) → variableWay f k n ≡ Found o left → o + 128 ≤ length f
+  found-inside k n o left e = subst (Holds f 128) e (variable-named k n)
+
   -- a variable that was found is one of a file whose length an offset can say
   pub found-short : (k n : ℤ) (o left : ℕ) → variableWay f k n ≡ Found o left → length f < 2147483648
   found-short k n o left e = subst (Finds (Met f (kindAmong 3 8 k))) e (variable-finds f k n) .file .short

@@ -15,6 +15,9 @@ use Rattle.ways.specs.Lists.{opened, isEntryKind, kindAmong, variableWay, attri
 use Rattle.ways.specs.declared.lists.Wanted.{Wanted}
 use Rattle.ways.specs.declared.lists.Way.{Way}
 use Rattle.ways.specs.declared.lists.Way.the-variants.{Found, Stopped}
+use Rattle.ways.specs.Indexes.{levelsWay}
+use Rattle.ways.specs.declared.indexes.Levels.{Levels}
+use Rattle.ways.specs.declared.indexes.Levels.the-variants.{Are as LevelsAre, Unknown as NoLevels}
 use Rattle.descriptors.specs.declared.Field.{Field}
 use Rattle.descriptors.specs.declared.Field.the-variants.{Is, Refused}
 use Rattle.descriptors.specs.declared.Dimensions.{Dimensions}
@@ -97,6 +100,19 @@ varianceOn f d (Unknown v) = Refused v
 
 unfoldable pub variableVariance : List ℕ → ℤ → ℤ → ℤ → Field
 variableVariance f k n d = varianceOn f d (variableDimensions f k n)
+
+-- ---- how many levels the index of a variable has on the way to a record: 1 where the covering entry of the top chain names no index
+-- record; what the lowest entry names is not looked at
+abbrev pub levelsField : Levels → Field
+levelsField (LevelsAre n) = Is (pos n)
+levelsField (NoLevels v) = Refused v
+
+abbrev pub levelsOn : List ℕ → ℤ → Way → Field
+levelsOn f r (Found v left) = levelsField (levelsWay f v r left)
+levelsOn f r (Stopped v) = Refused v
+
+unfoldable pub variableLevels : List ℕ → ℤ → ℤ → ℤ → Field
+variableLevels f k n r = levelsOn f r (variableWay f k n)
 
 -- ---- names: "names up to the NUL", 64 bytes at most
 unfoldable pub untilNul : List ℕ → ℕ → ℕ → ℕ

@@ -3,12 +3,15 @@ ghost use mathlib.Core.Path.{_≡_};
 ghost use Prim.Native.Nat.{_+_, _*_, _≤_, _<_};
 ghost use lib.ListN.{length};
 ghost use Rattle.ways.specs.Opened.{Opened};
-ghost use Rattle.descriptors.specs.Descriptors.{isShown, fieldOn, variableField, attributeField, entryField, rowField, dimensionSize, variableDimensions, variableSize, variableVariance, untilNul, nameOn, variableName, attributeName, majority, saidPlace, said, fileField};
+ghost use Rattle.ways.specs.Indexes.{LevelsFit};
+ghost use Rattle.descriptors.specs.Descriptors.{isShown, fieldOn, variableField, attributeField, entryField, rowField, dimensionSize, variableDimensions, variableSize, variableVariance, levelsField, variableLevels, untilNul, nameOn, variableName, attributeName, majority, saidPlace, said, fileField};
 ghost use Rattle.descriptors.specs.Bounds.{fieldBytes, Holds, Lie};
 use format::fields;
 use variables::place;
 use variables::vdr;
 use variables::vdr::Layout;
+use ways::indexes;
+use ways::indexes::Levels;
 use ways::lists;
 use ways::lists::Wanted;
 use ways::lists::Way;
@@ -166,6 +169,28 @@ pub fn variable_variance(f: &[u8], kind: i64, number: i64, d: i64) -> Field
     match dimensions {
         Dimensions::Are(l) => row_field(f, l.variances, l.count as u32, d),
         Dimensions::Unknown(number) => Field::Refused(number),
+    }
+}
+
+// The number of levels of an index, as a field.
+fn levels_field(l: Levels) -> Field
+    requires { ⌜ LevelsFit l ⌝ }
+    ensures { λ r. ⌜ r ≡ levelsField l ⌝ }
+{
+    match l {
+        Levels::Are(n) => Field::Is(n as i32),
+        Levels::Unknown(number) => Field::Refused(number),
+    }
+}
+
+// How many levels the index of a variable has on the way to a record, by kind, number and record.
+pub fn variable_levels(f: &[u8], kind: i64, number: i64, r: i64) -> Field
+    ensures { λ q. ⌜ q ≡ variableLevels (now (f .entry)) kind number r ⌝ }
+{
+    let way = lists::to_variable(f, kind, number);
+    match way {
+        Way::Found { at, left } => levels_field(indexes::to_levels(f, at, r, left)),
+        Way::Stopped { number } => Field::Refused(number),
     }
 }
 

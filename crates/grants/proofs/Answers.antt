@@ -1,6 +1,6 @@
 -- What a state that was loaded answers. Assumes nothing.
 use mathlib.Core.Path.{_≡_, refl, sym, ap}
-use mathlib.Core.Bool.{Bool, true, false, _||_, true≢false}
+use mathlib.Core.Bool.{Bool, true, false, _||_, true≢false, or-true}
 use Prim.Native.Nat.{ℕ}
 use lib.Dec.{leb, eqb}
 use lib.IntN.{pos}
@@ -17,7 +17,7 @@ use Rattle.checker.specs.Ready.{Loaded}
 pub not-refused : (n : ℕ) (g : Stage) → Loaded n g → refused21 (answerOf g) ≡ false
 not-refused n Fresh h = refl
 not-refused n (Sweep o) h = refl
-not-refused n (Walking w) h = refl
+not-refused n (Walking w up) h = refl
 not-refused n (Done v) h = ne-eqb v 21 (λ e. not-21 n (Done v) h (ap pos e))
 not-refused n Strange h = refl
 
@@ -25,11 +25,12 @@ not-refused n Strange h = refl
 pub answer-comes : (n : ℕ) (g : Stage) → Loaded n g → comesBack (answerOf g) ≡ true
 answer-comes n Fresh h = refl
 answer-comes n (Sweep o) h = refl
-answer-comes n (Walking w) h = refl
-answer-comes n (Done v) h = go (leb v 14) (eqb v 20) (h .1 .in-range)
+answer-comes n (Walking w up) h = refl
+answer-comes n (Done v) h = go (leb v 14) (eqb v 20) (eqb v 23) (h .1 .in-range)
   where
-    go : (a b : Bool) → (a || b) ≡ true → (a || (b || eqb v 21)) ≡ true
-    go true b e = refl
-    go false true e = refl
-    go false false e = absurd (true≢false (sym e))
+    go : (a b c : Bool) → (a || b || c) ≡ true → (a || (b || (eqb v 21 || c))) ≡ true
+    go true b c e = refl
+    go false true c e = refl
+    go false false true e = or-true (eqb v 21)
+    go false false false e = absurd (true≢false (sym e))
 answer-comes n Strange h = refl

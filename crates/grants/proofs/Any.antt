@@ -5,19 +5,22 @@ use mathlib.Core.Bool.{Bool, true, false}
 use mathlib.Core.List.{List}
 use Prim.Native.Nat.{ℕ, _+_, _≤_, _<_}
 use native.Mathlib.Omega.{arith}
-use lib.ListN.{length, getD, length-set}
+use lib.ListN.{length, getD, set, length-set}
 use lib.Seq.{getD-set-other}
 use lib.Dec.{eqb}
 use borrow.Author.Tests.{eqb-true, eqb-false}
 use lib.IntN.{ℤ, pos}
 use Rattle.records.specs.Rules.{sizeAt}
+use Rattle.marks.specs.Marks.{startAt}
+use Rattle.walk.specs.Levels.{pushed}
 use Rattle.walk.specs.Walk.{turnOf}
+use Rattle.walk.specs.declared.places.Levels.{Levels}
 use Rattle.walk.specs.declared.places.Turn as T
-use Rattle.walk.specs.declared.places.Turn.the-variants.{Over, End, Take}
+use Rattle.walk.specs.declared.places.Turn.the-variants.{Over, End, Take, Down, Up}
 use Rattle.checker.specs.declared.state.Stage.{Stage}
 use Rattle.checker.specs.declared.state.Stage.the-variants.{Fresh, Sweep, Walking, Done, Strange}
 use Rattle.checker.specs.declared.state.State.{State}
-use Rattle.checker.specs.Step.{Conf, conf, done, finished, answerOf, stepOf, runOf}
+use Rattle.checker.specs.Step.{Conf, conf, done, finished, answerOf, walking, stepOf, runOf}
 use Rattle.checker.specs.Saved.{stateLength, save, load}
 use Rattle.checker.specs.Grant.{Granted, granted, grantBy, grantOf}
 use Rattle.checker.proofs.Told.{told-0}
@@ -54,16 +57,21 @@ module _ (f m : List ℕ) (i : ℕ) (out : (i < 8) ⊎ (length f ≤ i)) where
       n : ℕ
       n = c .state .length
 
-      turn : (t : T.Turn) → TurnGoes Same f m′ n t
-      turn (Over v w) = record { count = h .count; mark = h .mark }
-      turn (End v) = tt
-      turn (Take early t typed late w) = λ e.
-          let s = started f m′ t e in
-          record { count = length-set m′ t 2 ∙ h .count; mark = getD-set-other m′ t i 2 0 (λ e. apart out (s .0) (s .1) e) ∙ h .mark }
-        where
-          apart : (i < 8) ⊎ (length f ≤ i) → 8 ≤ t → t < length f → i ≡ t → ⊥
-          apart (inl a) b c e = omega arith
-          apart (inr a) b c e = omega arith
+      apart : (t : ℕ) → (i < 8) ⊎ (length f ≤ i) → 8 ≤ t → t < length f → i ≡ t → ⊥
+      apart t (inl a) b c e = omega arith
+      apart t (inr a) b c e = omega arith
+
+      claimed : (t : ℕ) (s : State) → startAt f m′ t ≡ true → Same (conf s (set m′ t 2))
+      claimed t s e =
+          let a = started f m′ t e in
+          record { count = length-set m′ t 2 ∙ h .count; mark = getD-set-other m′ t i 2 0 (λ e. apart t out (a .0) (a .1) e) ∙ h .mark }
+
+      turn : (up : Levels) (t : T.Turn) → TurnGoes Same f m′ n up t
+      turn up (Over w v) = record { count = h .count; mark = h .mark }
+      turn up (End v) = tt
+      turn up (Take w early t typed late) = λ e. claimed t (walking n w up) (e .start)
+      turn up (Down w t typed l) = λ e. claimed t (walking n w (pushed l up)) (e .start)
+      turn up (Up w) = record { count = h .count; mark = h .mark }
 
       aside : (o s : ℕ) → 8 ≤ o → o + s ≤ length f → (i < 8) ⊎ (length f ≤ i) → (i < o) ⊎ (o + s ≤ i)
       aside o s a b (inl h) = inl (omega arith)
@@ -79,7 +87,7 @@ module _ (f m : List ℕ) (i : ℕ) (out : (i < 8) ⊎ (length f ≤ i)) where
             count = marked-length m′ o (sizeAt f o) fits ∙ h .count;
             mark = marked-other m′ o (sizeAt f o) fits (omega arith) i (aside o (sizeAt f o) (g .1) (t .1) out) ∙ h .mark;
           }
-      goes (Walking w) g = turn (turnOf f w)
+      goes (Walking w up) g = turn up (turnOf f up w)
       goes (Done v) g = tt
       goes Strange g = tt
 

@@ -6,9 +6,11 @@ use Prim.Native.Nat.{ℕ, _+_}
 use lib.Dec.{eqb}
 use Rattle.format.specs.Fields.{endOf}
 use Rattle.records.specs.Rules.{sizeAt}
+use Rattle.walk.specs.Levels.{noLevels}
 use Rattle.walk.specs.Walk.{turnOf}
+use Rattle.walk.specs.declared.places.Levels.{Levels}
 use Rattle.walk.specs.declared.places.Turn as T
-use Rattle.walk.specs.declared.places.Turn.the-variants.{Over, End, Take}
+use Rattle.walk.specs.declared.places.Turn.the-variants.{Over, End, Take, Down, Up}
 use Rattle.walk.specs.declared.places.Walk.the-variants.{Start}
 use Rattle.checker.specs.declared.state.Stage.{Stage}
 use Rattle.checker.specs.declared.state.Stage.the-variants.{Fresh, Sweep, Walking, Done, Strange}
@@ -19,7 +21,7 @@ use Rattle.grants.specs.Promises.{RefusalKeepsMarks}
 swept-goes : (f : List ℕ) (o : ℕ) → finished (sweptTo f o) ≡ false
 swept-goes f o = go (eqb o (endOf f))
   where
-    go : (b : Bool) → finished (cond b (Walking Start) (Sweep o)) ≡ false
+    go : (b : Bool) → finished (cond b (Walking Start noLevels) (Sweep o)) ≡ false
     go true = refl
     go false = refl
 
@@ -33,16 +35,18 @@ refusal-keeps-marks f m n s v e z = go s e
     P : Conf → Type 0
     P c = (c .state .stage ≡ Done v) → c .marks ≡ m
 
-    turn : (t : T.Turn) → TurnGoes P f m n t
-    turn (Over v w) = λ e. refl
-    turn (End v) = tt
-    turn (Take early t typed late w) = λ h e. absurd (true≢false (sym (ap finished e)))
+    turn : (up : Levels) (t : T.Turn) → TurnGoes P f m n up t
+    turn up (Over w v) = λ e. refl
+    turn up (End v) = tt
+    turn up (Take w early t typed late) = λ h e. absurd (true≢false (sym (ap finished e)))
+    turn up (Down w t typed l) = λ h e. absurd (true≢false (sym (ap finished e)))
+    turn up (Up w) = λ e. refl
 
     go : (s : Stage) → stepBy f m n s .state .stage ≡ Done v → stepBy f m n s .marks ≡ m
     go Fresh e = step-by P f m n (λ v t e. refl) Fresh refl (λ h e. refl) e
     go (Sweep o) e =
         step-by P f m n (λ v t e. refl) (Sweep o) refl
         (λ h e. absurd (true≢false (sym (ap finished e) ∙ swept-goes f (o + sizeAt f o)))) e
-    go (Walking w) e = step-by P f m n (λ v t e. refl) (Walking w) refl (turn (turnOf f w)) e
+    go (Walking w up) e = step-by P f m n (λ v t e. refl) (Walking w up) refl (turn up (turnOf f up w)) e
     go (Done u) e = done-marks f m n u
     go Strange e = step-by P f m n (λ v t e. refl) Strange refl tt e

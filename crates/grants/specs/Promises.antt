@@ -72,9 +72,9 @@ FreshInRange =
     (f m : List ℕ) (k : ℕ)
     → (load (save (plainRun f m k .at .state)) ≡ plainRun f m k .at .state) × (plainRun f m k .at .state .stage ≢ Strange)
 
--- "Numbers that come back" of a check: -1, 0 to 14, 20, 21
+-- "Numbers that come back" of a check: -1, 0 to 14, 20, 21; "deeper is refused with 23"
 abbrev pub comesBack : ℤ → Bool
-comesBack (pos v) = leb v 14 || (eqb v 20 || eqb v 21)
+comesBack (pos v) = leb v 14 || (eqb v 20 || (eqb v 21 || eqb v 23))
 comesBack (negsuc n) = eqb n 0
 
 -- A GRANT on any state whatever, made up or not

@@ -1,6 +1,6 @@
 -- COVERED ONCE, and 16 to 19 exactly where they are due, of an accepted file. Assumes nothing.
 use mathlib.Core.Path.{_≡_, refl, sym, _∙_, subst}
-use mathlib.Core.Logic.{_≢_, _↔_, _⊎_, inl, inr}
+use mathlib.Core.Logic.{_↔_, _⊎_, inl, inr}
 use mathlib.Core.Bool.{true, false, _&&_, true≢false}
 use mathlib.Core.List.{List}
 use Prim.Native.Nat.{ℕ, _+_}
@@ -11,23 +11,28 @@ use Rattle.variables.specs.Vdr.{layoutOf, variableOf}
 use Rattle.variables.specs.Place.{placed}
 use Rattle.values.specs.declared.value.Answer.{Answer}
 use Rattle.ways.specs.Lists.{kindAmong, variableWay}
-use Rattle.ways.specs.Indexes.{recordThere, recordRead, recordWay}
+use Rattle.ways.specs.Indexes.{recordThere, recordRead, recordWay, levelsWay}
 use Rattle.ways.specs.declared.lists.Way.the-variants.{Found}
 use Rattle.ways.specs.declared.indexes.Values.{Values}
 use Rattle.ways.specs.declared.indexes.Values.the-variants.{Record, Refused as NoRecord}
+use Rattle.ways.specs.declared.indexes.Levels.{Levels}
+use Rattle.ways.specs.declared.indexes.Levels.the-variants.{Are, Unknown}
+use Rattle.descriptors.specs.Descriptors.{fieldNumber, levelsField, variableLevels}
 use Rattle.answers.specs.Answers.{numberOf, encodingAt, elementThere, inValues, inVariable, valueRead}
 use Rattle.answers.specs.declared.Read.{Read}
 use Rattle.answers.specs.declared.Read.the-variants.{Value, Refused}
-use Rattle.demands.specs.Acceptance.{_∈_, Slot, usedEntries}
-use Rattle.promised_reads.specs.Reading.{CoveredBy, questionRight, ValueShown, CoversOnce, CoveredOnce, RecordsThere, vaxFloat}
+use Rattle.records.specs.Tree.{Slot, lowestEntries}
+use Rattle.demands.specs.Acceptance.{_∈_, IndexRight}
+use Rattle.promised_reads.specs.Reading.{CoveredBy, questionRight, ValueShown, NoneCovers, CoversOnce, CoveredOnce, RecordsThere, vaxFloat}
 use Rattle.demands.proofs.NestedDemand.{NestedAccepted}
 use Rattle.demands.proofs.IndexFacts.{index-reads}
 use Rattle.ways.proofs.Kept.{both}
 use Rattle.ways.proofs.Sought.{found-not-stopped, found-same}
 use Rattle.answers.proofs.Telling.{Tells, given-plain}
 use Rattle.promised_reads.proofs.Shown.{value-tells}
-use Rattle.promised_reads.proofs.Indexes.{NoneCovers, rows, RecordOn, covered-once}
-use Rattle.promised_reads.proofs.Demand2Values.{nested, vdr, way-on, met}
+use Rattle.demands.proofs.Lowest.{lowest-rise, covered-once}
+use Rattle.promised_reads.proofs.Indexes.{RecordOn, LevelsOn, empty-covers}
+use Rattle.promised_reads.proofs.Demand2Values.{nested, vdr, chain, way-on, levels-way-on, met}
 
 given-not-refused : (m : ℕ) (a : Answer) → Refused m ≡ Value a → ⊥
 given-not-refused m a e = let z : _≡_ {A = ℕ} 0 1 = cc in absurd (omega arith)
@@ -41,7 +46,7 @@ module _ (f : List ℕ) (n : NestedAccepted f) (k j : ℤ) (v left : ℕ) (way :
   bytes = variableOf f (kindAmong 3 8 k) v .bytes
 
   abbrev vxrs : List ℕ
-  vxrs = vdr f n k j v left way .found .here .vxrs
+  vxrs = chain f n k j v left way
 
   -- the answer where the way to the record is known
   answer-at : (r : ℤ) (is : List ℤ) (x : ℤ) (s : Values) → recordWay f v bytes r left ≡ s → valueRead f k j r is x ≡ inValues f v (variableOf f (kindAmong 3 8 k) v) is x s
@@ -49,13 +54,13 @@ module _ (f : List ℕ) (n : NestedAccepted f) (k j : ℤ) (v left : ℕ) (way :
   answer-at r is x s e = rw (way, e)
 
   abbrev Free : ℤ → Type 0
-  Free r = NoneCovers f (recordRead f v r) (usedEntries f vxrs)
+  Free r = NoneCovers f vxrs (recordRead f v r)
 
   abbrev On : ℤ → Values → Type 0
-  On r = RecordOn f (kindAmong 3 8 k) v vxrs (vdr f n k j v left way .index) (vdr f n k j v left way .stands) r
+  On r = RecordOn f v vxrs r
 
   abbrev Taken : ℤ → Type 0
-  Taken r = (s : Slot) × (s ∈ usedEntries f vxrs) × CoveredBy f (recordRead f v r) s
+  Taken r = (s : Slot) × (s ∈ lowestEntries f vxrs) × CoveredBy f (recordRead f v r) s
 
   -- ---- what comes back, by cases that exclude one another
   abbrev Due : ℤ → List ℤ → ℤ → ℕ → Type 0
@@ -164,16 +169,47 @@ module _ (f : List ℕ) (n : NestedAccepted f) (k j : ℤ) (v left : ℕ) (way :
     is-float m h t (inr (inr (inr (inr a)))) =
         (λ q. absurd (omega (arith, q, a .0)), λ g. absurd (true≢false (sym (both (questionRight f (kindAmong 3 8 k) v is x) (vaxFloat f (v + 12)) g .1) ∙ a .4)))
 
+  -- ---- the levels
+  levels-at : (r : ℤ) (s : Levels) → levelsWay f v r left ≡ s → variableLevels f k j r ≡ levelsField s
+  unfolding variableLevels
+  levels-at r s e = rw (way, e)
+
+  levels-due : (r : ℤ) (s : Levels) → LevelsOn f v vxrs r s
+      → ((fieldNumber (levelsField s) ≡ 16) ↔ (recordThere f v r ≡ false))
+      × (recordThere f v r ≡ true → (fieldNumber (levelsField s) ≡ 17) ↔ Free r)
+  levels-due r (Are m) a = (
+    (λ q. absurd (omega arith), λ h. absurd (true≢false (sym (a .0) ∙ h))),
+    λ h. (λ q. absurd (omega arith), λ g. absurd (g (a .1) (a .2) (a .3))),
+  )
+  levels-due r (Unknown m) (inl a) = ((λ q. a .1, λ h. a .0), λ h. absurd (true≢false (sym h ∙ a .1)))
+  levels-due r (Unknown m) (inr a) = (
+    (λ q. absurd (omega (arith, q, a .0)), λ h. absurd (true≢false (sym (a .1) ∙ h))),
+    λ h. (λ q. a .2, λ g. a .0),
+  )
+
+  levels-exact : (r : ℤ) → ((fieldNumber (variableLevels f k j r) ≡ 16) ↔ (recordThere f v r ≡ false))
+      × (recordThere f v r ≡ true → (fieldNumber (variableLevels f k j r) ≡ 17) ↔ Free r)
+  levels-exact r = rw (levels-at r (levelsWay f v r left) refl) (levels-due r (levelsWay f v r left) (levels-way-on f n k j v left way r))
+
+  right : IndexRight f (kindAmong 3 8 k) v vxrs
+  right = index-reads f (kindAmong 3 8 k) v (vdr f n k j v left way .parts) vxrs (vdr f n k j v left way .index)
+
   pub covers-once : CoversOnce f k j v
   covers-once = record {
     vxrs = vxrs;
-    index = index-reads f (kindAmong 3 8 k) v (vdr f n k j v left way .parts) vxrs (vdr f n k j v left way .index);
-    once = λ r. covered-once f r (kindAmong 3 8 k) v (usedEntries f vxrs) 0 (rows f (kindAmong 3 8 k) v vxrs (vdr f n k j v left way .index));
+    index = right;
+    once = λ r s t i h a b.
+        covered-once f (lowestEntries f vxrs) 0 r s t (lowest-rise f (kindAmong 3 8 k) v vxrs right) i h (a .first) (a .last) (b .first) (b .last);
     numbers = record {
       missing = λ r is x. is-missing r is x (numberOf (valueRead f k j r is x)) (due r is x);
       gap = λ r h is x. is-gap r is x (numberOf (valueRead f k j r is x)) h (due r is x);
+      empty = λ r h top s m i c e z is x.
+          is-gap r is x (numberOf (valueRead f k j r is x)) h (due r is x) .1
+          (empty-covers f (kindAmong 3 8 k) v vxrs (vdr f n k j v left way .parts) (vdr f n k j v left way .index) (vdr f n k j v left way .stands) r top s m i c e z);
       wrong = λ r h s m c is x. is-wrong r is x (numberOf (valueRead f k j r is x)) h (s, m, c) (due r is x);
       float = λ r h s m c is x. is-float r is x (numberOf (valueRead f k j r is x)) h (s, m, c) (due r is x);
+      noLevels = λ r. levels-exact r .0;
+      gapLevels = λ r. levels-exact r .1;
     };
   }
 

@@ -2,7 +2,7 @@
 -- Assumes nothing.
 use mathlib.Core.Path.{_≡_, refl, subst}
 use mathlib.Core.Logic.{_⊎_, inl, inr}
-use mathlib.Core.Bool.{true}
+use mathlib.Core.Bool.{true, false}
 use mathlib.Core.List.{List}
 use Prim.Native.Nat.{ℕ, _+_}
 use lib.IntN.{ℤ, pos}
@@ -10,23 +10,24 @@ use Rattle.format.specs.Fields.{eqZ, natOr}
 use Rattle.variables.specs.Vdr.{variableOf}
 use Rattle.values.specs.declared.value.Answer.{Answer}
 use Rattle.ways.specs.Lists.{allowance, ofKinds, kindAmong, headPlace, entriesPlace, variableWay, attributeWay, entryWay}
-use Rattle.ways.specs.Indexes.{recordThere, recordRead, recordWay}
+use Rattle.ways.specs.Indexes.{recordThere, recordRead, recordWay, levelsWay}
 use Rattle.ways.specs.declared.lists.Wanted.{Wanted}
 use Rattle.ways.specs.declared.lists.Wanted.the-variants.{Place, Number}
 use Rattle.ways.specs.declared.lists.Way.the-variants.{Found, Stopped}
 use Rattle.ways.specs.declared.indexes.Values.the-variants.{Record, Refused as NoRecord}
+use Rattle.ways.specs.declared.indexes.Levels.the-variants.{Unknown}
 use Rattle.answers.specs.Answers.{valueRead, entryRead, padRead}
 use Rattle.answers.specs.declared.Read.{Read}
 use Rattle.answers.specs.declared.Read.the-variants.{Value, Refused}
 use Rattle.demands.specs.Acceptance.{Linked}
-use Rattle.promised_reads.specs.Reading.{PlainAccepts, Met, ValueShown, EntryShown, PadShown, variableThere, attributeThere, InRange, RecordRefused, ValueRefused, PadRefused, EntryRefused, GivenOrRefused, ReadsRight, Demand2Values}
+use Rattle.promised_reads.specs.Reading.{PlainAccepts, Met, ValueShown, EntryShown, PadShown, variableThere, attributeThere, InGap, InRange, RecordRefused, ValueRefused, LevelsRefused, PadRefused, EntryRefused, GivenOrRefused, ReadsRight, Demand2Values}
 use Rattle.demands.proofs.NestedDemand.{NestedAccepted, nested-demand}
 use Rattle.demands.proofs.Nested.{chainRules}
 use Rattle.demands.proofs.Splits.{listed-reads}
 use Rattle.ways.proofs.Sought.{Finds, Listed, place-listed, ToVariable, variable-found, ToEntry, entry-found}
 use Rattle.answers.proofs.Telling.{Tells}
-use Rattle.promised_reads.proofs.Shown.{list-met, value-tells, entry-tells, pad-tells}
-use Rattle.promised_reads.proofs.Indexes.{RecordOn, record-on}
+use Rattle.promised_reads.proofs.Shown.{list-met, value-tells, entry-tells, pad-tells, levels-tell}
+use Rattle.promised_reads.proofs.Indexes.{Lost, RecordOn, LevelsOn, record-on, levels-on}
 use Rattle.promised_reads.proofs.Ways.{VariableIn}
 use Rattle.promised_reads.proofs.Accepted.{varsOf, variable-not-there, variable-is-there, VariableOn, variable-on, AttributeOn, attribute-on, entriesIn, entries-linked, EntryLacks, attribute-not-there, attribute-is-there, EntryOn, entry-on}
 
@@ -60,8 +61,15 @@ module _ (f : List ℕ) (n : NestedAccepted f) where
     pub vdr : VariableIn f (kindAmong 3 8 k) (Place (natOr 0 j)) (allowance f) (varsOf f n (eqZ k (pos 3))) v left
     vdr = subst (VariableOn f n k j) way (variable-on f n k j) .1
 
-    pub way-on : (r : ℤ) → RecordOn f (kindAmong 3 8 k) v (vdr .found .here .vxrs) (vdr .index) (vdr .stands) r (recordWay f v (variableOf f (kindAmong 3 8 k) v .bytes) r left)
-    way-on r = record-on f (kindAmong 3 8 k) v (vdr .found .here .vxrs) (vdr .index) (vdr .stands) r left (vdr .room)
+    -- the top chain of its index
+    abbrev pub chain : List ℕ
+    chain = vdr .found .here .vxrs
+
+    pub way-on : (r : ℤ) → RecordOn f v chain r (recordWay f v (variableOf f (kindAmong 3 8 k) v .bytes) r left)
+    way-on r = record-on f (kindAmong 3 8 k) v chain (vdr .parts) (vdr .index) (vdr .stands) r left (vdr .room)
+
+    pub levels-way-on : (r : ℤ) → LevelsOn f v chain r (levelsWay f v r left)
+    levels-way-on r = levels-on f (kindAmong 3 8 k) v chain (vdr .parts) (vdr .index) (vdr .stands) r left (vdr .room)
 
     pub there : variableThere f k j ≡ true
     there = let a = subst (VariableOn f n k j) way (variable-on f n k j) in variable-is-there f n k j v left (a .0) (listed .least) (a .1)
@@ -70,25 +78,31 @@ module _ (f : List ℕ) (n : NestedAccepted f) where
     met = list-met f (kindAmong 3 8 k) (headPlace f (kindAmong 3 8 k)) (natOr 0 j) v (listed .is) (listed .met)
 
     -- ---- why a record is refused
-    abbrev chain : List ℕ
-    chain = vdr .found .here .vxrs
-
-    linked : Linked f (λ x. x) (v + 20) (vdr .found .here .vxrs)
+    linked : Linked f (λ x. x) (v + 20) chain
     linked = listed-reads f (chainRules f (kindAmong 3 8 k) v) (v + 20) chain (vdr .index) .linked
+
+    lost : (r : ℤ) (m : ℕ) → Lost f v chain r m
+        → ((m ≡ 16) × (recordThere f v r ≡ false)) ⊎ ((m ≡ 17) × (recordThere f v r ≡ true) × InGap f v (recordRead f v r))
+    lost r m (inl a) = inl a
+    lost r m (inr a) = inr (a .0, a .1, record { vxrs = chain; linked = linked; none = a .2 })
 
     record-why : (r : ℤ) (is : List ℤ) (x : ℤ) (m : ℕ) → recordWay f v (variableOf f (kindAmong 3 8 k) v .bytes) r left ≡ NoRecord m
         → RecordRefused f (kindAmong 3 8 k) v r is x m
-    record-why r is x m e = go (subst (RecordOn f (kindAmong 3 8 k) v chain (vdr .index) (vdr .stands) r) e (way-on r))
+    record-why r is x m e = go (lost r m (subst (RecordOn f v chain r) e (way-on r)))
       where
-        go : RecordOn f (kindAmong 3 8 k) v chain (vdr .index) (vdr .stands) r (NoRecord m) → RecordRefused f (kindAmong 3 8 k) v r is x m
+        go : ((m ≡ 16) × (recordThere f v r ≡ false)) ⊎ ((m ≡ 17) × (recordThere f v r ≡ true) × InGap f v (recordRead f v r))
+            → RecordRefused f (kindAmong 3 8 k) v r is x m
         go (inl a) = inl a
-        go (inr a) = inr (inl (a .0, a .1, record { vxrs = chain; linked = linked; none = a .2 }))
+        go (inr a) = inr (inl a)
+
+    levels-why : (r : ℤ) (m : ℕ) → levelsWay f v r left ≡ Unknown m → LevelsRefused f k j r m
+    levels-why r m e = inr (there, v, met, lost r m (subst (LevelsOn f v chain r) e (levels-way-on r)))
 
     ranged : (r : ℤ) (at : ℕ) → recordWay f v (variableOf f (kindAmong 3 8 k) v .bytes) r left ≡ Record at
         → (recordThere f v r ≡ true) × InRange f v (recordRead f v r)
     ranged r at e =
-        let a = subst (RecordOn f (kindAmong 3 8 k) v chain (vdr .index) (vdr .stands) r) e (way-on r) in
-        (a .0, record { vxrs = chain; linked = linked; slot = a .1; used = a .2; covers = a .3 })
+        let a = subst (RecordOn f v chain r) e (way-on r) in
+        (a .0, record { vxrs = chain; linked = linked; slot = a .1; lowest = a .2; covers = a .3 })
 
   -- ---- the entry found
   module _ (b k : ℤ) (w : Wanted) (e left : ℕ) (way : entryWay f b k w ≡ Found e left) where
@@ -159,6 +173,10 @@ module _ (f : List ℕ) (n : NestedAccepted f) where
         (λ v left e a w h g. w)
         (λ v left e h. inr (there k j v left e, v, met k j v left e, inl (refl, h)))
         (λ v left e h g. inr (there k j v left e, v, met k j v left e, inr (refl, h, g))));
+    levels = λ k j r.
+        levels-tell f k j r (LevelsRefused f k j r)
+        (λ m e. let a = subst (VariableOn f n k j) e (variable-on f n k j) in inl (a .0, variable-not-there f n k j (a .1)))
+        (λ v left m e h. levels-why k j v left e r m h);
   }
     where
       entry-why : (b k j x : ℤ) (m : ℕ) → EntryOn f n b k (Number j) (Stopped m) → EntryRefused f b k j x m

@@ -22,7 +22,8 @@ use Rattle.ways.proofs.Kept.{both}
 use Rattle.ways.proofs.Sought.{Finds, found-not-stopped, found-same, Listed, place-listed}
 use Rattle.answers.proofs.Telling.{Tells}
 use Rattle.answers.proofs.Asked.{entry-stopped}
-use Rattle.promised_reads.proofs.Shown.{nth-same, entry-tells, pad-tells}
+use Rattle.promised_reads.proofs.Down.{nth-same}
+use Rattle.promised_reads.proofs.Shown.{entry-tells, pad-tells}
 use Rattle.promised_reads.proofs.Accepted.{EntryOn, entry-on, attribute-not-there}
 use Rattle.promised_reads.proofs.Demand2Values.{nested, reads-right}
 

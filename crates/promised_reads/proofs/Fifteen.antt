@@ -1,6 +1,6 @@
 -- 15 exactly where there is no such variable or attribute, of an accepted file. Assumes nothing.
 use mathlib.Core.Path.{_≡_, refl, sym, ap, _∙_, subst}
-use mathlib.Core.Logic.{_≢_, inl, inr}
+use mathlib.Core.Logic.{inl, inr}
 use mathlib.Core.Bool.{false, true≢false}
 use mathlib.Core.List.{List}
 use Prim.Native.Nat.{ℕ}
@@ -14,7 +14,10 @@ use Rattle.ways.specs.declared.lists.Way.the-variants.{Found, Stopped}
 use Rattle.answers.specs.Answers.{numberOf, valueRead, entryRead, padRead}
 use Rattle.answers.specs.declared.Read.{Read}
 use Rattle.answers.specs.declared.Read.the-variants.{Value, Refused}
-use Rattle.promised_reads.specs.Reading.{NoSuch, Fifteen, ValueShown, EntryShown, PadShown, variableThere, attributeThere, ValueRefused, PadRefused, EntryRefused, GivenOrRefused}
+use Rattle.descriptors.specs.Descriptors.{fieldNumber, variableLevels}
+use Rattle.descriptors.specs.declared.Field.{Field}
+use Rattle.descriptors.specs.declared.Field.the-variants.{Is, Refused as NoField}
+use Rattle.promised_reads.specs.Reading.{NoSuch, Fifteen, ValueShown, EntryShown, PadShown, LevelsShown, variableThere, attributeThere, ValueRefused, LevelsRefused, PadRefused, EntryRefused, GivenOrRefused, ShownOrRefused}
 use Rattle.demands.proofs.NestedDemand.{NestedAccepted}
 use Rattle.ways.proofs.Sought.{Finds, Listed, place-listed}
 use Rattle.answers.proofs.Asked.{value-stopped, entry-stopped, pad-stopped}
@@ -66,6 +69,16 @@ module _ (f : List ℕ) (n : NestedAccepted f) where
   entry-fifteen b k j x m q (inr (a, o, c, inr (e, p, t, w, inl d))) = absurd (omega (arith, q, d .0))
   entry-fifteen b k j x m q (inr (a, o, c, inr (e, p, t, w, inr d))) = absurd (omega (arith, q, d .0))
 
+  levels-fifteen : (k j r : ℤ) (s : Field) → ShownOrRefused (LevelsShown f k j r) (LevelsRefused f k j r) s → fieldNumber s ≡ 15 → variableThere f k j ≡ false
+  levels-fifteen k j r (Is x) t q = absurd (omega arith)
+  levels-fifteen k j r (NoField m) (inl a) q = a .1
+  levels-fifteen k j r (NoField m) (inr (a, v, c, inl d)) q = absurd (omega (arith, q, d .0))
+  levels-fifteen k j r (NoField m) (inr (a, v, c, inr d)) q = absurd (omega (arith, q, d .0))
+
+  levels-stopped : (k j r : ℤ) → variableWay f k j ≡ Stopped 15 → fieldNumber (variableLevels f k j r) ≡ 15
+  unfolding variableLevels
+  levels-stopped k j r e = rw e
+
   pub no-such : NoSuch f
   no-such = record {
     value = λ k j r is x. (
@@ -80,6 +93,7 @@ module _ (f : List ℕ) (n : NestedAccepted f) where
       fifteen (PadShown f k j x) (PadRefused f k j x) (variableThere f k j ≡ false) (pad-fifteen k j x) (padRead f k j x) (reads-right f n .pad k j x),
       λ h. ap numberOf (pad-stopped f k j x 15 (no-variable k j h)),
     );
+    levels = λ k j r. (levels-fifteen k j r (variableLevels f k j r) (reads-right f n .levels k j r), λ h. levels-stopped k j r (no-variable k j h));
   }
 
 -- THE THEOREM

@@ -1,3 +1,4 @@
+pub mod Down
 pub mod Shown
 pub mod Room
 pub mod Lists

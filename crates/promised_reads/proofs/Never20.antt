@@ -21,10 +21,10 @@ use Rattle.answers.proofs.Telling.{Tells, element-tells}
 use Rattle.ways.proofs.Sought.{Finds, first-met, ToEntry, entry-found}
 use Rattle.answers.specs.declared.Read.{Read}
 use Rattle.answers.specs.declared.Read.the-variants.{Value, Refused}
-use Rattle.descriptors.specs.Descriptors.{fieldNumber, nameNumber, isShown, fieldOn, variableField, attributeField, entryField, rowField, dimensionSize, dimensionsOn, variableDimensions, sizeOn, variableSize, varianceOn, variableVariance, nameOn, variableName, attributeName, said, fileField}
+use Rattle.descriptors.specs.Descriptors.{fieldNumber, nameNumber, isShown, fieldOn, variableField, attributeField, entryField, rowField, dimensionSize, dimensionsOn, variableDimensions, sizeOn, variableSize, varianceOn, variableVariance, variableLevels, nameOn, variableName, attributeName, said, fileField}
 use Rattle.descriptors.specs.declared.Field.{Field}
 use Rattle.descriptors.specs.declared.Field.the-variants.{Is, Refused as NoField}
-use Rattle.promised_reads.specs.Reading.{ValueShown, PadShown, NeverTwenty, Never20, vaxFloat, RecordRefused, ValueRefused, PadRefused, GivenOrRefused}
+use Rattle.promised_reads.specs.Reading.{ValueShown, PadShown, LevelsShown, NeverTwenty, Never20, vaxFloat, RecordRefused, ValueRefused, LevelsRefused, PadRefused, GivenOrRefused, ShownOrRefused}
 use Rattle.demands.proofs.NestedDemand.{NestedAccepted}
 use Rattle.promised_reads.proofs.Accepted.{opens}
 use Rattle.promised_reads.proofs.Shown.{ordered, entry-lies, entry-sized, entry-element}
@@ -54,6 +54,11 @@ pad-why f k j x m (inr a) e = go (a .3)
         → ⊥
     go (inl b) = omega (arith, b .0)
     go (inr b) = omega (arith, b .0)
+
+levels-why : (f : List ℕ) (k j r : ℤ) (m : ℕ) → LevelsRefused f k j r m → m ≢ 20
+levels-why f k j r m (inl a) e = omega (arith, a .0)
+levels-why f k j r m (inr (t, v, w, inl a)) e = omega (arith, a .0)
+levels-why f k j r m (inr (t, v, w, inr a)) e = omega (arith, a .0)
 
 module _ (f : List ℕ) (n : NestedAccepted f) where
   -- ---- descriptors: the number of a way, 0 or 18
@@ -113,6 +118,10 @@ module _ (f : List ℕ) (n : NestedAccepted f) where
   said-goes : (what : ℕ) → fieldNumber (said f what) ≢ 20
   said-goes what = is-or (eqb what 0) _ _ (is-or (leb what 5) _ _ (λ e. omega arith))
 
+  levels-go : (k j r : ℤ) (s : Field) → ShownOrRefused (LevelsShown f k j r) (LevelsRefused f k j r) s → fieldNumber s ≢ 20
+  levels-go k j r (Is x) t = λ e. omega arith
+  levels-go k j r (NoField m) t = levels-why f k j r m t
+
   -- an entry that was found gives a value, 18 or 19
   entry-never : (b k : ℤ) (w : Wanted) (x : ℤ) → numberOf (entryValue f b k w x) ≢ 20
   unfolding entryValue
@@ -143,6 +152,7 @@ module _ (f : List ℕ) (n : NestedAccepted f) where
     ofDimension = λ d. rw (opens f n) (row-goes (gdrAt f + 60) (rNumDims f (gdrAt f)) d);
     ofSize = λ k j d. size-goes (kindAmong 3 8 k) d (variableWay f k j) (variable-goes k j);
     ofVariance = λ k j d. variance-goes (kindAmong 3 8 k) d (variableWay f k j) (variable-goes k j);
+    ofLevels = λ k j r. levels-go k j r (variableLevels f k j r) (reads-right f n .levels k j r);
     variableNamed = λ k j. name-goes 64 (variableWay f k j) (variable-goes k j);
     attributeNamed = λ j. name-goes 52 (attributeWay f j) (attribute-goes j);
     ofFile = λ what. rw (opens f n) (said-goes what);

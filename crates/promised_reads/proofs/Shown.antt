@@ -2,7 +2,7 @@
 use mathlib.Core.Path.{_≡_, refl, sym, ap, _∙_, subst}
 use mathlib.Core.Bool.{Bool, true, false, cond, not, _&&_, _||_}
 use mathlib.Core.List.{List}
-use Prim.Native.Nat.{ℕ, zero, suc, _+_, _-_, _*_, _≤_, _<_}
+use Prim.Native.Nat.{ℕ, suc, _+_, _-_, _*_, _≤_, _<_}
 use native.Mathlib.Nat.{mul-le-mul-right, suc-mul, mul-comm}
 use native.Mathlib.Omega.{arith}
 use lib.Dec.{ltb, leb, eqb}
@@ -10,12 +10,13 @@ use lib.IntN.{ℤ, pos, negsuc}
 use lib.ListN.{length}
 use borrow.Author.Tests.{eqb-true, leb-true}
 use Rattle.format.specs.Bytes.{bigAt}
-use Rattle.format.specs.Fields.{eqZ, isAt, linkAt, natAt, natOr, bitAt, atLeast, atMost}
+use Rattle.format.specs.Fields.{eqZ, isAt, natAt, natOr, bitAt, atLeast, atMost}
 use Rattle.format.specs.Encodings.{encodingOf}
 use Rattle.records.specs.Rules.{sizeAt, typedAt}
 use Rattle.records.specs.Opening.{tooLong, cdrRight, opening}
 use Rattle.records.specs.Attributes.{elementSize, aedrRight, aedrRule}
-use Rattle.records.specs.Index.{usedAt, entryOf, vvrRule}
+use Rattle.records.specs.Index.{vvrRule}
+use Rattle.records.specs.Tree.{firstOf, lastOf, namedBy}
 use Rattle.records.specs.declared.index.Entry.{Entry}
 use Rattle.variables.specs.Limit.{capped}
 use Rattle.variables.specs.Vdr.{layoutOf, valueBytes, padBytes, recordBytes, spread, vdrFields, variableOf}
@@ -25,32 +26,29 @@ use Rattle.variables.specs.declared.vdr.Variable.{Variable}
 use Rattle.variables.specs.declared.place.Place.the-variants.{At, Wrong}
 use Rattle.values.specs.declared.value.Answer.{Answer}
 use Rattle.ways.specs.Lists.{opened, landsOn, meets, kindAmong, headPlace, entriesPlace, variableWay, entryWay}
-use Rattle.ways.specs.Indexes.{entryCovers, indexMet, recordPlace, recordThere, recordRead, recordWay}
+use Rattle.ways.specs.Indexes.{recordPlace, recordThere, recordRead, recordWay, levelsWay}
 use Rattle.ways.specs.declared.lists.Wanted.the-variants.{Number}
 use Rattle.ways.specs.declared.lists.Way.{Way}
 use Rattle.ways.specs.declared.lists.Way.the-variants.{Found, Stopped}
 use Rattle.ways.specs.declared.indexes.Values.{Values}
 use Rattle.ways.specs.declared.indexes.Values.the-variants.{Record, Refused as NoRecord}
+use Rattle.ways.specs.declared.indexes.Levels.{Levels}
+use Rattle.ways.specs.declared.indexes.Levels.the-variants.{Are, Unknown}
+use Rattle.descriptors.specs.Descriptors.{levelsField, levelsOn, variableLevels}
 use Rattle.answers.specs.Answers.{encodingAt, rowMajority, elementThere, elementRead, atPlace, inRecord, inValues, inVariable, valueOn, valueRead, entryOn, entryValue, entryRead, padIn, padOn, padRead}
 use Rattle.answers.specs.declared.Read.the-variants.{Refused}
-use Rattle.demands.specs.Acceptance.{Slot, firstOf, lastOf, namedBy}
-use Rattle.promised_reads.specs.Reading.{nthRecord, Met, CoveredBy, ValueShown, EntryShown, PadShown, ValuesShown, padRight, vaxFloat}
+use Rattle.promised_reads.specs.Reading.{Met, ValueShown, EntryShown, PadShown, LevelsShown, ValuesShown, padRight, vaxFloat, ShownOrRefused}
 use Rattle.variables.proofs.Capped.{capped-small}
 use Rattle.variables.proofs.Bound.{place-below}
 use Rattle.variables.proofs.Right.{right, fields-right, variable-is, place-is}
 use Rattle.demands.proofs.Opened.{opening-reads}
 use Rattle.demands.proofs.Records.{judged-reads}
 use Rattle.demands.proofs.VariableFacts.{z-layout, r-layout, exact-size}
-use Rattle.records.proofs.Ranges.{entry-is, entry-reads}
-use Rattle.demands.proofs.Nested.{entryIs}
 use Rattle.ways.proofs.Kept.{both, Lies, lands-lies, meets-parts, variable-kept, entry-kept}
 use Rattle.ways.proofs.Sought.{nth, first-met, listed-met, Finds, ToVariable, variable-found, ToEntry, entry-found}
-use Rattle.ways.proofs.Chains.{ToRecord, Leads, record-found}
+use Rattle.ways.proofs.Chains.{ToRecord, Leads, record-found, ToLevels, Counts, levels-found}
 use Rattle.answers.proofs.Telling.{Tells, given-plain, element-below, element-tells}
-
-pub nth-same : (f : List ℕ) (p n : ℕ) → nth f p n ≡ nthRecord f p n
-nth-same f p zero = refl
-nth-same f p (suc n) = nth-same f (linkAt f p + 8) n
+use Rattle.promised_reads.proofs.Down.{nth-same, Reached, reached}
 
 pub list-met : (f : List ℕ) (t p n o : ℕ) → nth f p n ≡ o → ((h : ℕ) → h ≤ n → meets f t (nth f p h) ≡ true) → Met f t p n o
 list-met f t p n o e g = record { place = sym (nth-same f p n) ∙ e; rules = λ h l. ap (meets f t) (sym (nth-same f p h)) ∙ g h l }
@@ -69,42 +67,28 @@ module _ (f : List ℕ) where
   -- ---- the values of a record
   -- the record of number r of the VDR at v, of a given size, begins at an offset
   pub record Located (v bytes r at : ℕ) : Type 0 where
-    pub slot : Slot
-    pub place : ℕ
-    pub chained : nthRecord f (v + 20) place ≡ slot .vxr
-    pub rules : (h : ℕ) → h ≤ place → indexMet f (nthRecord f (v + 20) h) ≡ true
-    pub used : slot .entry < usedAt f (slot .vxr)
-    pub covered : CoveredBy f r slot
-    pub lies : Lies f 7 (namedBy f slot)
-    pub size : sizeAt f (namedBy f slot) ≡ 8 + (lastOf f slot - firstOf f slot + 1) * bytes
-    pub is : at ≡ namedBy f slot + 8 + (r - firstOf f slot) * bytes
+    pub entry : Entry
+    pub depth : ℕ
+    pub reached : Reached f v r entry depth
+    pub lies : Lies f 7 (namedBy f (reached .slot))
+    pub size : sizeAt f (namedBy f (reached .slot)) ≡ 8 + (lastOf f (reached .slot) - firstOf f (reached .slot) + 1) * bytes
+    pub is : at ≡ namedBy f (reached .slot) + 8 + (r - firstOf f (reached .slot)) * bytes
 
-  pub locate : (v bytes : ℕ) (r : ℤ) (at : ℕ) → ToRecord f v bytes r at → Located v bytes (recordRead f v r) at
+  pub locate : (v bytes : ℕ) (r : ℤ) (at : ℕ) → ToRecord f v r bytes at → Located v bytes (recordRead f v r) at
   unfolding vvrRule
   locate v bytes r at t =
-      let c = t .chained in
-      let s : Slot = record { vxr = c .vxr; entry = c .used .entry } in
-      let right : entryOf f (s .vxr) (s .entry) (c .used .floor) .fault ≡ 0 = ap (λ (e : Entry). e .fault) (c .used .is) ∙ c .used .right in
-      let parts = entry-reads f (s .vxr) (s .entry) (c .used .floor) right in
-      let e : t .entry ≡ entryIs f s = sym (c .used .is) ∙ entry-is f (s .vxr) (s .entry) (c .used .floor) parts in
-      let covers = subst (λ (e : Entry). entryCovers e (recordRead f v r) ≡ true) e (c .used .covers) in
-      let range = both (leb (firstOf f s) (recordRead f v r)) (leb (recordRead f v r) (lastOf f s)) covers in
-      let lands = subst (λ (e : Entry). landsOn f 7 (e .link) ≡ true) e (t .lands) in
-      let rule = subst (λ (e : Entry). vvrRule f (e .link) (e .last - e .first + 1) bytes ≡ 0) e (t .rule) in
+      let w = reached f v r (t .entry) (t .way) in
+      let s = w .slot in
+      let lands = subst (λ (e : Entry). landsOn f 7 (e .link) ≡ true) (w .is) (t .lands) in
+      let rule = subst (λ (e : Entry). vvrRule f (e .link) (e .last - e .first + 1) bytes ≡ 0) (w .is) (t .rule) in
       let size = judged-reads f (namedBy f s) 8 (eqb (sizeAt f (namedBy f s)) (8 + (lastOf f s - firstOf f s + 1) * bytes)) rule .1 in
       record {
-        slot = s;
-        place = c .place;
-        chained = sym (nth-same f (v + 20) (c .place)) ∙ c .on;
-        rules = λ h l. ap (indexMet f) (sym (nth-same f (v + 20) h)) ∙ c .met h l;
-        used = omega (arith, c .used .before);
-        covered = record {
-          first = leb-true (firstOf f s) (recordRead f v r) (range .0);
-          last = leb-true (recordRead f v r) (lastOf f s) (range .1);
-        };
+        entry = t .entry;
+        depth = t .way .down .depth;
+        reached = w;
         lies = lands-lies f 7 (namedBy f s) lands;
         size = eqb-true (sizeAt f (namedBy f s)) (8 + (lastOf f s - firstOf f s + 1) * bytes) size;
-        is = sym (subst (λ (e : Entry). recordPlace e (recordRead f v r) bytes ≡ at) e (t .is));
+        is = sym (subst (λ (e : Entry). recordPlace e (recordRead f v r) bytes ≡ at) (w .is) (t .is));
       }
 
 -- an element in its value, the value in its record, the record in the values
@@ -177,12 +161,11 @@ module _ (f : List ℕ) (k n r : ℤ) (is : List ℤ) (x : ℤ) (N : ℕ → Typ
           vdr = v;
           variable = list-met f (kindAmong 3 8 k) (headPlace f (kindAmong 3 8 k)) (natOr 0 n) v (found .listed .is) (found .listed .met);
           there = there;
-          slot = loc .slot;
-          place = loc .place;
-          chained = loc .chained;
-          rules = loc .rules;
-          used = loc .used;
-          covered = loc .covered;
+          way = loc .reached .way;
+          slot = loc .reached .slot;
+          last = loc .reached .last;
+          isLowest = loc .reached .isLowest;
+          covered = loc .reached .covered;
           typed = loc .lies .typed;
           size = loc .size;
           indices = ok;
@@ -193,11 +176,11 @@ module _ (f : List ℕ) (k n r : ℤ) (is : List ℤ) (x : ℤ) (N : ℕ → Typ
         })
       where
         inside : elementThere f (v + 48) x ≡ true
-            → namedBy f (loc .slot) + 8 + (recordRead f v r - firstOf f (loc .slot)) * recordBytes f v l + place * valueBytes f v + natOr 0 x * elementSize f (v + 12) + elementSize f (v + 12)
-            ≤ namedBy f (loc .slot) + (8 + (lastOf f (loc .slot) - firstOf f (loc .slot) + 1) * recordBytes f v l)
+            → namedBy f (loc .reached .slot) + 8 + (recordRead f v r - firstOf f (loc .reached .slot)) * recordBytes f v l + place * valueBytes f v + natOr 0 x * elementSize f (v + 12) + elementSize f (v + 12)
+            ≤ namedBy f (loc .reached .slot) + (8 + (lastOf f (loc .reached .slot) - firstOf f (loc .reached .slot) + 1) * recordBytes f v l)
         inside h =
-            element-in (namedBy f (loc .slot)) (firstOf f (loc .slot)) (recordRead f v r) (lastOf f (loc .slot)) (recordBytes f v l) (valueBytes f v) (elementSize f (v + 12)) many place (natAt f (v + 48)) (natOr 0 x)
-            (loc .covered .first) (loc .covered .last) (place-below f l (rowMajority f) is (indices ok)) (element-below f (v + 48) x h) (value-is f v) (record-is f v l)
+            element-in (namedBy f (loc .reached .slot)) (firstOf f (loc .reached .slot)) (recordRead f v r) (lastOf f (loc .reached .slot)) (recordBytes f v l) (valueBytes f v) (elementSize f (v + 12)) many place (natAt f (v + 48)) (natOr 0 x)
+            (loc .reached .covered .first) (loc .reached .covered .last) (place-below f l (rowMajority f) is (indices ok)) (element-below f (v + 48) x h) (value-is f v) (record-is f v l)
 
     small : indicesRight f (l .sizes) is (l .count) ≡ true → valueBytes f v ≤ 2147483648
     small h =
@@ -231,13 +214,13 @@ module _ (f : List ℕ) (k n r : ℤ) (is : List ℤ) (x : ℤ) (N : ℕ → Typ
         → (placed f l is && elementThere f (v + 48) x) ≡ true → vaxFloat f (v + 12) ≡ true → N 19)
         → Tells Shown N (inVariable f v left (variableOf f (kindAmong 3 8 k) v) r is x)
     unfolding inVariable
-    in-variable left refused eighteen nineteen = go (recordWay f v (variableOf f (kindAmong 3 8 k) v .bytes) r left) refl (record-found f v (variableOf f (kindAmong 3 8 k) v .bytes) r left)
+    in-variable left refused eighteen nineteen = go (recordWay f v (variableOf f (kindAmong 3 8 k) v .bytes) r left) refl (record-found f v r (variableOf f (kindAmong 3 8 k) v .bytes) left)
       where
         go : (s : Values) → recordWay f v (variableOf f (kindAmong 3 8 k) v .bytes) r left ≡ s
-            → Leads (ToRecord f v (variableOf f (kindAmong 3 8 k) v .bytes) r) s
+            → Leads (ToRecord f v r (variableOf f (kindAmong 3 8 k) v .bytes)) s
             → Tells Shown N (inValues f v (variableOf f (kindAmong 3 8 k) v) is x s)
         go (Record at) e t =
-            in-record at (t .there)
+            in-record at (t .way .there)
             (subst (λ (b : ℕ). Located f v b (recordRead f v r) at) bytes-are (locate f v (variableOf f (kindAmong 3 8 k) v .bytes) r at t))
             (eighteen at e) (nineteen at e)
         go (NoRecord m) e t = refused m e
@@ -397,6 +380,36 @@ module _ (f : List ℕ) (k n x : ℤ) (Fact : Answer → Type 0) (N : ℕ → Ty
       go (Found v left) q t = in-pad v t (fact v left q) (eighteen v left q) (nineteen v left q)
       go (Stopped m) q t = stopped m q
 
+-- ---- HOW MANY LEVELS
+pub levels-tell : (f : List ℕ) (k n r : ℤ) (N : ℕ → Type 0) → ((m : ℕ) → variableWay f k n ≡ Stopped m → N m)
+    → ((v left m : ℕ) → variableWay f k n ≡ Found v left → levelsWay f v r left ≡ Unknown m → N m)
+    → ShownOrRefused (LevelsShown f k n r) N (variableLevels f k n r)
+unfolding variableLevels
+levels-tell f k n r N stopped refused = go (variableWay f k n) refl (variable-found f k n)
+  where
+    counted : (v : ℕ) → ToVariable f k n v → (m : ℕ) → ToLevels f v r m → LevelsShown f k n r (pos m)
+    counted v t m l =
+        let w = reached f v r (l .entry) (l .way) in
+        let many : m ≡ suc (length (w .way .below)) = omega (arith, l .is, w .deep) in
+        record {
+          kind = t .kind;
+          number = t .listed .least;
+          vdr = v;
+          variable = list-met f (kindAmong 3 8 k) (headPlace f (kindAmong 3 8 k)) (natOr 0 n) v (t .listed .is) (t .listed .met);
+          there = l .way .there;
+          way = w .way;
+          counted = ap pos many;
+        }
+
+    told : (v left : ℕ) → variableWay f k n ≡ Found v left → ToVariable f k n v → (s : Levels) → levelsWay f v r left ≡ s → Counts (ToLevels f v r) s
+        → ShownOrRefused (LevelsShown f k n r) N (levelsField s)
+    told v left q t (Are m) e l = counted v t m l
+    told v left q t (Unknown m) e l = refused v left m q e
+
+    go : (w : Way) → variableWay f k n ≡ w → Finds (ToVariable f k n) w → ShownOrRefused (LevelsShown f k n r) N (levelsOn f r w)
+    go (Found v left) q t = told v left q t (levelsWay f v r left) refl (levels-found f v r left)
+    go (Stopped m) q t = stopped m q
+
 -- THE THEOREM
 pub values-shown : ValuesShown
 values-shown f = record {
@@ -404,4 +417,5 @@ values-shown f = record {
       subst (Tells (ValueShown f k n r is x) (λ m. Unit {0})) e (value-tells f k n r is x (λ m. Unit {0}) (λ m q. tt) (λ v left m q h. tt) (λ v left at q h g. tt) (λ v left at q h g w. tt));
   entry = λ b k n x a e. subst (Tells (EntryShown f b k n x) (λ m. Unit {0})) e (entry-tells f b k n x (EntryShown f b k n x) (λ m. Unit {0}) (λ m q. tt) (λ e left q a w h v. w) (λ e left q h. tt) (λ e left q h g. tt));
   pad = λ k n x a e. subst (Tells (PadShown f k n x) (λ m. Unit {0})) e (pad-tells f k n x (PadShown f k n x) (λ m. Unit {0}) (λ m q. tt) (λ v left q a w h g. w) (λ v left q h. tt) (λ v left q h g. tt));
+  levels = λ k n r x e. subst (ShownOrRefused (LevelsShown f k n r) (λ m. Unit {0})) e (levels-tell f k n r (λ m. Unit {0}) (λ m q. tt) (λ v left m q h. tt));
 }

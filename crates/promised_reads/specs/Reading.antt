@@ -1,9 +1,9 @@
 -- WHAT THE READER SHOWS: statements about its definitions, of every file, and of every file that the plain run accepts.
--- Document 01, "Values" and "Numbers that come back". Assumes nothing.
+-- Document 01, "Values" and "Numbers that come back"; request #104. Assumes nothing.
 use mathlib.Core.Path.{_≡_}
 use mathlib.Core.Logic.{_≢_, _↔_, _⊎_}
 use mathlib.Core.Bool.{Bool, true, false, cond, _&&_}
-use mathlib.Core.List.{List}
+use mathlib.Core.List.{List, [], _∷_}
 use Prim.Native.Nat.{ℕ, zero, suc, _+_, _-_, _*_, _≤_, _<_}
 use lib.ListN.{length}
 use lib.IntN.{ℤ, pos}
@@ -18,20 +18,23 @@ use Rattle.records.specs.Rules.{sizeAt, typedAt}
 use Rattle.records.specs.Opening.{gdrAt}
 use Rattle.records.specs.Attributes.{elementSize}
 use Rattle.records.specs.Index.{usedAt}
+use Rattle.records.specs.Tree.{Slot, usedEntries, firstOf, lastOf, namedBy, levelsBelow, namesIndex, lowerSlots, lowest, lowestEntries, entriesUnder}
 use Rattle.variables.specs.Vdr.{layoutOf, valueBytes, recordBytes}
 use Rattle.variables.specs.Place.{elementPlace, placed}
 use Rattle.checker.specs.declared.state.Stage.the-variants.{Done}
-use Rattle.demands.specs.Acceptance.{_∈_, Each, Linked, Slot, usedEntries, firstOf, lastOf, namedBy, IndexRight}
+use Rattle.demands.specs.Acceptance.{_∈_, Each, Linked, IndexRight}
 use Rattle.demands.specs.Demands.{endStage}
 use Rattle.ways.specs.Lists.{meets, headPlace, entriesPlace, ofKinds, kindAmong, variableWay, entryWay}
-use Rattle.ways.specs.Indexes.{recordVaries, recordThere, recordRead, indexMet}
+use Rattle.ways.specs.Indexes.{recordVaries, recordThere, recordRead, indexMet, lowerMet}
 use Rattle.ways.specs.declared.lists.Wanted.{Wanted}
 use Rattle.ways.specs.declared.lists.Wanted.the-variants.{Number}
 use Rattle.ways.specs.declared.lists.Way.the-variants.{Found}
 use Rattle.answers.specs.Answers.{numberOf, encodingAt, rowMajority, elementThere, valueRead, entryValue, entryRead, padRead}
 use Rattle.answers.specs.declared.Read.{Read}
 use Rattle.answers.specs.declared.Read.the-variants.{Value, Refused}
-use Rattle.descriptors.specs.Descriptors.{fieldNumber, nameNumber, variableField, attributeField, entryField, dimensionSize, variableSize, variableVariance, variableName, attributeName, fileField}
+use Rattle.descriptors.specs.Descriptors.{fieldNumber, nameNumber, variableField, attributeField, entryField, dimensionSize, variableSize, variableVariance, variableLevels, variableName, attributeName, fileField}
+use Rattle.descriptors.specs.declared.Field.{Field}
+use Rattle.descriptors.specs.declared.Field.the-variants.{Is, Refused as NoField}
 
 -- the plain run over the file f accepts, from fresh, with some marks at least as long
 abbrev pub PlainAccepts : List ℕ → Type 0
@@ -55,6 +58,32 @@ pub record CoveredBy (f : List ℕ) (r : ℕ) (s : Slot) : Type 0 where
   pub first : firstOf f s ≤ r
   pub last : r ≤ lastOf f s
 
+-- a way down an index, one entry a level: each entry but the last names the lower record of which the next is a used entry, the last
+-- names none
+abbrev pub WayDown : List ℕ → Slot → List Slot → Type 0
+WayDown f s [] = namesIndex f s ≡ false
+WayDown f s (t ∷ ts) = (namesIndex f s ≡ true) × (t ∈ lowerSlots f s) × WayDown f t ts
+
+abbrev pub lastEntry : Slot → List Slot → Slot
+lastEntry s [] = s
+lastEntry s (t ∷ ts) = lastEntry t ts
+
+-- the way through the index of the VDR at v to the lowest entry that covers record r
+pub record IndexWay (f : List ℕ) (v r : ℕ) : Type 0 where
+  -- "the index chain to the covering entry": entry `top .entry` of the VXR `top .vxr`, a used one, and the VXR one of the chain
+  pub top : Slot
+  pub place : ℕ
+  pub chained : nthRecord f (v + 20) place ≡ top .vxr
+  pub rules : (h : ℕ) → h ≤ place → indexMet f (nthRecord f (v + 20) h) ≡ true
+  pub used : top .entry < usedAt f (top .vxr)
+  -- "A lookup goes down level by level": "eight levels, top included", each by a lower record that keeps its rule and has no next
+  pub below : List Slot
+  pub down : WayDown f top below
+  pub few : length below ≤ levelsBelow
+  pub lower : (s : Slot) → s ∈ below → lowerMet f (s .vxr) ≡ true
+  -- each of its entries covers the record
+  pub covered : (s : Slot) → s ∈ (top ∷ below) → CoveredBy f r s
+
 -- n bytes from an offset lie in the record at o, behind its first h bytes
 pub record LiesIn (f : List ℕ) (o h offset n : ℕ) : Type 0 where
   pub begins : o + h ≤ offset
@@ -70,12 +99,11 @@ pub record ValueShown (f : List ℕ) (k n r : ℤ) (is : List ℤ) (x : ℤ) (a 
   pub variable : Met f (kindAmong 3 8 k) (headPlace f (kindAmong 3 8 k)) (natOr 0 n) vdr
   -- "A record number from 0 to MaxRec is looked up; with record variance clear any number from 0 reads record 0"
   pub there : recordThere f vdr r ≡ true
-  -- "the index chain to the covering entry": entry `slot .entry` of the VXR `slot .vxr`, a used one, and the VXR one of the chain
+  -- the way through the index, and the lowest entry that it comes to
+  pub way : IndexWay f vdr (recordRead f vdr r)
   pub slot : Slot
-  pub place : ℕ
-  pub chained : nthRecord f (vdr + 20) place ≡ slot .vxr
-  pub rules : (h : ℕ) → h ≤ place → indexMet f (nthRecord f (vdr + 20) h) ≡ true
-  pub used : slot .entry < usedAt f (slot .vxr)
+  pub last : lastEntry (way .top) (way .below) ≡ slot
+  pub isLowest : slot ∈ lowest f levelsBelow (way .top)
   pub covered : CoveredBy f (recordRead f vdr r) slot
   -- "then the VVR"; "VVR (7). Size 8 + (Last - First + 1) × record bytes"
   pub typed : typedAt f (namedBy f slot) (pos 7) ≡ true
@@ -126,11 +154,23 @@ pub record PadShown (f : List ℕ) (k n x : ℤ) (a : Answer) : Type 0 where
   pub inside : LiesIn f vdr 128 (a .offset) (elementSize f (vdr + 12))
   pub decoded : decodedOf f (a .offset) (natAt f (vdr + 12)) (encodingAt f) ≡ Given a
 
--- every value given is the one shown so
+-- what is shown as the number of levels that the index of the variable of kind k and number n has on the way to record r
+pub record LevelsShown (f : List ℕ) (k n r : ℤ) (levels : ℤ) : Type 0 where
+  pub kind : ofKinds 3 8 k ≡ true
+  pub number : leZ (pos 0) n ≡ true
+  pub vdr : ℕ
+  pub variable : Met f (kindAmong 3 8 k) (headPlace f (kindAmong 3 8 k)) (natOr 0 n) vdr
+  pub there : recordThere f vdr r ≡ true
+  -- one entry a level
+  pub way : IndexWay f vdr (recordRead f vdr r)
+  pub counted : levels ≡ pos (length (way .top ∷ way .below))
+
+-- every value given is the one shown so, and every number of levels
 pub record ShowsRight (f : List ℕ) : Type 0 where
   pub value : (k n r : ℤ) (is : List ℤ) (x : ℤ) (a : Answer) → valueRead f k n r is x ≡ Value a → ValueShown f k n r is x a
   pub entry : (b k n x : ℤ) (a : Answer) → entryRead f b k n x ≡ Value a → EntryShown f b k n x a
   pub pad : (k n x : ℤ) (a : Answer) → padRead f k n x ≡ Value a → PadShown f k n x a
+  pub levels : (k n r x : ℤ) → variableLevels f k n r ≡ Is x → LevelsShown f k n r x
 
 abbrev pub ValuesShown : Type 0
 ValuesShown = (f : List ℕ) → ShowsRight f
@@ -147,6 +187,7 @@ pub record NeverTwenty (f : List ℕ) : Type 0 where
   pub ofDimension : (d : ℤ) → fieldNumber (dimensionSize f d) ≢ 20
   pub ofSize : (k n d : ℤ) → fieldNumber (variableSize f k n d) ≢ 20
   pub ofVariance : (k n d : ℤ) → fieldNumber (variableVariance f k n d) ≢ 20
+  pub ofLevels : (k n r : ℤ) → fieldNumber (variableLevels f k n r) ≢ 20
   pub variableNamed : (k n : ℤ) → nameNumber (variableName f k n) ≢ 20
   pub attributeNamed : (n : ℤ) → nameNumber (attributeName f n) ≢ 20
   pub ofFile : (what : ℕ) → fieldNumber (fileField f what) ≢ 20
@@ -182,27 +223,38 @@ questionRight f t v is x = placed f (layoutOf f t v) is && elementThere f (v + 4
 
 -- ---- COVERED ONCE, and every number exactly where it is due
 
+-- none of the lowest entries of the index vxrs covers r
+abbrev pub NoneCovers : List ℕ → List ℕ → ℕ → Type 0
+NoneCovers f vxrs r = (s : Slot) → s ∈ lowestEntries f vxrs → CoveredBy f r s → ⊥
+
 -- the VDR at v, of kind k and number n, has the index vxrs: the number that comes back, for every record, indices and element
 pub record NumbersExact (f : List ℕ) (k n : ℤ) (v : ℕ) (vxrs : List ℕ) : Type 0 where
   -- "A record number from 0 to MaxRec is looked up": any other is 16
   pub missing : (r : ℤ) (is : List ℤ) (x : ℤ) → (numberOf (valueRead f k n r is x) ≡ 16) ↔ (recordThere f v r ≡ false)
-  -- "The index entry whose First..Last covers it is used, or 17 exactly if no used entry does"
+  -- "The index entry whose First..Last covers it is used, or 17 exactly if no used entry does"; #104: "now over the lowest entries"
   pub gap : (r : ℤ) → recordThere f v r ≡ true → (is : List ℤ) (x : ℤ)
-      → (numberOf (valueRead f k n r is x) ≡ 17) ↔ ((s : Slot) → s ∈ usedEntries f vxrs → CoveredBy f (recordRead f v r) s → ⊥)
+      → (numberOf (valueRead f k n r is x) ≡ 17) ↔ NoneCovers f vxrs (recordRead f v r)
+  -- "a lower record that ends without covering is 17", so an empty one is: where an entry of any level covers the record and names one
+  pub empty : (r : ℤ) → recordThere f v r ≡ true → (top s : Slot) → top ∈ usedEntries f vxrs → s ∈ entriesUnder f levelsBelow top
+      → CoveredBy f (recordRead f v r) s → namesIndex f s ≡ true → usedAt f (namedBy f s) ≡ 0 → (is : List ℤ) (x : ℤ)
+      → numberOf (valueRead f k n r is x) ≡ 17
   -- 18: "dimension index or element out of range, or wrong number of indices"
-  pub wrong : (r : ℤ) → recordThere f v r ≡ true → (s : Slot) → s ∈ usedEntries f vxrs → CoveredBy f (recordRead f v r) s → (is : List ℤ) (x : ℤ)
+  pub wrong : (r : ℤ) → recordThere f v r ≡ true → (s : Slot) → s ∈ lowestEntries f vxrs → CoveredBy f (recordRead f v r) s → (is : List ℤ) (x : ℤ)
       → (numberOf (valueRead f k n r is x) ≡ 18) ↔ (questionRight f (kindAmong 3 8 k) v is x ≡ false)
   -- 19: "float in encoding 3, 14 or 15"
-  pub float : (r : ℤ) → recordThere f v r ≡ true → (s : Slot) → s ∈ usedEntries f vxrs → CoveredBy f (recordRead f v r) s → (is : List ℤ) (x : ℤ)
+  pub float : (r : ℤ) → recordThere f v r ≡ true → (s : Slot) → s ∈ lowestEntries f vxrs → CoveredBy f (recordRead f v r) s → (is : List ℤ) (x : ℤ)
       → (numberOf (valueRead f k n r is x) ≡ 19) ↔ ((questionRight f (kindAmong 3 8 k) v is x && vaxFloat f (v + 12)) ≡ true)
+  -- 16 and 17 of the number of levels
+  pub noLevels : (r : ℤ) → (fieldNumber (variableLevels f k n r) ≡ 16) ↔ (recordThere f v r ≡ false)
+  pub gapLevels : (r : ℤ) → recordThere f v r ≡ true → (fieldNumber (variableLevels f k n r) ≡ 17) ↔ NoneCovers f vxrs (recordRead f v r)
 
 -- the index of the VDR at v, of kind k and number n
 pub record CoversOnce (f : List ℕ) (k n : ℤ) (v : ℕ) : Type 0 where
-  -- its chain, which keeps the rules of acceptance
+  -- its top chain, which keeps the rules of acceptance
   pub vxrs : List ℕ
   pub index : IndexRight f (kindAmong 3 8 k) v vxrs
-  -- no two of its used entries cover the same record number
-  pub once : (r : ℕ) (s t : Slot) → s ∈ usedEntries f vxrs → t ∈ usedEntries f vxrs → CoveredBy f r s → CoveredBy f r t → s ≡ t
+  -- no two of its lowest entries cover the same record number
+  pub once : (r : ℕ) (s t : Slot) → s ∈ lowestEntries f vxrs → t ∈ lowestEntries f vxrs → CoveredBy f r s → CoveredBy f r t → s ≡ t
   pub numbers : NumbersExact f k n v vxrs
 
 abbrev pub CoveredOnce : Type 0
@@ -213,6 +265,7 @@ pub record NoSuch (f : List ℕ) : Type 0 where
   pub value : (k n r : ℤ) (is : List ℤ) (x : ℤ) → (numberOf (valueRead f k n r is x) ≡ 15) ↔ (variableThere f k n ≡ false)
   pub entry : (b k n x : ℤ) → (numberOf (entryRead f b k n x) ≡ 15) ↔ (attributeThere f b k ≡ false)
   pub pad : (k n x : ℤ) → (numberOf (padRead f k n x) ≡ 15) ↔ (variableThere f k n ≡ false)
+  pub levels : (k n r : ℤ) → (fieldNumber (variableLevels f k n r) ≡ 15) ↔ (variableThere f k n ≡ false)
 
 abbrev pub Fifteen : Type 0
 Fifteen = (f : List ℕ) → PlainAccepts f → NoSuch f
@@ -255,18 +308,18 @@ RecordsThere = (f : List ℕ) (v : ℕ) (r : ℤ) → LooksUp f v r
 
 -- ---- WHY A VALUE IS REFUSED, in an accepted file
 
--- the chain of VXRs of the VDR at v is vxrs, and none of its used entries covers r
+-- the top chain of the index of the VDR at v is vxrs, and none of its lowest entries covers r
 pub record InGap (f : List ℕ) (v r : ℕ) : Type 0 where
   pub vxrs : List ℕ
   pub linked : Linked f (λ x. x) (v + 20) vxrs
-  pub none : (s : Slot) → s ∈ usedEntries f vxrs → CoveredBy f r s → ⊥
+  pub none : NoneCovers f vxrs r
 
 -- and one covers r
 pub record InRange (f : List ℕ) (v r : ℕ) : Type 0 where
   pub vxrs : List ℕ
   pub linked : Linked f (λ x. x) (v + 20) vxrs
   pub slot : Slot
-  pub used : slot ∈ usedEntries f vxrs
+  pub lowest : slot ∈ lowestEntries f vxrs
   pub covers : CoveredBy f r slot
 
 -- of the variable whose VDR is at v, of kind t
@@ -288,6 +341,13 @@ ValueRefused f k n r is x m =
     ((m ≡ 15) × (variableThere f k n ≡ false))
     ⊎ ((variableThere f k n ≡ true) × (v : ℕ) × Met f (kindAmong 3 8 k) (headPlace f (kindAmong 3 8 k)) (natOr 0 n) v
     × RecordRefused f (kindAmong 3 8 k) v r is x m)
+
+-- and why a number of levels is
+abbrev pub LevelsRefused : List ℕ → ℤ → ℤ → ℤ → ℕ → Type 0
+LevelsRefused f k n r m =
+    ((m ≡ 15) × (variableThere f k n ≡ false))
+    ⊎ ((variableThere f k n ≡ true) × (v : ℕ) × Met f (kindAmong 3 8 k) (headPlace f (kindAmong 3 8 k)) (natOr 0 n) v
+    × (((m ≡ 16) × (recordThere f v r ≡ false)) ⊎ ((m ≡ 17) × (recordThere f v r ≡ true) × InGap f v (recordRead f v r))))
 
 abbrev pub PadRefused : List ℕ → ℤ → ℤ → ℤ → ℕ → Type 0
 PadRefused f k n x m =
@@ -319,10 +379,15 @@ abbrev pub GivenOrRefused : (Answer → Type 0) → (ℕ → Type 0) → Read �
 GivenOrRefused Shown Why (Value a) = Shown a
 GivenOrRefused Shown Why (Refused v) = Why v
 
+abbrev pub ShownOrRefused : (ℤ → Type 0) → (ℕ → Type 0) → Field → Type 0
+ShownOrRefused Shown Why (Is x) = Shown x
+ShownOrRefused Shown Why (NoField v) = Why v
+
 pub record ReadsRight (f : List ℕ) : Type 0 where
   pub value : (k n r : ℤ) (is : List ℤ) (x : ℤ) → GivenOrRefused (ValueShown f k n r is x) (ValueRefused f k n r is x) (valueRead f k n r is x)
   pub entry : (b k n x : ℤ) → GivenOrRefused (EntryShown f b k n x) (EntryRefused f b k n x) (entryRead f b k n x)
   pub pad : (k n x : ℤ) → GivenOrRefused (PadShown f k n x) (PadRefused f k n x) (padRead f k n x)
+  pub levels : (k n r : ℤ) → ShownOrRefused (LevelsShown f k n r) (LevelsRefused f k n r) (variableLevels f k n r)
 
 abbrev pub Demand2Values : Type 0
 Demand2Values = (f : List ℕ) → PlainAccepts f → ReadsRight f

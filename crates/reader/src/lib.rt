@@ -3,7 +3,7 @@ ghost use mathlib.Core.Path.{_≡_};
 ghost use Rattle.values.specs.Values.{kindOf};
 ghost use Rattle.ways.specs.declared.lists.Wanted.the-variants.{Place, Number};
 ghost use Rattle.answers.specs.Answers.{valueRead, entryValue, entryRead, padRead};
-ghost use Rattle.descriptors.specs.Descriptors.{variableField, attributeField, entryField, dimensionSize, variableSize, variableVariance, variableName, attributeName, fileField};
+ghost use Rattle.descriptors.specs.Descriptors.{variableField, attributeField, entryField, dimensionSize, variableSize, variableVariance, variableLevels, variableName, attributeName, fileField};
 ghost use Rattle.reader.specs.Shown.{shownValue, valueShown, shownField, fieldShown, shownName, nameShown};
 use answers::Read;
 use descriptors::Field;
@@ -225,6 +225,20 @@ pub extern "C" fn tlz_read_variance(
         descriptors::variable_variance(file, kind, number, dimension),
         field,
     )
+}
+
+// How many levels the index of a variable has on the way to a record, 1 to 8, by kind, number and record.
+#[no_mangle]
+pub extern "C" fn tlz_read_levels(
+    file: &[u8],
+    kind: i64,
+    number: i64,
+    rec: i64,
+    field: &mut i32,
+) -> i32
+    ensures { λ q. ⌜ shownField q (now (field .exit)) ≡ fieldShown (variableLevels (now (file .entry)) kind number rec) (now (field .entry)) ⌝ }
+{
+    show_field(descriptors::variable_levels(file, kind, number, rec), field)
 }
 
 // Where the name of a variable stands and its length, by kind and number.

@@ -1,4 +1,4 @@
--- Index records, their entries, and value records. Assumes nothing.
+-- Index records, their entries, and value records; request #104's lower index records. Assumes nothing.
 use Prim.Native.Nat.{ℕ, _+_, _*_, _≤_, _<_}
 use mathlib.Core.Bool.{Bool, cond, _&&_}
 use mathlib.Core.List.{List}
@@ -7,7 +7,7 @@ use lib.ListN.{length}
 use lib.Dec.{ltb, leb, eqb}
 use lib.IntN.{pos}
 use Rattle.format.specs.Fields.{endOf, atLeast, inOrder, natAt, linkAt}
-use Rattle.records.specs.Rules.{sizeAt, judged}
+use Rattle.records.specs.Rules.{sizeAt, typedAt, judged}
 use Rattle.records.specs.declared.index.Entry.{Entry}
 
 -- "VXR (6). .. entries 12, used 16 (0 to entries), .. Size 20 + 12 × entries"
@@ -33,16 +33,28 @@ lastPlace x n i = firstPlace x i + 4 * n
 abbrev pub offsetPlace : ℕ → ℕ → ℕ → ℕ
 offsetPlace x n i = lastPlace x n i + 4 * n
 
--- "First at least 0, above the previous Last in the whole chain"; floor is the previous Last + 1, or 0
+-- size and type at o lie in the file, and the type is an index record's
+abbrev pub indexAt : List ℕ → ℕ → Bool
+indexAt f o = leb (o + 8) (endOf f) && typedAt f o (pos 6)
+
+-- "First at least 0, above the previous Last in the whole chain"; floor is the previous Last + 1, or 0, or the naming entry's First
 unfoldable pub rises : List ℕ → ℕ → ℕ → Bool
 rises f first floor = atLeast f first (pos 0) && leb floor (natAt f first)
 
--- the range and the Offset of an entry whose First stands in the file: 12 unless it rises; 20 if Last passes the file's end; 12 unless
--- "Last at least First"; 20 if Offset passes the file's end
-unfoldable pub rangeNumber : List ℕ → ℕ → ℕ → ℕ → ℕ → ℕ
-rangeNumber f first last offset floor =
+-- "Last at least First", and at most the naming entry's Last: "its ranges rise within the naming entry's"
+unfoldable pub closes : List ℕ → ℕ → ℕ → ℕ → Bool
+closes f first last most = inOrder f first last && leb (natAt f last) most
+
+-- the entries of the top chain have no such limit: no Last is greater
+abbrev pub noLimit : ℕ
+noLimit = 2147483647
+
+-- the range and the Offset of an entry whose First stands in the file: 12 unless it rises; 20 if Last passes the file's end; 12 unless it
+-- closes; 20 if Offset passes the file's end
+unfoldable pub rangeNumber : List ℕ → ℕ → ℕ → ℕ → ℕ → ℕ → ℕ
+rangeNumber f first last offset floor most =
     cond (rises f first floor)
-    (cond (ltb (endOf f) (last + 4)) 20 (cond (inOrder f first last) (cond (ltb (endOf f) (offset + 4)) 20 0) 12))
+    (cond (ltb (endOf f) (last + 4)) 20 (cond (closes f first last most) (cond (ltb (endOf f) (offset + 4)) 20 0) 12))
     12
 
 abbrev pub entryFault : ℕ → Entry
@@ -54,15 +66,15 @@ entryBy f first last offset number =
     cond (eqb number 0) (record { fault = 0; first = natAt f first; last = natAt f last; link = linkAt f offset }) (entryFault number)
 
 -- entry i of the n of the VXR at x: first 20 if its First passes the file's end
-abbrev pub entryAmong : List ℕ → ℕ → ℕ → ℕ → ℕ → Entry
-entryAmong f x n i floor =
+abbrev pub entryAmong : List ℕ → ℕ → ℕ → ℕ → ℕ → ℕ → Entry
+entryAmong f x n i floor most =
     let first = firstPlace x i in
     let last = lastPlace x n i in
     let offset = offsetPlace x n i in
-    cond (ltb (endOf f) (first + 4)) (entryFault 20) (entryBy f first last offset (rangeNumber f first last offset floor))
+    cond (ltb (endOf f) (first + 4)) (entryFault 20) (entryBy f first last offset (rangeNumber f first last offset floor most))
 
-unfoldable pub entryOf : List ℕ → ℕ → ℕ → ℕ → Entry
-entryOf f x i floor = entryAmong f x (entriesAt f x) i floor
+unfoldable pub entryOf : List ℕ → ℕ → ℕ → ℕ → ℕ → Entry
+entryOf f x i floor most = entryAmong f x (entriesAt f x) i floor most
 
 -- the bounds of a range that is right
 pub record Ranged (f : List ℕ) (first last offset : ℕ) : Type 0 where

@@ -1,4 +1,5 @@
-// The small files: A to I checked in one grant of steps and in grants of one step; what is read of J to M.
+// The small files: A to I, and H with two levels and with nine, checked in one grant of steps and in grants of one step; what is read
+// of J to M.
 mod line;
 mod parts;
 mod reads;
@@ -30,11 +31,11 @@ fn listed(name: &[u8], next: u32) {
     line::shown(name, &f, 388, 3);
 }
 
-// One zVariable, its VVR last: H with one of 14 bytes, I with one of 15.
-fn variable(name: &[u8], vvr: u32, length: u32) {
-    let mut f = [0u8; 560];
+// One zVariable, its VVR last: H with one of 14 bytes, I with one of 15; H with more levels of its index.
+fn variable(name: &[u8], levels: u32, vvr: u32, length: u32) {
+    let mut f = [0u8; 806];
     parts::opening(&mut f, length, 372, 1, 0);
-    parts::variable(&mut f, vvr);
+    parts::variable(&mut f, levels, vvr);
     line::shown(name, &f, length, 5);
 }
 
@@ -43,7 +44,7 @@ fn decoded(name: &[u8], encoding: u32, high: u8, low: u8, rec: i64) {
     let mut f = [0u8; 550];
     parts::start(&mut f, encoding, 3);
     parts::gdr(&mut f, 550, 372, 1, 0);
-    parts::variable(&mut f, 14);
+    parts::variable(&mut f, 1, 14);
     store::put_byte(&mut f, 546, high);
     store::put_byte(&mut f, 547, low);
     let none = [0i64; 0];
@@ -81,8 +82,10 @@ fn main() {
     unlisted(b"E", 7);
     listed(b"F", 0);
     listed(b"G", 372);
-    variable(b"H", 14, 550);
-    variable(b"I", 15, 551);
+    variable(b"H", 1, 14, 550);
+    variable(b"I", 1, 15, 551);
+    variable(b"H, two levels", 2, 14, 582);
+    variable(b"H, nine levels", 9, 14, 806);
     decoded(b"J", 6, 0xff, 0xfe, 1);
     decoded(b"J, encoding 1", 1, 0xff, 0xfe, 1);
     decoded(b"K", 6, 0, 0, 3);

@@ -34,14 +34,29 @@ pub(crate) fn opening(f: &mut [u8], length: u32, z_head: u32, z_vars: u32, unuse
     gdr(f, length, z_head, z_vars, unused);
 }
 
-// A zVDR at 372 of type 2 and MaxRec 2, its VXR at 504 of one used entry 0..2, its VVR at 536 of a size.
-pub(crate) fn variable(f: &mut [u8], vvr: u32) {
+// VXRs of one used entry 0..2 one below the other from 504 on, so many; where the next record starts.
+fn index(f: &mut [u8], levels: u32) -> u32 {
+    let mut at: u32 = 504;
+    let mut i: u32 = 0;
+    while i < levels {
+        if 1000 < at {
+            return at;
+        }
+        let vxr = [32, 6, 0, 1, 1, 0, 2, at + 32];
+        store::put_all(f, at as usize, &vxr);
+        at += 32;
+        i += 1;
+    }
+    at
+}
+
+// A zVDR at 372 of type 2 and MaxRec 2, its index from 504 on, of so many levels, then its VVR of a size.
+pub(crate) fn variable(f: &mut [u8], levels: u32, vvr: u32) {
     let vdr = [132, 8, 0, 2, 2, 504, 504, 1, 0, 0, 0, 0, 1];
     store::put_all(f, 372, &vdr);
-    let vxr = [32, 6, 0, 1, 1, 0, 2, 536];
-    store::put_all(f, 504, &vxr);
+    let at = index(f, levels);
     let record = [vvr, 7];
-    store::put_all(f, 536, &record);
+    store::put_all(f, at as usize, &record);
 }
 
 // A zVDR at 372 of type 1 with two dimensions and one record, its VXR at 520, its VVR at 552 of a size; the value at each place

@@ -9,7 +9,7 @@ pub(crate) struct Run {
 
 // One grant of 1000 steps.
 pub(crate) fn in_one(file: &[u8], marks: &mut [u8]) -> Run {
-    let mut state = [0u32; 12];
+    let mut state = [0u32; 33];
     grants::tlz_check_begin(&mut state);
     let mut steps: u64 = 0;
     let verdict = grants::tlz_check_grant(file, marks, &mut state, 1000, &mut steps);
@@ -45,7 +45,7 @@ fn each(file: &[u8], marks: &mut [u8], state: &mut [u32]) -> Run {
 }
 
 pub(crate) fn in_many(file: &[u8], marks: &mut [u8]) -> Run {
-    let mut state = [0u32; 12];
+    let mut state = [0u32; 33];
     grants::tlz_check_begin(&mut state);
     each(file, marks, &mut state)
 }

@@ -1,8 +1,8 @@
--- The small files of document 01 and their plain runs, in one table. Assumes nothing.
+-- The small files of document 01 and some with lower index records, and their plain runs, in one table. Assumes nothing.
 use mathlib.Core.Path.{_≡_, refl}
 use mathlib.Core.Bool.{Bool, true, false, _&&_}
 use mathlib.Core.List.{List, [], _∷_, _++_}
-use Prim.Native.Nat.{ℕ, _+_, _/_, _%_}
+use Prim.Native.Nat.{ℕ, zero, suc, _+_, _*_, _/_, _%_}
 use lib.ListN.{length, getD, take, replicate}
 use lib.Dec.{eqb}
 use lib.IntN.{ℤ, pos, negsuc}
@@ -14,7 +14,7 @@ use Rattle.records.specs.Rules.{reachOf, judged}
 use Rattle.records.specs.Opening.{tooLong, magicsRight, whollyCompressed, cdrRight, singleFile, gdrAt, gdrFields, gdrRight, opening}
 use Rattle.records.specs.Tiles.{typeKnown, tileFields, tileRight, typeUncarried, tile}
 use Rattle.records.specs.Attributes.{adrRight, adrRule, elementSize, aedrRight, aedrRule}
-use Rattle.records.specs.Index.{vxrRight, vxrRule, rises, rangeNumber, entryOf, vvrRule}
+use Rattle.records.specs.Index.{vxrRight, vxrRule, rises, closes, rangeNumber, entryOf, vvrRule}
 use Rattle.records.specs.Unused.{uirRule}
 use Rattle.variables.specs.Limit.{capped}
 use Rattle.variables.specs.Vdr.{carriedOf, vdrFields, countPlace, countRight, layoutAt, layoutOf, valueBytes, padBytes, sizeExact, dimensionsRight, factorOf, spread, recordBytes, dimensioned, variableOf}
@@ -23,11 +23,12 @@ use Rattle.values.specs.Values.{rawAt, valueOf, bitsOf, isVax, isNothing, decod
 use Rattle.values.specs.declared.value.Value.{Value}
 use Rattle.values.specs.declared.value.Value.the-variants.{Signed, Unsigned, Single, Double, Code}
 use Rattle.ways.specs.Lists.{opened, allowance, landsOn, vdrKept, ruleKept, meets, lastLink, sought, placeWay, variableWay}
-use Rattle.ways.specs.Indexes.{recordThere, recordRead, lookedUp, scanned, indexMet, lastIndex, indexed, valuesMet, recordWay}
+use Rattle.ways.specs.Indexes.{recordThere, recordRead, lookedUp, scanned, indexMet, lastIndex, indexed, lowerMet, lowered, valuesMet, recordWay}
 use Rattle.answers.specs.declared.Read.{Read}
 use Rattle.answers.specs.declared.Read.the-variants.{Value as Given, Refused}
 use Rattle.answers.specs.Answers.{elementThere, elementRead, inRecord, inVariable, valueRead}
-use Rattle.walk.specs.Walk.{typeNumber, followed, gdrNamed, fieldNumber, tallied, varsTally, varNumber, chainTally, attrNumber, valuesNumber, entriesTally, numNumber, entryNumber, oneMore, unusedNumber, turnOf}
+use Rattle.walk.specs.Walk.{typeNumber, followed, gdrNamed, fieldNumber, tallied, varsTally, varNumber, chainTally, attrNumber, valuesNumber, lowerNumber, entriesTally, numNumber, entryNumber, oneMore, unusedNumber, turnBy}
+use Rattle.walk.specs.Levels.{isNone, mostOf, roomBelow}
 use Rattle.marks.specs.Marks.{cleared, marked, startAt, unclaimedAt, followedAt, leftFrom, leftOf}
 use Rattle.checker.specs.Step.{Run, answerOf, openNumber, linkNumber, turned, stepBy, runOf, plainRun}
 
@@ -53,12 +54,25 @@ fileBy encoding flags len zHead zVars uHead rest =
 unfoldable pub fileOf : ℕ → ℕ → ℕ → ℕ → List ℕ → List ℕ
 fileOf len zHead zVars uHead rest = fileBy 6 3 len zHead zVars uHead rest
 
--- "one zVariable, type 2, one element, no dimensions, no pad, record variance set, MaxRec 2, VDR at 372, VXR of one used entry 0..2
--- at 504, VVR .. at 536", of a size and with values
-unfoldable pub variable : ℕ → List ℕ → List ℕ
-variable size values =
+-- a VXR of one used entry 0..2 that names what stands at an offset
+unfoldable pub indexTo : ℕ → List ℕ
+indexTo offset = wordsOf (32 ∷ 6 ∷ 0 ∷ 1 ∷ 1 ∷ 0 ∷ 2 ∷ offset ∷ [])
+
+-- "one zVariable, type 2, one element, no dimensions, no pad, record variance set, MaxRec 2, VDR at 372", its index from 504 on, then its
+-- VVR, of a size and with values
+unfoldable pub variableBy : List ℕ → ℕ → List ℕ → List ℕ
+variableBy index size values =
     wordsOf (132 ∷ 8 ∷ 0 ∷ 2 ∷ 2 ∷ 504 ∷ 504 ∷ 1 ∷ 0 ∷ 0 ∷ 0 ∷ 0 ∷ 1 ∷ 0 ∷ 0 ∷ 0 ∷ [])
-    ++ (replicate 64 0 ++ (wordsOf (0 ∷ 32 ∷ 6 ∷ 0 ∷ 1 ∷ 1 ∷ 0 ∷ 2 ∷ 536 ∷ size ∷ 7 ∷ []) ++ values))
+    ++ (replicate 64 0 ++ (wordsOf (0 ∷ []) ++ (index ++ (wordsOf (size ∷ 7 ∷ []) ++ values))))
+
+-- "VXR of one used entry 0..2 at 504, VVR .. at 536"
+unfoldable pub variable : ℕ → List ℕ → List ℕ
+variable size values = variableBy (indexTo 536) size values
+
+-- request #104: n such VXRs one below the other, from an offset on; the last names what stands behind it
+unfoldable pub levels : ℕ → ℕ → List ℕ
+levels zero at = []
+levels (suc n) at = indexTo (at + 32) ++ levels n (at + 32)
 
 -- a zVariable of type 1 with two dimensions, of sizes a and b and variances v and w, and one record: VDR at 372, VXR at 520, VVR at 552;
 -- the value at each place is that place
@@ -100,6 +114,10 @@ fileH = fileOf 550 372 1 0 (variable 14 (replicate 6 0))
 -- "H with a VVR of 15 bytes"
 unfoldable pub fileI : List ℕ
 fileI = fileOf 551 372 1 0 (variable 15 (replicate 7 0))
+
+-- H with an index of n levels; its values are 0, 1 and 2
+unfoldable pub deep : ℕ → List ℕ
+deep n = fileOf (518 + 32 * n) 372 1 0 (variableBy (levels n 504) 14 (0 ∷ 0 ∷ 1 ∷ 0 ∷ 2 ∷ 0 ∷ []))
 
 -- "in H, bytes FF FE at 546", in an encoding
 unfoldable pub fileJ : ℕ → List ℕ
@@ -150,7 +168,8 @@ unfoldable pub allOf : List Bool → Bool
 allOf [] = true
 allOf (b ∷ bs) = b && allOf bs
 
--- a row for each file, with the marks at its record starts; then what is read of J (both encodings), K, L (by row and by column) and M
+-- a row for each file, with the marks at record starts; then what is read of J (both encodings), K, L (by row and by column) and M, and
+-- through two, eight and nine levels
 unfoldable pub rows : List Bool
 rows =
     checks fileA (pos 0) 8 ((0, 7) ∷ (8, 1) ∷ (312, 2) ∷ [])
@@ -162,26 +181,33 @@ rows =
     ∷ checks fileG (pos 9) 10 ((8, 1) ∷ (312, 2) ∷ (372, 2) ∷ [])
     ∷ checks fileH (pos 0) 15 ((8, 1) ∷ (312, 2) ∷ (372, 2) ∷ (504, 2) ∷ (536, 2) ∷ [])
     ∷ checks fileI (pos 10) 11 ((8, 1) ∷ (312, 2) ∷ (372, 2) ∷ (504, 2) ∷ (536, 1) ∷ [])
+    -- two levels, eight, and nine: 23 at the entry of the eighth record
+    ∷ checks (deep 2) (pos 0) 18 ((8, 1) ∷ (312, 2) ∷ (372, 2) ∷ (504, 2) ∷ (536, 2) ∷ (568, 2) ∷ [])
+    ∷ checks (deep 8) (pos 0) 36 ((504, 2) ∷ (728, 2) ∷ (760, 2) ∷ [])
+    ∷ checks (deep 9) (pos 23) 26 ((504, 2) ∷ (728, 2) ∷ (760, 1) ∷ (792, 1) ∷ [])
     ∷ gives (negsuc 256) 546 (reads (fileJ 6) 1 [])
     ∷ gives (negsuc 1) 546 (reads (fileJ 1) 1 [])
     ∷ refuses 16 (reads fileH 3 [])
     ∷ gives (pos 3) 563 (reads (fileL 3) 0 (pos 1 ∷ pos 0 ∷ []))
     ∷ gives (pos 1) 561 (reads (fileL 2) 0 (pos 1 ∷ pos 0 ∷ []))
     ∷ gives (pos 2) 562 (reads fileM 0 (pos 2 ∷ pos 4 ∷ []))
+    ∷ gives (pos 1) 578 (reads (deep 2) 1 [])
+    ∷ gives (pos 2) 772 (reads (deep 8) 2 [])
+    ∷ refuses 20 (reads (deep 9) 2 [])
     ∷ []
 
 -- THE TABLE
 pub small-files : allOf rows ≡ true
 unfolding bigAt endOf fieldAt isAt atLeast atMost inOrder sameAt eachWithin natAt afterAt linkAt bitAt typeOf encodingOf
     reachOf judged tooLong magicsRight whollyCompressed cdrRight singleFile gdrAt gdrFields gdrRight opening typeKnown
-    tileFields tileRight typeUncarried tile adrRight adrRule elementSize aedrRight aedrRule vxrRight vxrRule rises rangeNumber
+    tileFields tileRight typeUncarried tile adrRight adrRule elementSize aedrRight aedrRule vxrRight vxrRule rises closes rangeNumber
     entryOf vvrRule uirRule capped carriedOf vdrFields countPlace countRight layoutAt layoutOf valueBytes padBytes
     sizeExact dimensionsRight factorOf spread recordBytes dimensioned variableOf typeNumber followed gdrNamed fieldNumber tallied varsTally
-    varNumber chainTally attrNumber valuesNumber entriesTally numNumber entryNumber oneMore unusedNumber turnOf cleared marked startAt unclaimedAt
+    varNumber chainTally attrNumber valuesNumber lowerNumber entriesTally numNumber entryNumber oneMore unusedNumber isNone mostOf roomBelow turnBy cleared marked startAt unclaimedAt
     followedAt leftFrom leftOf openNumber linkNumber turned stepBy runOf littleAt placeAfter elementPlace indicesRight
     rowFits placed placeOf rawAt valueOf bitsOf isVax isNothing decodedOf opened allowance landsOn vdrKept ruleKept meets
-    lastLink sought placeWay variableWay recordThere recordRead lookedUp scanned indexMet lastIndex indexed valuesMet
-    recordWay elementThere elementRead inRecord inVariable valueRead wordsOf fileBy fileOf variable plane fileA fileB
+    lastLink sought placeWay variableWay recordThere recordRead lookedUp scanned indexMet lastIndex indexed lowerMet lowered valuesMet
+    recordWay elementThere elementRead inRecord inVariable valueRead wordsOf fileBy fileOf indexTo variableBy variable levels deep plane fileA fileB
     fileC fileD fileE fileF fileG fileH fileI fileJ fileL fileM marksAre ends checks isSigned gives refuses reads allOf
     rows
 small-files = refl

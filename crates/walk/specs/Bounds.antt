@@ -3,6 +3,8 @@ use mathlib.Core.Path.{_≡_}
 use mathlib.Core.Logic.{_⊎_}
 use Prim.Native.Nat.{ℕ, _≤_}
 use Rattle.walk.specs.declared.places.Var.{Var}
+use Rattle.walk.specs.declared.places.Level.{Level}
+use Rattle.walk.specs.declared.places.Levels.{Levels}
 use Rattle.walk.specs.declared.places.Walk as W
 use Rattle.walk.specs.declared.places.Walk.the-variants.{Start, Vars, Chain, Entry, Attrs, Entries, Unused}
 
@@ -34,6 +36,14 @@ Small (Entry u x i floor c) = SmallVar u × (x ≤ 2147483647) × (i ≤ 2147483
 Small (Attrs p n) = (p ≤ 2147483711) × (n ≤ 2147483648)
 Small (Entries k a n p e g) = (a ≤ 2147483647) × (n ≤ 2147483647) × (p ≤ 2147483711) × (e ≤ 2147483648) × (g ≤ 2147483648)
 Small (Unused p b) = (p ≤ 2147483711) × (b ≤ 2147483647)
+
+-- of a level the record and the Last, and the entry + 1
+abbrev pub SmallLevel : Level → Type 0
+SmallLevel l = (l .vxr ≤ 2147483647) × (l .next ≤ 2147483648) × (l .last ≤ 2147483647)
+
+-- those of all levels
+abbrev pub SmallLevels : Levels → Type 0
+SmallLevels s = SmallLevel (s .a) × SmallLevel (s .b) × SmallLevel (s .c) × SmallLevel (s .d) × SmallLevel (s .e) × SmallLevel (s .f) × SmallLevel (s .g)
 
 pub record Within (w : W.Walk) : Type 0 where
   pub kinds : Kinds w

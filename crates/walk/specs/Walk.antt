@@ -1,4 +1,4 @@
--- The walk along the links, a step a link, without marks: document 01, "The check, step by step", 3. Assumes nothing.
+-- The walk along the links, a step a link, without marks: document 01, "The check, step by step", 3, and request #104. Assumes nothing.
 use Prim.Native.Nat.{ℕ, _+_, _-_, min, max}
 use mathlib.Core.Bool.{Bool, false, cond, _&&_, _||_}
 use mathlib.Core.List.{List, [], _∷_}
@@ -8,19 +8,22 @@ use Rattle.format.specs.Fields.{endOf, isAt, sameAt, atLeast, natAt, linkAt, af
 use Rattle.records.specs.Rules.{typedAt, reachOf}
 use Rattle.records.specs.Opening.{gdrAt}
 use Rattle.records.specs.Attributes.{adrRule, aedrRule}
-use Rattle.records.specs.Index.{usedAt, vxrRule, entryOf, vvrRule}
+use Rattle.records.specs.Index.{usedAt, vxrRule, indexAt, entryOf, vvrRule}
 use Rattle.records.specs.Unused.{uirRule}
 use Rattle.records.specs.declared.index.Entry.{Entry}
 use Rattle.variables.specs.Vdr.{carriedOf, variableOf}
 use Rattle.variables.specs.declared.vdr.Variable.{Variable}
 use Rattle.walk.specs.Numbers.{first, unless}
+use Rattle.walk.specs.Levels.{isNone, mostOf, roomBelow}
 use Rattle.walk.specs.declared.places.Var.{Var}
+use Rattle.walk.specs.declared.places.Level.{Level}
+use Rattle.walk.specs.declared.places.Levels.{Levels}
 use Rattle.walk.specs.declared.places.Walk as W
 use Rattle.walk.specs.declared.places.Walk.the-variants.{Start, Vars, Chain, Entry as AtEntry, Attrs, Entries, Unused}
 use Rattle.walk.specs.declared.places.Link as L
 use Rattle.walk.specs.declared.places.Link.the-variants.{Past, Zero, To}
 use Rattle.walk.specs.declared.places.Turn as T
-use Rattle.walk.specs.declared.places.Turn.the-variants.{Over, End, Take}
+use Rattle.walk.specs.declared.places.Turn.the-variants.{Over, End, Take, Down, Up}
 
 -- 8 for type; 20 if the file ends before it
 unfoldable pub typeNumber : List ℕ → ℕ → ℤ → ℕ
@@ -28,10 +31,10 @@ typeNumber f o t = cond (ltb (endOf f) (o + 8)) 20 (unless 8 (typedAt f o t))
 
 -- a link to the record o that goes on at next if nothing refuses it; where something does, next means nothing and is Start
 abbrev pub takes : ℕ → ℕ → ℕ → ℕ → W.Walk → T.Turn
-takes early o typed late next = Take early o typed late (cond (eqb early 0 && eqb late 0) next Start)
+takes early o typed late next = Take (cond (eqb early 0 && eqb late 0) next Start) early o typed late
 
 abbrev pub refusedBy : ℕ → ℕ → ℕ → T.Turn
-refusedBy o typed late = Take 0 o typed late Start
+refusedBy o typed late = Take Start 0 o typed late
 
 -- the link that stands at p: 20 if the file ends before it; "A zero link ends a list"
 unfoldable pub followed : List ℕ → ℕ → T.Turn → (ℕ → T.Turn) → T.Turn
@@ -47,7 +50,7 @@ gdrNamed f = leb 20 (endOf f)
 
 -- a list of the GDR is over; 20 if the link to the GDR passes the file's end
 abbrev pub overBy : List ℕ → ℕ → W.Walk → T.Turn
-overBy f number next = cond (gdrNamed f) (Over number next) (End 20)
+overBy f number next = cond (gdrNamed f) (Over next number) (End 20)
 
 -- 11 unless the field at p is z; 20 if it passes the file's end
 unfoldable pub fieldNumber : List ℕ → ℕ → ℤ → ℕ
@@ -80,20 +83,35 @@ varsOver f k n greatest = overBy f (varsTally f k n greatest) (afterVars f k)
 abbrev pub varTaken : List ℕ → ℕ → ℕ → ℕ → ℕ → T.Turn
 varTaken f k n greatest o = takes 0 o (typeNumber f o (pos k)) (varNumber f k n o) (intoIndex f k n greatest o)
 
--- ---- an index chain. "VXRtail is the last VXR, or 0 if there is none; else 11. Then MaxRec is -1 or lies in some used entry's range; else 12"
+-- ---- an index. "VXRtail is the last VXR, or 0 if there is none; else 11. Then MaxRec is -1 or lies in some used entry's range; else 12";
+-- "VXRtail speaks of the top chain alone, and at its end MaxRec, unless -1, must now lie in the range of an entry that names values"
 unfoldable pub chainTally : List ℕ → ℕ → ℕ → Bool → ℕ
 chainTally f v last covered = first (fieldNumber f (v + 24) (pos last) ∷ unless 12 (isAt f (v + 16) (negsuc 0) || covered) ∷ [])
 
 abbrev pub chainOver : List ℕ → Var → ℕ → Bool → T.Turn
 chainOver f u last covered =
-    Over (chainTally f (u .vdr) last covered) (Vars (u .kind) (u .vdr + 8) (u .place + 1) (u .greatest))
+    Over (Vars (u .kind) (u .vdr + 8) (u .place + 1) (u .greatest)) (chainTally f (u .vdr) last covered)
 
 -- "VXR: each used offset, next": entry i, or where there are no more the link to the next VXR
 abbrev pub entered : List ℕ → Var → ℕ → ℕ → ℕ → Bool → W.Walk
 entered f u x i floor covered = cond (ltb i (usedAt f x)) (AtEntry u x i floor covered) (Chain u (x + 8) x floor covered)
 
+-- a lower record is over: on to the neighbour of the entry that named it, in the record of the nearest level; 20 if that record's used
+-- passes the file's end
+abbrev pub lowerOver : List ℕ → Var → Level → Bool → T.Turn
+lowerOver f u near covered =
+    cond (ltb (endOf f) (near .vxr + 20)) (End 20) (Up (entered f u (near .vxr) (near .next) (near .last + 1) covered))
+
+-- the top chain is over, or a lower record
+abbrev pub indexOver : List ℕ → Var → Level → ℕ → Bool → T.Turn
+indexOver f u near last covered = cond (isNone near) (chainOver f u last covered) (lowerOver f u near covered)
+
 abbrev pub vxrTaken : List ℕ → Var → ℕ → Bool → ℕ → T.Turn
 vxrTaken f u floor covered o = takes 0 o (typeNumber f o (pos 6)) (vxrRule f o) (entered f u o 0 floor covered)
+
+-- a link of the top chain, VXRhead or a next, to a VXR; a next of a lower record that is not 0: "a lower record has next 0 (else 11 ..)"
+abbrev pub indexTaken : List ℕ → Var → Level → ℕ → Bool → ℕ → T.Turn
+indexTaken f u near floor covered o = cond (isNone near) (vxrTaken f u floor covered o) (End 11)
 
 -- MaxRec of the VDR v lies in an entry's range
 abbrev pub covers : List ℕ → ℕ → Entry → Bool
@@ -104,12 +122,34 @@ unfoldable pub valuesNumber : List ℕ → Variable → Entry → ℕ
 valuesNumber f v e = first (reachOf f (e .link) 8 ∷ v .fault ∷ vvrRule f (e .link) (e .last - e .first + 1) (v .bytes) ∷ [])
 
 abbrev pub entryRefused : Entry → ℕ → ℕ → T.Turn
-entryRefused e typed late = Take (e .fault) (e .link) typed late Start
+entryRefused e typed late = Take Start (e .fault) (e .link) typed late
 
-abbrev pub entryTurn : List ℕ → Var → ℕ → ℕ → Bool → Entry → T.Turn
-entryTurn f u x i covered e =
+-- an entry that names values
+abbrev pub valuesTurn : List ℕ → Var → ℕ → ℕ → Bool → Entry → T.Turn
+valuesTurn f u x i covered e =
     takes (e .fault) (e .link) (typeNumber f (e .link) (pos 7)) (valuesNumber f (variableOf f (u .kind) (u .vdr)) e)
     (entered f u x (i + 1) (e .last + 1) (covered || covers f (u .vdr) e))
+
+-- the lower record's rule; "a lower record has next 0 (else 11, on its claim)"
+unfoldable pub lowerNumber : List ℕ → ℕ → ℕ
+lowerNumber f o = first (vxrRule f o ∷ unless 11 (isAt f (o + 8) (pos 0)) ∷ [])
+
+-- an entry that names an index record: "deeper is refused with 23, looked for right after the type"; "its entries are taken before the
+-- naming entry's neighbour". Where room, a level more may lie below. An entry whose range or record is refused is a link that is refused
+abbrev pub lowerTurn : List ℕ → Var → ℕ → ℕ → Bool → Bool → Entry → T.Turn
+lowerTurn f u x i covered room e =
+    cond (eqb (e .fault) 0 && eqb (lowerNumber f (e .link)) 0)
+    (Down (entered f u (e .link) 0 (e .first) covered) (e .link) (unless 23 room) (record { vxr = x; next = i + 1; last = e .last }))
+    (entryRefused e (unless 23 room) (lowerNumber f (e .link)))
+
+-- an entry whose own range refuses it, of the variable v: its other numbers count no more
+abbrev pub entryFaulty : List ℕ → Variable → Bool → Entry → T.Turn
+entryFaulty f v room e =
+    cond (indexAt f (e .link)) (entryRefused e (unless 23 room) (lowerNumber f (e .link)))
+    (entryRefused e (typeNumber f (e .link) (pos 7)) (valuesNumber f v e))
+
+abbrev pub entryTurn : List ℕ → Var → ℕ → ℕ → Bool → Bool → Entry → T.Turn
+entryTurn f u x i covered room e = cond (indexAt f (e .link)) (lowerTurn f u x i covered room e) (valuesTurn f u x i covered e)
 
 -- ---- attributes: NumAttr 28; an attribute's g/r entries are counted at 24, its z entries at 40, the maximum behind the count
 unfoldable pub attrNumber : List ℕ → ℕ → ℕ → ℕ
@@ -132,7 +172,7 @@ abbrev pub afterEntries : ℕ → ℕ → ℕ → W.Walk
 afterEntries k a n = cond (eqb k 9) (Attrs (a + 8) (n + 1)) (Entries 9 a n (a + 36) 0 0)
 
 abbrev pub entriesOver : List ℕ → ℕ → ℕ → ℕ → ℕ → ℕ → T.Turn
-entriesOver f k a n e greatest = Over (entriesTally f k a e greatest) (afterEntries k a n)
+entriesOver f k a n e greatest = Over (afterEntries k a n) (entriesTally f k a e greatest)
 
 -- "an entry's Num is its attribute's"; 20 if that one passes the file's end
 unfoldable pub numNumber : List ℕ → ℕ → ℕ → ℕ
@@ -156,13 +196,35 @@ unusedNumber f b o = first (uirRule f o ∷ unless 11 (isAt f (o + 12) (pos b)) 
 abbrev pub unusedTaken : List ℕ → ℕ → ℕ → T.Turn
 unusedTaken f b o = takes 0 o (typeNumber f o (negsuc 0)) (unusedNumber f b o) (Unused (o + 8) o)
 
--- THE WALK, a case for each kind of link
-unfoldable pub turnOf : List ℕ → W.Walk → T.Turn
-turnOf f Start =
-    cond (gdrNamed f) (takes 0 (gdrAt f) (typeNumber f (gdrAt f) (pos 2)) 0 (Vars 3 (gdrAt f + 8) 0 0)) (End 20)
-turnOf f (Vars k p n greatest) = followed f p (varsOver f k n greatest) (varTaken f k n greatest)
-turnOf f (Chain u p x floor covered) = followed f p (chainOver f u x covered) (vxrTaken f u floor covered)
-turnOf f (AtEntry u x i floor covered) = entryTurn f u x i covered (entryOf f x i floor)
-turnOf f (Attrs p n) = followed f p (attrsOver f n) (attrTaken f n)
-turnOf f (Entries k a n p e greatest) = followed f p (entriesOver f k a n e greatest) (entryTaken f k a n e greatest)
-turnOf f (Unused p b) = followed f p (End 0) (unusedTaken f b)
+-- ---- a step at each kind of link
+abbrev pub startTurn : List ℕ → T.Turn
+startTurn f = cond (gdrNamed f) (takes 0 (gdrAt f) (typeNumber f (gdrAt f) (pos 2)) 0 (Vars 3 (gdrAt f + 8) 0 0)) (End 20)
+
+abbrev pub varsTurn : List ℕ → ℕ → ℕ → ℕ → ℕ → T.Turn
+varsTurn f k p n greatest = followed f p (varsOver f k n greatest) (varTaken f k n greatest)
+
+abbrev pub chainTurn : List ℕ → Level → Var → ℕ → ℕ → ℕ → Bool → T.Turn
+chainTurn f near u p x floor covered = followed f p (indexOver f u near x covered) (indexTaken f u near floor covered)
+
+abbrev pub attrsTurn : List ℕ → ℕ → ℕ → T.Turn
+attrsTurn f p n = followed f p (attrsOver f n) (attrTaken f n)
+
+abbrev pub entriesTurn : List ℕ → ℕ → ℕ → ℕ → ℕ → ℕ → ℕ → T.Turn
+entriesTurn f k a n p e greatest = followed f p (entriesOver f k a n e greatest) (entryTaken f k a n e greatest)
+
+abbrev pub unusedTurn : List ℕ → ℕ → ℕ → T.Turn
+unusedTurn f p b = followed f p (End 0) (unusedTaken f b)
+
+-- THE WALK, a case for each kind of link. Of the levels above the record that is walked a step looks at the nearest, near, and at whether
+-- there is room for one more
+unfoldable pub turnBy : List ℕ → Level → Bool → W.Walk → T.Turn
+turnBy f near room Start = startTurn f
+turnBy f near room (Vars k p n greatest) = varsTurn f k p n greatest
+turnBy f near room (Chain u p x floor covered) = chainTurn f near u p x floor covered
+turnBy f near room (AtEntry u x i floor covered) = entryTurn f u x i covered room (entryOf f x i floor (mostOf near))
+turnBy f near room (Attrs p n) = attrsTurn f p n
+turnBy f near room (Entries k a n p e greatest) = entriesTurn f k a n p e greatest
+turnBy f near room (Unused p b) = unusedTurn f p b
+
+abbrev pub turnOf : List ℕ → Levels → W.Walk → T.Turn
+turnOf f up w = turnBy f (up .a) (roomBelow up) w

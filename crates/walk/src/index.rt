@@ -2,10 +2,14 @@
 ghost use mathlib.Core.Path.{_≡_};
 ghost use Prim.Native.Nat.{_+_, _-_, _≤_, _<_};
 ghost use lib.ListN.{length};
+ghost use Rattle.records.specs.Index.{Bounds, entryOf};
 ghost use Rattle.variables.specs.Vdr.{variableOf};
-ghost use Rattle.walk.specs.Walk.{chainTally, chainOver, entered, covers, valuesNumber, vxrTaken, entryRefused, turnOf};
-ghost use Rattle.walk.specs.declared.places.Walk.the-variants.{Chain, Entry as AtEntry};
+ghost use Rattle.walk.specs.Levels.{mostOf};
+ghost use Rattle.walk.specs.Bounds.{SmallLevel};
+ghost use Rattle.walk.specs.Walk.{chainTally, chainOver, entered, lowerOver, indexOver, indexTaken, covers, valuesNumber, vxrTaken, entryRefused, valuesTurn, lowerNumber, lowerTurn, entryFaulty, entryTurn, chainTurn};
+use crate::levels;
 use crate::links;
+use crate::places::Level;
 use crate::places::Link;
 use crate::places::Turn;
 use crate::places::Var;
@@ -87,16 +91,60 @@ fn vxr_taken(f: &[u8], u: Var, floor: u32, covered: bool, o: u32) -> Turn
     }
 }
 
-// A link of an index chain.
-pub fn chain_turn(f: &[u8], u: Var, link: u32, before: u32, floor: u32, covered: bool) -> Turn
-    requires { ⌜ (u .vdr < 2147483648) × (u .place < 2147483648) ⌝ }
-    ensures { λ r. ⌜ r ≡ turnOf (now (f .entry)) (Chain u link before floor covered) ⌝ }
+// A lower record is over: on to the neighbour of the entry that named it.
+fn lower_over(f: &[u8], u: Var, near: Level, covered: bool) -> Turn
+    requires { ⌜ SmallLevel near ⌝ }
+    ensures { λ r. ⌜ r ≡ lowerOver (now (f .entry)) u near covered ⌝ }
+{
+    let x = near.vxr;
+    if fields::end(f) < x as usize + 20 {
+        return Turn::End { number: 20 };
+    }
+    Turn::Up {
+        next: enter(f, u, x, near.next, near.last + 1, covered),
+    }
+}
+
+// The index chain of a variable is over, or a lower record is.
+fn index_over(f: &[u8], u: Var, near: Level, last: u32, covered: bool) -> Turn
+    requires { ⌜ (u .vdr < 2147483648) × (u .place < 2147483648) × SmallLevel near ⌝ }
+    ensures { λ r. ⌜ r ≡ indexOver (now (f .entry)) u near last covered ⌝ }
+{
+    if levels::is_none(near) {
+        return chain_over(f, u, last, covered);
+    }
+    lower_over(f, u, near, covered)
+}
+
+// A next that is not 0: a lower record has none.
+fn index_taken(f: &[u8], u: Var, near: Level, floor: u32, covered: bool, o: u32) -> Turn
+    requires { ⌜ o < 2147483648 ⌝ }
+    ensures { λ r. ⌜ r ≡ indexTaken (now (f .entry)) u near floor covered o ⌝ }
+{
+    if levels::is_none(near) {
+        return vxr_taken(f, u, floor, covered, o);
+    }
+    Turn::End { number: 11 }
+}
+
+// A link of an index chain, or the next of a lower record.
+pub fn chain_turn(
+    f: &[u8],
+    near: Level,
+    u: Var,
+    link: u32,
+    before: u32,
+    floor: u32,
+    covered: bool,
+) -> Turn
+    requires { ⌜ (u .vdr < 2147483648) × (u .place < 2147483648) × SmallLevel near ⌝ }
+    ensures { λ r. ⌜ r ≡ chainTurn (now (f .entry)) near u link before floor covered ⌝ }
 {
     let l = links::link_from(f, link);
     match l {
         Link::Past => Turn::End { number: 20 },
-        Link::Zero => chain_over(f, u, before, covered),
-        Link::To { at } => vxr_taken(f, u, floor, covered, at),
+        Link::Zero => index_over(f, u, near, before, covered),
+        Link::To { at } => index_taken(f, u, near, floor, covered, at),
     }
 }
 
@@ -137,17 +185,13 @@ fn entry_refused(e: Entry, typed: u32, late: u32) -> Turn
     }
 }
 
-// An entry of an index record, of the variable v.
-pub fn entry_turn(f: &[u8], u: Var, v: Variable, x: u32, i: u32, floor: u32, covered: bool) -> Turn
-    requires { ⌜ (v ≡ variableOf (now f) (u .kind) (u .vdr)) × (x < 2147483648) × (i < 2147483648) ⌝ }
-    ensures { λ r. ⌜ r ≡ turnOf (now (f .entry)) (AtEntry u x i floor covered) ⌝ }
+// An entry that names values of the variable v.
+fn entry_values(f: &[u8], u: Var, v: Variable, x: u32, i: u32, covered: bool, e: Entry) -> Turn
+    requires { ⌜ (v ≡ variableOf (now f) (u .kind) (u .vdr)) × (x < 2147483648) × (i < 2147483648) × Bounds (now f) x e × (e .fault ≡ 0) ⌝ }
+    ensures { λ r. ⌜ r ≡ valuesTurn (now (f .entry)) u x i covered e ⌝ }
 {
-    let e = index::entry_at(f, x, i, floor);
     let typed = links::type_number(f, e.link, 7);
     let late = values_number(f, v, e);
-    if e.fault != 0 {
-        return entry_refused(e, typed, late);
-    }
     if late != 0 {
         return entry_refused(e, typed, late);
     }
@@ -159,4 +203,77 @@ pub fn entry_turn(f: &[u8], u: Var, v: Variable, x: u32, i: u32, floor: u32, cov
         late,
         next: enter(f, u, x, i + 1, e.last + 1, reached),
     }
+}
+
+// 10 or 20 by the VXR's rule, then 11 unless a lower record has no next.
+fn lower_number(f: &[u8], o: u32) -> u32
+    ensures { λ r. ⌜ (r ≡ lowerNumber (now (f .entry)) o) × (r ≡ 0 → o + 20 ≤ length (now (f .entry))) ⌝ }
+{
+    let rule = index::vxr(f, o);
+    if rule != 0 {
+        return rule;
+    }
+    links::unless_passed(11, fields::is_nat(f, o as usize + 8, 0))
+}
+
+// An entry that names an index record.
+fn entry_lower(f: &[u8], u: Var, x: u32, i: u32, covered: bool, room: bool, e: Entry) -> Turn
+    requires { ⌜ (x < 2147483648) × (i < 2147483648) × Bounds (now f) x e × (e .fault ≡ 0) ⌝ }
+    ensures { λ r. ⌜ r ≡ lowerTurn (now (f .entry)) u x i covered room e ⌝ }
+{
+    let o = e.link;
+    let after = i + 1;
+    let typed = links::unless_passed(23, room);
+    let late = lower_number(f, o);
+    if late != 0 {
+        return entry_refused(e, typed, late);
+    }
+    Turn::Down {
+        target: o,
+        typed,
+        next: enter(f, u, o, 0, e.first, covered),
+        level: Level {
+            vxr: x,
+            next: after,
+            last: e.last,
+        },
+    }
+}
+
+// An entry whose own range refuses it, of the variable v.
+fn entry_faulty(f: &[u8], v: Variable, room: bool, e: Entry) -> Turn
+    requires { ⌜ (v .bytes ≤ 2147483648) × (e .first ≤ e .last) × (e .last < 2147483648) ⌝ }
+    ensures { λ r. ⌜ r ≡ entryFaulty (now (f .entry)) v room e ⌝ }
+{
+    if index::is_index(f, e.link) {
+        let late = lower_number(f, e.link);
+        return entry_refused(e, links::unless_passed(23, room), late);
+    }
+    let late = values_number(f, v, e);
+    entry_refused(e, links::type_number(f, e.link, 7), late)
+}
+
+// An entry of an index record, of the variable v.
+pub fn entry_turn(
+    f: &[u8],
+    near: Level,
+    room: bool,
+    u: Var,
+    v: Variable,
+    x: u32,
+    i: u32,
+    floor: u32,
+    covered: bool,
+) -> Turn
+    requires { ⌜ (v ≡ variableOf (now f) (u .kind) (u .vdr)) × (x < 2147483648) × (i < 2147483648) ⌝ }
+    ensures { λ r. ⌜ r ≡ entryTurn (now (f .entry)) u x i covered room (entryOf (now (f .entry)) x i floor (mostOf near)) ⌝ }
+{
+    let e = index::entry_at(f, x, i, floor, levels::most_of(near));
+    if e.fault != 0 {
+        return entry_faulty(f, v, room, e);
+    }
+    if index::is_index(f, e.link) {
+        return entry_lower(f, u, x, i, covered, room, e);
+    }
+    entry_values(f, u, v, x, i, covered, e)
 }

@@ -20,7 +20,8 @@ pub enum Walk {
         count: u32,
         greatest: u32,
     },
-    // A link of an index chain: where it stands, the VXR before or 0, the last Last + 1 or 0, MaxRec is covered.
+    // A link of an index chain, or the next of a lower VXR: where it stands, the VXR before or 0, the last Last + 1 or 0, MaxRec is
+    // covered.
     Chain {
         var: Var,
         link: u32,
@@ -28,7 +29,7 @@ pub enum Walk {
         floor: u32,
         covered: bool,
     },
-    // An entry of an index record.
+    // An entry of an index record, of the top chain or a lower one.
     Entry {
         var: Var,
         vxr: u32,
@@ -58,6 +59,25 @@ pub enum Walk {
     },
 }
 
+// An index record one of whose entries led down: the record, the entry after that one, that one's Last. All are 0 where there is none;
+// the entry after one is never 0.
+pub struct Level {
+    pub vxr: u32,
+    pub next: u32,
+    pub last: u32,
+}
+
+// The index records above the one that is walked, the nearest first.
+pub struct Levels {
+    pub a: Level,
+    pub b: Level,
+    pub c: Level,
+    pub d: Level,
+    pub e: Level,
+    pub f: Level,
+    pub g: Level,
+}
+
 // Where a link leads.
 pub enum Link {
     // The file ends before it.
@@ -68,24 +88,36 @@ pub enum Link {
     To { at: u32 },
 }
 
-// What a step of the walk finds, whatever the marks say. Numbers are refusals, 0 for none.
+// What a step of the walk finds, whatever the marks say. Numbers are refusals, 0 for none. Where the walk goes on comes first in each case.
 pub enum Turn {
-    // A zero link that ends a list: the number, and where the walk goes on.
+    // A zero link that ends a list: where the walk goes on, and the number.
     Over {
-        number: u32,
         next: Walk,
+        number: u32,
     },
-    // The end of the walk, or a link that cannot be read.
+    // The end of the walk, or a link that leads nowhere: one that cannot be read, or a next of a lower index record.
     End {
         number: u32,
     },
-    // A link to a record: the number before its place is looked at, the record, the number of its type, the number of its
-    // rule and its place in the list, and where the walk goes on.
+    // A link to a record: where the walk goes on, the number before its place is looked at, the record, the number of its type, the
+    // number of its rule and its place in the list.
     Take {
+        next: Walk,
         early: u32,
         target: u32,
         typed: u32,
         late: u32,
+    },
+    // A link to a lower index record that keeps its rule: where the walk goes on, the record, the number of its depth, and the level
+    // that it goes down from.
+    Down {
+        next: Walk,
+        target: u32,
+        typed: u32,
+        level: Level,
+    },
+    // The zero link of a lower index record: where the walk goes on, one level up.
+    Up {
         next: Walk,
     },
 }

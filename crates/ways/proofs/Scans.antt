@@ -24,26 +24,26 @@ covering-fits f x r e b c =
       link = b .link;
     }
 
-module _ (f : List ℕ) (x r i floor : ℕ) (e : Entry) (is : e ≡ entryOf f x i floor) where
+module _ (f : List ℕ) (x r most i floor : ℕ) (e : Entry) (is : e ≡ entryOf f x i floor most) where
   -- one entry looked at, n more to come
   abbrev looked : ℕ → Entry → Scan
-  looked n d = cond (eqb (d .fault) 0) (cond (entryCovers d r) (Covering d) (scanned f x r n (suc i) (suc (d .last)))) Broken
+  looked n d = cond (eqb (d .fault) 0) (cond (entryCovers d r) (Covering d) (scanned f x r most n (suc i) (suc (d .last)))) Broken
 
-  first-looked : (n : ℕ) → scanned f x r (suc n) i floor ≡ looked n e
+  first-looked : (n : ℕ) → scanned f x r most (suc n) i floor ≡ looked n e
   unfolding scanned
   first-looked n = ap (looked n) (sym is)
 
-  pub scan-broken : (n : ℕ) → 0 < n → (e .fault ≡ 0 → ⊥) → Broken ≡ scanned f x r n i floor
+  pub scan-broken : (n : ℕ) → 0 < n → (e .fault ≡ 0 → ⊥) → Broken ≡ scanned f x r most n i floor
   scan-broken zero h z = absurd (omega arith)
   scan-broken (suc n) h z = rw (first-looked n, ne-eqb (e .fault) 0 z)
 
-  pub scan-covering : (n : ℕ) → 0 < n → e .fault ≡ 0 → entryCovers e r ≡ true → Covering e ≡ scanned f x r n i floor
+  pub scan-covering : (n : ℕ) → 0 < n → e .fault ≡ 0 → entryCovers e r ≡ true → Covering e ≡ scanned f x r most n i floor
   scan-covering zero h z c = absurd (omega arith)
   scan-covering (suc n) h z c = rw (first-looked n, eq-eqb (e .fault) 0 z, c)
 
-  pub scan-more : (n k : ℕ) → n ≡ suc k → e .fault ≡ 0 → entryCovers e r ≡ false → scanned f x r n i floor ≡ scanned f x r k (i + 1) (e .last + 1)
+  pub scan-more : (n k : ℕ) → n ≡ suc k → e .fault ≡ 0 → entryCovers e r ≡ false → scanned f x r most n i floor ≡ scanned f x r most k (i + 1) (e .last + 1)
   scan-more n k h z c = rw (h, first-looked k, eq-eqb (e .fault) 0 z, c, add-one, add-one)
 
-pub scan-none : (f : List ℕ) (x r i floor n : ℕ) → n ≡ 0 → Passed floor ≡ scanned f x r n i floor
+pub scan-none : (f : List ℕ) (x r most i floor n : ℕ) → n ≡ 0 → Passed floor ≡ scanned f x r most n i floor
 unfolding scanned
-scan-none f x r i floor n h = rw h
+scan-none f x r most i floor n h = rw h

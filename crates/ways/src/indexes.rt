@@ -3,7 +3,8 @@ ghost use mathlib.Core.Path.{_≡_};
 ghost use mathlib.Core.Bool.{true};
 ghost use Prim.Native.Nat.{_+_, _-_, _*_, _≤_, _<_};
 ghost use lib.ListN.{length};
-ghost use Rattle.ways.specs.Indexes.{lookedUp, entryCovers, EntryFits, ScanFits, IndexFits, ValuesFits, scanned, indexMet, indexed, lastIndex, valuesMet, recordPlace, valuesOf, recordWay};
+ghost use Rattle.ways.specs.Indexes.{lookedUp, entryCovers, EntryFits, ScanFits, IndexFits, ValuesFits, scanned, indexMet, lowerMet, lowered, lowestOf, indexed, lastIndex, valuesMet, recordPlace, valuesOf, recordWay, levelsTold, levelsOf, levelsWay, LevelsFit};
+ghost use Rattle.records.specs.Tree.{levelsBelow};
 use crate::lists;
 use format::fields;
 use records::index;
@@ -26,6 +27,12 @@ pub enum Index {
 pub enum Values {
     Record(u64),
     Refused(u8),
+}
+
+// How many levels an index has on the way to a record, or a refusal.
+pub enum Levels {
+    Are(u32),
+    Unknown(u8),
 }
 
 // The record that a number reads, if there is one: 0 where record variance is clear.
@@ -63,15 +70,15 @@ fn covers(e: Entry, r: u32) -> bool
     (e.first <= r) & (r <= e.last)
 }
 
-// The used entries of the VXR at an offset, to the one that covers a record.
-fn scan_entries(f: &[u8], x: u32, r: u32, used: u32, floor: u32) -> Scan
+// The used entries of the VXR at an offset, to the one that covers a record; none may end above most.
+fn scan_entries(f: &[u8], x: u32, r: u32, most: u32, used: u32, floor: u32) -> Scan
     requires { ⌜ floor ≤ 2147483648 ⌝ }
-    ensures { λ q. ⌜ (q ≡ scanned (now (f .entry)) x r used 0 floor) × ScanFits r q ⌝ }
+    ensures { λ q. ⌜ (q ≡ scanned (now (f .entry)) x r most used 0 floor) × ScanFits r q ⌝ }
 {
     let mut i: u32 = 0;
     let mut lowest = floor;
     while i < used {
-        let e = index::entry_at(f, x, i, lowest);
+        let e = index::entry_at(f, x, i, lowest, most);
         if e.fault != 0 {
             return Scan::Broken;
         }
@@ -122,7 +129,8 @@ pub fn seek_record(f: &[u8], r: u32, link: usize, allowed: u32) -> Index
             return Index::Halted { number: 20 };
         }
         left -= 1;
-        let s = scan_entries(f, x, r, fields::nat_at(f, x as usize + 16), floor);
+        let used = fields::nat_at(f, x as usize + 16);
+        let s = scan_entries(f, x, r, 2147483647, used, floor);
         match s {
             Scan::Covering(entry) => return Index::Covered { entry, left },
             Scan::Passed(upper) => {
@@ -133,6 +141,53 @@ pub fn seek_record(f: &[u8], r: u32, link: usize, allowed: u32) -> Index
         }
     }
     last_index(f, p)
+}
+
+// The lower VXR at an offset can be met: it has no next.
+fn lower_met(f: &[u8], x: u32) -> bool
+    ensures { λ r. ⌜ (r ≡ lowerMet (now (f .entry)) x) × (r ≡ true → x + 20 ≤ length (now (f .entry))) ⌝ }
+{
+    if !index_met(f, x) {
+        return false;
+    }
+    fields::link_at(f, x as usize + 8) == 0
+}
+
+// From the entry that covers a record down to the lowest one, with so many levels left and where so many records may be met.
+fn go_down(f: &[u8], r: u32, e: Entry, left: u32, levels: u32) -> Index
+    requires { ⌜ EntryFits r e ⌝ }
+    ensures { λ q. ⌜ (q ≡ lowered levels (now (f .entry)) r e left) × IndexFits r q ⌝ }
+{
+    let x = e.link;
+    if !index::is_index(f, x) {
+        return Index::Covered { entry: e, left };
+    }
+    if levels == 0 {
+        return Index::Halted { number: 20 };
+    }
+    if left == 0 {
+        return Index::Halted { number: 20 };
+    }
+    if !lower_met(f, x) {
+        return Index::Halted { number: 20 };
+    }
+    let s = scan_entries(f, x, r, e.last, fields::nat_at(f, x as usize + 16), e.first);
+    match s {
+        Scan::Covering(d) => go_down(f, r, d, left - 1, levels - 1),
+        Scan::Passed(_) => Index::Halted { number: 17 },
+        Scan::Broken => Index::Halted { number: 20 },
+    }
+}
+
+// The lowest entry that covers a record, from where its top chain ends.
+fn lowest(f: &[u8], r: u32, i: Index) -> Index
+    requires { ⌜ IndexFits r i ⌝ }
+    ensures { λ q. ⌜ (q ≡ lowestOf (now (f .entry)) r i) × IndexFits r q ⌝ }
+{
+    match i {
+        Index::Covered { entry, left } => go_down(f, r, entry, left, 7),
+        Index::Halted { number } => Index::Halted { number },
+    }
 }
 
 // The VVR that an entry names can be met.
@@ -182,7 +237,52 @@ pub fn to_record(f: &[u8], v: u32, bytes: u32, r: i64, left: u32) -> Values
 {
     let n = looked_up(f, v, r);
     match n {
-        Looked::At(k) => values_of(f, k, bytes, seek_record(f, k, v as usize + 20, left)),
+        Looked::At(k) => {
+            let i = seek_record(f, k, v as usize + 20, left);
+            values_of(f, k, bytes, lowest(f, k, i))
+        }
         Looked::Missing => Values::Refused(16),
+    }
+}
+
+// How many levels lie from the top chain's entry that covers a record down to the lowest one, where so many records may be met: each level
+// below the first takes one of them.
+fn levels_from(f: &[u8], r: u32, e: Entry, left: u32) -> Levels
+    requires { ⌜ EntryFits r e ⌝ }
+    ensures { λ q. ⌜ (q ≡ levelsTold (now (f .entry)) r e (lowered levelsBelow (now (f .entry)) r e left)) × LevelsFit q ⌝ }
+{
+    let i = go_down(f, r, e, left, 7);
+    match i {
+        Index::Covered {
+            entry: _,
+            left: after,
+        } => Levels::Are(left - after + 1),
+        Index::Halted { number } => Levels::Unknown(number),
+    }
+}
+
+// The levels below where the top chain of a record ends.
+fn levels_of(f: &[u8], r: u32, i: Index) -> Levels
+    requires { ⌜ IndexFits r i ⌝ }
+    ensures { λ q. ⌜ (q ≡ levelsOf (now (f .entry)) r i) × LevelsFit q ⌝ }
+{
+    match i {
+        Index::Covered { entry, left } => levels_from(f, r, entry, left),
+        Index::Halted { number } => Levels::Unknown(number),
+    }
+}
+
+// How many levels the index of the variable whose VDR is at an offset has on the way to a record, where so many records may be met.
+pub fn to_levels(f: &[u8], v: u32, r: i64, left: u32) -> Levels
+    requires { ⌜ v + 48 ≤ length (now f) ⌝ }
+    ensures { λ q. ⌜ (q ≡ levelsWay (now (f .entry)) v r left) × LevelsFit q ⌝ }
+{
+    let n = looked_up(f, v, r);
+    match n {
+        Looked::At(k) => {
+            let i = seek_record(f, k, v as usize + 20, left);
+            levels_of(f, k, i)
+        }
+        Looked::Missing => Levels::Unknown(16),
     }
 }

@@ -30,7 +30,7 @@ fn used_entries(f: &mut [u8]) {
 
 // Entry i, counted from 0, whose range begins at floor or above; answers where the next may begin.
 fn entry(f: &[u8], i: u32, floor: u32) -> u32 {
-    let e = index::entry_at(f, 0, i, floor);
+    let e = index::entry_at(f, 0, i, floor, 2147483647);
     io::write_all(1, b"VXR entry ");
     io::print_decimal(1, i as u64 + 1);
     if e.fault != 0 {

@@ -5,7 +5,7 @@ pub mod random;
 pub mod records;
 
 use crate::second::tables::{DataType, Encoding};
-use model::{Attribute, Entry, File, Index, Variable};
+use model::{Attribute, Entry, File, Index, IndexEntry, Variable};
 use random::Random;
 use records::{Made, Records};
 
@@ -23,6 +23,18 @@ pub fn shuffled(file: &File, random: &mut Random) -> Vec<u8> {
 pub fn any(seed: u64) -> (File, Vec<u8>) {
     let mut random = Random::seeded(seed);
     let file = File::any(&mut random);
+    let bytes = shuffled(&file, &mut random);
+    (file, bytes)
+}
+
+/// Any file with a zVariable whose index has so many levels: good, if there are no more than eight.
+pub fn with_levels(seed: u64, levels: usize) -> (File, Vec<u8>) {
+    let mut random = Random::seeded(seed);
+    let mut file = File::any(&mut random);
+    let mut variable = Variable::any(&mut random, vec![2]);
+    variable.index(&mut random, levels);
+    let place = random.place(file.z_variables.len() + 1);
+    file.z_variables.insert(place, variable);
     let bytes = shuffled(&file, &mut random);
     (file, bytes)
 }
@@ -114,7 +126,7 @@ fn add_variable(
     vdr
 }
 
-/// A VXR and its VVRs; the fields of spare entries are not read.
+/// A VXR and what its entries name; the fields of spare entries are not read.
 fn add_index(
     records: &mut Records,
     index: &Index,
@@ -125,13 +137,29 @@ fn add_index(
     let entries = used + usize::try_from(index.spare).unwrap_or(0);
     let vxr = records.record(6, 20 + 12 * entries, &[]);
     records.set(vxr, &[(12, count(&index.entries) + index.spare), (16, count(&index.entries))]);
-    for (place, values) in index.entries.iter().enumerate() {
-        let bytes = elements(&values.records.concat(), data_type, encoding);
-        let vvr = records.record(7, 8, &bytes);
+    for (place, entry) in index.entries.iter().enumerate() {
+        let named = match entry {
+            IndexEntry::Values(values) => {
+                records.record(7, 8, &elements(&values.records.concat(), data_type, encoding))
+            }
+            IndexEntry::Lower(lower) => add_lower(records, &lower.index, data_type, encoding),
+        };
         let at = 20 + 4 * place;
-        records.set(vxr, &[(at, values.first), (at + 4 * entries, values.last())]);
-        records.link(vxr, at + 8 * entries, Some(vvr));
+        records.set(vxr, &[(at, entry.first()), (at + 4 * entries, entry.last())]);
+        records.link(vxr, at + 8 * entries, Some(named));
     }
+    vxr
+}
+
+/// A lower VXR: there is none behind it.
+fn add_lower(
+    records: &mut Records,
+    index: &Index,
+    data_type: DataType,
+    encoding: Encoding,
+) -> Made {
+    let vxr = add_index(records, index, data_type, encoding);
+    records.link(vxr, 8, None);
     vxr
 }
 

@@ -51,16 +51,36 @@ pub struct Variable {
     pub chain: Vec<Index>,
 }
 
-/// A VXR.
+/// A VXR, of the top chain or a lower one.
 #[derive(Clone, Debug, Default)]
 pub struct Index {
     /// Used entries.
-    pub entries: Vec<Values>,
+    pub entries: Vec<IndexEntry>,
     /// Entries not in use.
     pub spare: i64,
 }
 
-/// A used index entry and its VVR.
+/// A used index entry.
+#[derive(Clone, Debug)]
+pub enum IndexEntry {
+    /// It names values.
+    Values(Values),
+    /// It names a lower VXR.
+    Lower(Lower),
+}
+
+/// A range of record numbers and the lower VXR that its entry names.
+#[derive(Clone, Debug)]
+pub struct Lower {
+    /// First record number.
+    pub first: i64,
+    /// Last record number.
+    pub last: i64,
+    /// The lower VXR, whose ranges lie in this one.
+    pub index: Index,
+}
+
+/// The values that a used index entry names: its range and its VVR.
 #[derive(Clone, Debug)]
 pub struct Values {
     /// First record number.
@@ -73,6 +93,84 @@ impl Values {
     /// Last record number.
     pub fn last(&self) -> i64 {
         self.first + i64::try_from(self.records.len()).unwrap_or(0) - 1
+    }
+}
+
+impl IndexEntry {
+    /// First record number.
+    pub fn first(&self) -> i64 {
+        match self {
+            IndexEntry::Values(values) => values.first,
+            IndexEntry::Lower(lower) => lower.first,
+        }
+    }
+
+    /// Last record number.
+    pub fn last(&self) -> i64 {
+        match self {
+            IndexEntry::Values(values) => values.last(),
+            IndexEntry::Lower(lower) => lower.last,
+        }
+    }
+
+    /// All values that it names, itself or below.
+    fn values(&self) -> Vec<&Values> {
+        match self {
+            IndexEntry::Values(values) => vec![values],
+            IndexEntry::Lower(lower) => lower.index.values(),
+        }
+    }
+}
+
+impl Index {
+    /// The VXR whose entries name these values, without spare entries.
+    pub fn of(values: Vec<Values>) -> Index {
+        Index { entries: values.into_iter().map(IndexEntry::Values).collect(), spare: 0 }
+    }
+
+    /// A VXR of one entry that names this one, its range being just that of the entries below; 0 to 0 if there are none.
+    pub fn above(index: Index) -> Index {
+        let first = index.entries.first().map_or(0, IndexEntry::first);
+        let last = index.entries.last().map_or(0, IndexEntry::last);
+        Index { entries: vec![IndexEntry::Lower(Lower { first, last, index })], spare: 0 }
+    }
+
+    /// An index of so many levels, 1 or more: one entry a level, and these values in the lowest.
+    pub fn of_levels(values: Vec<Values>, levels: usize) -> Index {
+        (1..levels).fold(Index::of(values), |index, _| Index::above(index))
+    }
+
+    /// The lower VXRs that its entries name.
+    pub fn lower(&self) -> impl Iterator<Item = &Lower> {
+        self.entries.iter().filter_map(|entry| match entry {
+            IndexEntry::Lower(lower) => Some(lower),
+            IndexEntry::Values(_) => None,
+        })
+    }
+
+    /// This VXR and all below it.
+    pub fn all(&self) -> Vec<&Index> {
+        let below = self.lower().flat_map(|lower| lower.index.all());
+        std::iter::once(self).chain(below).collect()
+    }
+
+    /// All values that it or a VXR below names, in order.
+    pub fn values(&self) -> Vec<&Values> {
+        self.entries.iter().flat_map(IndexEntry::values).collect()
+    }
+
+    /// How many levels it has, itself included.
+    pub fn levels(&self) -> usize {
+        1 + self.lower().map(|lower| lower.index.levels()).max().unwrap_or(0)
+    }
+
+    /// The level at which a record's values are named, this VXR being the first; nothing if they are not.
+    pub fn level_of(&self, record: i64) -> Option<i64> {
+        let covers = |entry: &&IndexEntry| (entry.first()..=entry.last()).contains(&record);
+        match self.entries.iter().find(covers)? {
+            IndexEntry::Values(_) => Some(1),
+            IndexEntry::Lower(lower) => lower.index.level_of(record).map(|below| below + 1),
+        }
     }
 }
 
@@ -232,9 +330,20 @@ impl Variable {
             let elements = 0..variable.elements;
             variable.pad = Some(elements.map(|_| any_bits(random, variable.data_type)).collect());
         }
-        variable.chain = variable.any_chain(random);
-        variable.max_rec = variable.any_max_rec(random);
+        let levels = any_levels(random);
+        variable.index(random, levels);
         variable
+    }
+
+    /// Gives the variable any index of so many levels, and a MaxRec for it.
+    pub fn index(&mut self, random: &mut Random, levels: usize) {
+        self.chain = self.any_chain(random, levels);
+        self.max_rec = self.any_max_rec(random);
+    }
+
+    /// All values of its index, in order.
+    pub fn values(&self) -> Vec<&Values> {
+        self.chain.iter().flat_map(Index::values).collect()
     }
 
     /// Elements of one record: of a value, times the sizes of varying dimensions.
@@ -243,26 +352,51 @@ impl Variable {
         varying.fold(self.elements, |all, (size, _)| all.saturating_mul(*size))
     }
 
-    /// Any chain: several VXRs, some without used entries, with gaps and spare entries.
-    fn any_chain(&self, random: &mut Random) -> Vec<Index> {
+    /// Any chain: several VXRs, some without used entries, with gaps and spare entries; one of them with so many levels.
+    fn any_chain(&self, random: &mut Random, levels: usize) -> Vec<Index> {
         let mut free = 0;
-        let count = random.below(4);
+        let count = if levels > 1 { random.between(1, 3) } else { random.below(4) };
+        let deepest = random.below(count);
         let mut chain = Vec::new();
-        for _ in 0..count {
-            let mut index = Index { entries: Vec::new(), spare: random.below(3) };
-            for _ in 0..random.below(4) {
-                let gap = if random.once_in(3) { random.below(4) } else { 0 };
-                let records = random.between(1, 4);
-                index.entries.push(self.any_values(random, free + gap, records));
-                free += gap + records;
-            }
-            chain.push(index);
+        for place in 0..count {
+            let levels = if place == deepest { levels } else { 1 };
+            chain.push(self.any_index(random, &mut free, levels));
         }
         if random.once_in(12) {
-            let last = self.any_values(random, GREATEST - 1, 2);
-            chain.push(Index { entries: vec![last], spare: 0 });
+            let last = Index::of(vec![self.any_values(random, GREATEST - 1, 2)]);
+            chain.push(if random.once_in(3) { Index::above(last) } else { last });
         }
         chain
+    }
+
+    /// Any VXR of so many levels, from a free record number on, which is moved behind it.
+    fn any_index(&self, random: &mut Random, free: &mut i64, levels: usize) -> Index {
+        let mut index = Index { entries: Vec::new(), spare: random.below(3) };
+        let count = if levels > 1 { random.between(1, 3) } else { random.below(4) };
+        let deepest = random.below(count);
+        for place in 0..count {
+            *free += any_gap(random);
+            let down = levels > 1 && (place == deepest || random.once_in(4));
+            if down {
+                let below = if place == deepest { levels - 1 } else { 1 };
+                index.entries.push(IndexEntry::Lower(self.any_lower(random, free, below)));
+            } else {
+                let records = random.between(1, 4);
+                index.entries.push(IndexEntry::Values(self.any_values(random, *free, records)));
+                *free += records;
+            }
+        }
+        index
+    }
+
+    /// Any lower VXR of so many levels and a range around it, often a wider one.
+    fn any_lower(&self, random: &mut Random, free: &mut i64, levels: usize) -> Lower {
+        let first = *free;
+        *free += any_gap(random);
+        let index = self.any_index(random, free, levels);
+        *free += any_gap(random);
+        *free = (*free).max(first + 1);
+        Lower { first, last: *free - 1, index }
     }
 
     /// Any records from `first` on.
@@ -274,7 +408,7 @@ impl Variable {
 
     /// A record number that an entry covers, often the last one; or -1.
     fn any_max_rec(&self, random: &mut Random) -> i64 {
-        let entries: Vec<&Values> = self.chain.iter().flat_map(|index| &index.entries).collect();
+        let entries = self.values();
         let Some(last) = entries.last() else {
             return -1;
         };
@@ -308,13 +442,34 @@ impl Variable {
     /// The bits at a record, tuple of indices and element; nothing if no entry covers the record.
     pub fn bits(&self, row: bool, record: i64, indices: &[i64], element: usize) -> Option<u64> {
         let covers = |values: &&Values| (values.first..=values.last()).contains(&record);
-        let values = self.chain.iter().flat_map(|index| &index.entries).find(covers)?;
+        let all = self.values();
+        let values = all.into_iter().find(covers)?;
         let moving = indices.iter().zip(&self.variances).filter(|(_, varies)| **varies);
         let wanted: Vec<i64> = moving.map(|(index, _)| *index).collect();
         let place = self.stored_tuples(row).iter().position(|tuple| *tuple == wanted)?;
         let elements = usize::try_from(self.elements).ok()?;
         let stored = values.records.get(usize::try_from(record - values.first).ok()?)?;
         stored.get(place * elements + element).copied()
+    }
+}
+
+/// How many levels an index has: mostly one, now and then any number up to eight.
+fn any_levels(random: &mut Random) -> usize {
+    match random.below(10) {
+        0..=5 => 1,
+        6 => 2,
+        7 => 3,
+        8 => usize::try_from(random.between(4, 7)).unwrap_or(4),
+        _ => 8,
+    }
+}
+
+/// Record numbers that are left out: mostly none.
+fn any_gap(random: &mut Random) -> i64 {
+    if random.once_in(3) {
+        random.below(4)
+    } else {
+        0
     }
 }
 

@@ -19,6 +19,9 @@ pub const BAD_STATE: i32 = 20;
 /// The file length differs from the one noted at opening, or the marks are now shorter than it.
 pub const OTHER_FILE: i32 = 21;
 
+/// An index has more than eight levels.
+pub const TOO_DEEP: i32 = 23;
+
 const FIRST_RECORD: i64 = 8;
 
 /// How a step finishes the check.

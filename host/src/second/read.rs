@@ -157,6 +157,13 @@ pub fn record_offset(file: &[u8], kind: i64, number: i64, record: i64) -> Result
     way.record(&variable, record)
 }
 
+/// How many levels a variable's index has on the way to a record, 1 to 8.
+pub fn levels(file: &[u8], kind: i64, number: i64, record: i64) -> Result<i64, u32> {
+    let mut way = Way::open(file)?;
+    let (_, variable) = way.variable(kind, number)?;
+    way.levels(&variable, record)
+}
+
 /// An attribute's ADR.
 pub fn attribute(file: &[u8], number: i64) -> Result<Attribute, u32> {
     Way::open(file)?.attribute(number)

@@ -325,8 +325,24 @@ pub(crate) struct IndexEntry {
     pub first: i64,
     /// Last record number.
     pub last: i64,
-    /// File offset of the VVR.
-    pub values: i64,
+    /// File offset of the record it names: a VVR, or a lower VXR.
+    pub offset: i64,
+}
+
+/// What the range of an entry is held to.
+#[derive(Clone, Copy, Debug, PartialEq, Eq)]
+pub(crate) struct Bounds {
+    /// The least that First may be.
+    pub floor: i64,
+    /// The greatest that Last may be, in a lower record: the Last of the entry that names it.
+    pub ceiling: Option<i64>,
+}
+
+impl Bounds {
+    /// The bounds of the entry behind one that ends here.
+    pub fn behind(self, last: i64) -> Bounds {
+        Bounds { floor: last + 1, ..self }
+    }
 }
 
 impl IndexEntry {
@@ -344,20 +360,20 @@ impl Index {
         Some(Index { offset, entries, used })
     }
 
-    /// The entry of this number: First at least 0 and at least the floor, Last at least First; then its offset. A negative
-    /// number of entries gives the places that none gives.
-    pub fn entry(&self, file: &[u8], number: i64, floor: i64) -> Result<IndexEntry, Breach> {
+    /// The entry of this number: First at least 0 and at least the floor, Last at least First and at most the ceiling;
+    /// then its offset. A negative number of entries gives the places that none gives.
+    pub fn entry(&self, file: &[u8], number: i64, within: Bounds) -> Result<IndexEntry, Breach> {
         let entries = self.entries.max(0);
         let at = |column: i64| self.offset + 20 + 4 * (column * entries + number);
         let first = needed(file, at(0), "First")?;
-        if first < 0 || first < floor {
+        if first < 0 || first < within.floor {
             return Err(Breach::Ranges);
         }
         let last = needed(file, at(1), "Last")?;
-        if last < first {
+        if last < first || within.ceiling.is_some_and(|ceiling| last > ceiling) {
             return Err(Breach::Ranges);
         }
-        Ok(IndexEntry { first, last, values: needed(file, at(2), "Offset")? })
+        Ok(IndexEntry { first, last, offset: needed(file, at(2), "Offset")? })
     }
 }
 
@@ -367,6 +383,11 @@ pub(crate) fn index(vxr: &Record) -> Result<Index, Breach> {
     let (entries, used) = (vxr.field(12)?, vxr.field(16)?);
     demand((0..=entries).contains(&used) && vxr.size == 20 + 12 * entries)?;
     Ok(Index { offset: vxr.offset, entries, used })
+}
+
+/// A lower VXR's next, which must be 0.
+pub(crate) fn next_index(vxr: &Record) -> Result<i64, Breach> {
+    vxr.field(8)
 }
 
 /// The VVR's rule, for the index entry that names it.

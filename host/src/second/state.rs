@@ -1,7 +1,14 @@
-//! The saved state of a check: 12 numbers, with the names, phases and ranges of docs/STATE.md.
+//! The saved state of a check: 33 numbers, with the names, phases and ranges of docs/STATE.md.
 
 /// How many numbers a saved state has.
-pub const STATE_LENGTH: usize = 12;
+pub const STATE_LENGTH: usize = 33;
+
+/// Where the levels begin in a state, and how many numbers each has.
+pub const FIRST_LEVEL: usize = 12;
+/// The numbers of a level: record, next, last.
+pub const LEVEL_LENGTH: usize = 3;
+/// How many index records there may be above the one that is walked.
+pub const MOST_LEVELS: usize = 7;
 
 /// A saved state of the right length.
 pub type State = [u32; STATE_LENGTH];
@@ -31,7 +38,7 @@ pub fn finished(verdict: i32) -> State {
 /// The verdict of a finished state; number 0 alone says it.
 pub fn verdict(state: &State) -> Option<i32> {
     match state[0] {
-        1..=15 | 21 => i32::try_from(state[0] - 1).ok(),
+        1..=15 | 21 | 24 => i32::try_from(state[0] - 1).ok(),
         _ => None,
     }
 }
@@ -62,6 +69,30 @@ pub fn greatest(phase: u32) -> [u32; 8] {
     }
 }
 
+/// How many levels there may be in a phase.
+pub fn most_levels(phase: u32) -> usize {
+    match phase {
+        4 | 5 => MOST_LEVELS,
+        _ => 0,
+    }
+}
+
+/// The least and the greatest of each number of a level that is there: record, next, last.
+pub const LEVEL_RANGES: [(u32, u32); LEVEL_LENGTH] =
+    [(0, GREATEST_OFFSET), (1, GREATEST_COUNT), (0, GREATEST_OFFSET)];
+
+/// How many levels a state has, by their `next`; nothing if a number of a level is out of its range, or if there is a
+/// level below one that is not there.
+pub fn level_count(state: &State) -> Option<usize> {
+    let levels = state[FIRST_LEVEL..].chunks_exact(LEVEL_LENGTH);
+    let count = levels.clone().take_while(|level| level[1] != 0).count();
+    let within = |(number, (least, most)): (&u32, (u32, u32))| (least..=most).contains(number);
+    let right = |level: &[u32]| level.iter().zip(LEVEL_RANGES).all(within);
+    let absent = |level: &[u32]| level.iter().all(|number| *number == 0);
+    let in_range = levels.clone().take(count).all(right) && levels.skip(count).all(absent);
+    in_range.then_some(count)
+}
+
 /// Every number of a state that is not finished is in its range.
 pub fn is_in_range(state: &State) -> bool {
     let [verdict, length, phase, kind, link, ..] = *state;
@@ -71,7 +102,8 @@ pub fn is_in_range(state: &State) -> bool {
     };
     let rest = state.iter().skip(4).zip(greatest(phase)).all(|(number, most)| *number <= most);
     let swept = phase != 1 || link >= FIRST_RECORD;
-    verdict == 0 && phase <= 8 && noted && kinds(phase).contains(&kind) && rest && swept
+    let levels = level_count(state).is_some_and(|count| count <= most_levels(phase));
+    verdict == 0 && phase <= 8 && noted && kinds(phase).contains(&kind) && rest && swept && levels
 }
 
 /// What the next step does.
@@ -88,7 +120,7 @@ pub(super) enum Link {
     Gdr = 2,
     Variable = 3,
     Index = 4,
-    Values = 5,
+    IndexEntry = 5,
     Attribute = 6,
     Entry = 7,
     Unused = 8,
@@ -102,7 +134,7 @@ impl Phase {
             2 => Phase::Walk(Link::Gdr),
             3 => Phase::Walk(Link::Variable),
             4 => Phase::Walk(Link::Index),
-            5 => Phase::Walk(Link::Values),
+            5 => Phase::Walk(Link::IndexEntry),
             6 => Phase::Walk(Link::Attribute),
             7 => Phase::Walk(Link::Entry),
             8 => Phase::Walk(Link::Unused),
@@ -116,6 +148,66 @@ impl Phase {
             Phase::Sweep => 1,
             Phase::Walk(link) => link as i64,
         }
+    }
+}
+
+/// A level: an index record one of whose entries led down.
+#[derive(Clone, Copy, Debug, PartialEq, Eq)]
+pub(super) struct Level {
+    /// File offset of the VXR.
+    pub record: i64,
+    /// The number of the entry after the one that led down.
+    pub next: i64,
+    /// The Last of the one that led down.
+    pub last: i64,
+}
+
+/// The levels above the record that is walked, the nearest first.
+#[derive(Clone, Copy, Debug, Default, PartialEq, Eq)]
+pub(super) struct Levels([Option<Level>; MOST_LEVELS]);
+
+impl Levels {
+    /// The levels that a state says.
+    fn load(state: &State) -> Levels {
+        let mut levels = Levels::default();
+        let numbers = state[FIRST_LEVEL..].chunks_exact(LEVEL_LENGTH);
+        for (place, level) in levels.0.iter_mut().zip(numbers) {
+            let [record, next, last] = [level[0], level[1], level[2]].map(i64::from);
+            *place = (next != 0).then_some(Level { record, next, last });
+        }
+        levels
+    }
+
+    /// Their numbers, 0 where there is no level.
+    fn numbers(&self) -> impl Iterator<Item = i64> + '_ {
+        let of = |level: &Option<Level>| level.map_or([0; 3], |of| [of.record, of.next, of.last]);
+        self.0.iter().flat_map(of)
+    }
+
+    /// The nearest level, if the record that is walked is a lower one.
+    pub fn nearest(&self) -> Option<Level> {
+        self.0[0]
+    }
+
+    /// No level more may be led down from: the record that is walked is of the eighth level.
+    pub fn are_all(&self) -> bool {
+        self.0.iter().all(Option::is_some)
+    }
+
+    /// One level more, which becomes the nearest.
+    pub fn with(&self, nearest: Level) -> Levels {
+        let mut levels = *self;
+        levels.0.rotate_right(1);
+        levels.0[0] = Some(nearest);
+        levels
+    }
+
+    /// All but the nearest.
+    pub fn without_nearest(&self) -> Levels {
+        let mut levels = *self;
+        levels.0[0] = None;
+        levels.0.rotate_left(1);
+        levels
     }
 }
 
@@ -133,6 +225,7 @@ pub(super) struct Point {
     pub entry: i64,
     pub floor: i64,
     pub covered: bool,
+    pub levels: Levels,
 }
 
 impl Point {
@@ -150,6 +243,7 @@ impl Point {
             entry: 0,
             floor: 0,
             covered: false,
+            levels: Levels::default(),
         }
     }
 
@@ -168,12 +262,13 @@ impl Point {
             entry: i64::from(state[9]),
             floor: i64::from(state[10]),
             covered: state[11] == 1,
+            levels: Levels::load(state),
         })
     }
 
     /// The state that says this point.
     pub fn save(&self) -> State {
-        let numbers = [
+        let plain = [
             0,
             self.length,
             self.phase.number(),
@@ -187,6 +282,11 @@ impl Point {
             self.floor,
             i64::from(self.covered),
         ];
-        numbers.map(|number| u32::try_from(number).unwrap_or(u32::MAX))
+        let mut state = FRESH;
+        for (place, number) in state.iter_mut().zip(plain.into_iter().chain(self.levels.numbers()))
+        {
+            *place = u32::try_from(number).unwrap_or(u32::MAX);
+        }
+        state
     }
 }

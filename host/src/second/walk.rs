@@ -1,9 +1,9 @@
 //! The walk (document 01, "The check, step by step", 3): one step a link, each test in the order of docs/STATE.md.
 
 use super::bytes::{field, length};
-use super::check::{End, ACCEPTED};
-use super::rules::{self, Index, Record};
-use super::state::{Link, Phase, Point};
+use super::check::{End, ACCEPTED, TOO_DEEP};
+use super::rules::{self, Bounds, Index, IndexEntry, Record};
+use super::state::{Level, Link, Phase, Point};
 use super::tables::{
     entry_kind, record_type, variable_kind, EntryKind, VariableKind, GR_ENTRIES, R_VARIABLES,
     Z_ENTRIES, Z_VARIABLES,
@@ -53,7 +53,7 @@ impl<'a> Step<'a> {
             Link::Gdr => self.take_gdr(),
             Link::Variable => self.take_variable(),
             Link::Index => self.take_index(),
-            Link::Values => self.take_values(),
+            Link::IndexEntry => self.take_index_entry(),
             Link::Attribute => self.take_attribute(),
             Link::Entry => self.take_entry(),
             Link::Unused => self.take_unused(),
@@ -92,11 +92,30 @@ impl<'a> Step<'a> {
 
     /// The record that a link leads to: 8 for place, 8 for type, 9.
     fn record(&self, link: i64, wanted_type: i64) -> Result<Record<'a>, End> {
+        let judge = |found: Option<i64>| demand(found == Some(wanted_type), 8);
+        self.record_of(link, judge)
+    }
+
+    /// The record that an index entry leads to: 8 for place, 8 for type, 23, 9.
+    fn named_record(&self, link: i64) -> Result<Record<'a>, End> {
+        self.record_of(link, |found| match found {
+            Some(record_type::VXR) => demand(!self.now.levels.are_all(), TOO_DEEP),
+            Some(record_type::VVR) => Ok(()),
+            _ => Err(End::Verdict(8)),
+        })
+    }
+
+    /// The record that a link leads to, its type being judged between place and 9.
+    fn record_of(
+        &self,
+        link: i64,
+        judge: impl Fn(Option<i64>) -> Result<(), End>,
+    ) -> Result<Record<'a>, End> {
         demand(link >= CDR && link < length(self.file), 8)?;
         let mark = self.mark_at(link);
         demand(matches!(mark, Some(1 | 2)), 8)?;
         let record = self.record_start(link, "size and type")?;
-        demand(record.record_type == Some(wanted_type), 8)?;
+        judge(record.record_type)?;
         demand(mark == Some(1), 9)?;
         Ok(record)
     }
@@ -156,16 +175,28 @@ impl<'a> Step<'a> {
         Ok((None, next))
     }
 
-    /// A VXR: its rule; then its used offsets, or its next if there are none.
+    /// A VXR of the top chain: its rule; then its used offsets, or its next if there are none. Below the top chain a next
+    /// is zero.
     fn take_index(&self) -> Result<Taken, End> {
         let link = self.link()?;
+        if let Some(level) = self.now.levels.nearest() {
+            demand(link == 0, 11)?;
+            return self.go_up(level);
+        }
         if link == 0 {
             return self.end_of_chain();
         }
         let vxr = self.record(link, record_type::VXR)?;
         let index = rules::index(&vxr)?;
-        let claimed = Point { before: vxr.offset, ..*self.now };
-        Ok((Some(vxr.offset), at_entry(&claimed, &index, 0)))
+        Ok((Some(vxr.offset), at_entry(self.now, &index, 0)))
+    }
+
+    /// Behind a lower record: the entry of the record above that follows the one that led down.
+    fn go_up(&self, level: Level) -> Result<Taken, End> {
+        let used = self.needed(level.record + 16, "used entries above")?;
+        let above =
+            Point { floor: level.last + 1, levels: self.now.levels.without_nearest(), ..*self.now };
+        Ok((None, at_used(&above, level.record, used, level.next)))
     }
 
     /// VXRtail, then MaxRec; then the VDR's next.
@@ -181,22 +212,43 @@ impl<'a> Step<'a> {
         Ok((None, next))
     }
 
-    /// A used offset of a VXR: its range, then the VVR it leads to, judged with the record bytes of the VDR.
-    fn take_values(&self) -> Result<Taken, End> {
-        let kind = self.variable_kind()?;
+    /// A used offset of a VXR: its range, then the record it leads to, which holds values or is a lower VXR.
+    fn take_index_entry(&self) -> Result<Taken, End> {
         let index = Index::at(self.file, self.now.before).ok_or(End::PastEnd("First"))?;
-        let entry = index.entry(self.file, self.now.entry, self.now.floor)?;
-        let vvr = self.record(entry.values, record_type::VVR)?;
+        let ceiling = self.now.levels.nearest().map(|level| level.last);
+        let within = Bounds { floor: self.now.floor, ceiling };
+        let entry = index.entry(self.file, self.now.entry, within)?;
+        let named = self.named_record(entry.offset)?;
+        if named.record_type == Some(record_type::VXR) {
+            self.take_lower(&entry, &named)
+        } else {
+            self.take_values(&index, &entry, &named)
+        }
+    }
+
+    /// A lower VXR: its rule, its next; then its used offsets, or its next if there are none.
+    fn take_lower(&self, entry: &IndexEntry, vxr: &Record) -> Result<Taken, End> {
+        let lower = rules::index(vxr)?;
+        demand(rules::next_index(vxr)? == 0, 11)?;
+        let above = Level { record: self.now.before, next: self.now.entry + 1, last: entry.last };
+        let claimed =
+            Point { floor: entry.first, levels: self.now.levels.with(above), ..*self.now };
+        Ok((Some(vxr.offset), at_entry(&claimed, &lower, 0)))
+    }
+
+    /// A VVR, judged with the record bytes of the VDR.
+    fn take_values(&self, index: &Index, entry: &IndexEntry, vvr: &Record) -> Result<Taken, End> {
+        let kind = self.variable_kind()?;
         demand(vvr.size >= 8, 10)?;
         let vdr = Record::at(self.file, self.now.owner).ok_or(End::PastEnd("VDR's size"))?;
         let variable = rules::variable(&vdr, kind, self.gdr()?)?;
-        rules::values(&vvr, &entry, variable.record_bytes)?;
+        rules::values(vvr, entry, variable.record_bytes)?;
         let claimed = Point {
             floor: entry.last + 1,
             covered: self.now.covered || entry.covers(variable.max_rec),
             ..*self.now
         };
-        Ok((Some(vvr.offset), at_entry(&claimed, &index, self.now.entry + 1)))
+        Ok((Some(vvr.offset), at_entry(&claimed, index, self.now.entry + 1)))
     }
 
     /// An ADR: its rule, its number; then its AgrEDR head.
@@ -284,9 +336,15 @@ impl<'a> Step<'a> {
 
 /// The point before a VXR's entry of this number, or before its next if the entry is not in use.
 fn at_entry(now: &Point, index: &Index, entry: i64) -> Point {
-    if entry < index.used {
-        Point { phase: Phase::Walk(Link::Values), link: 0, entry, ..*now }
+    at_used(now, index.offset, index.used, entry)
+}
+
+/// The same for the VXR at an offset with so many used entries.
+fn at_used(now: &Point, vxr: i64, used: i64, entry: i64) -> Point {
+    let here = Point { before: vxr, ..*now };
+    if entry < used {
+        Point { phase: Phase::Walk(Link::IndexEntry), link: 0, entry, ..here }
     } else {
-        Point { phase: Phase::Walk(Link::Index), link: index.offset + 8, entry: 0, ..*now }
+        Point { phase: Phase::Walk(Link::Index), link: vxr + 8, entry: 0, ..here }
     }
 }

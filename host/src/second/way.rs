@@ -1,8 +1,8 @@
 //! The reader's way to an answer (document 01, "Values"): CDR and GDR, a list to the
-//! wanted place, then the index chain or the list of entries.
+//! wanted place, then the index, level by level, or the list of entries.
 
 use super::bytes::{field, length, sign_extended, unsigned};
-use super::rules::{self, Attribute, Entry, Header, IndexEntry, Record, Variable};
+use super::rules::{self, Attribute, Bounds, Entry, Header, Index, IndexEntry, Record, Variable};
 use super::tables::{
     entry_kind, record_type, variable_kind, DataType, EntryKind, Form, VariableKind,
 };
@@ -31,6 +31,9 @@ pub struct Answer {
     pub offset: u64,
 }
 
+/// The most levels of an index, the top chain included.
+const MOST_LEVELS: i64 = 8;
+
 /// Which entry of an attribute is wanted.
 #[derive(Clone, Copy, Debug)]
 pub enum Wanted {
@@ -58,12 +61,17 @@ impl<'a> Way<'a> {
         Ok(Way { file, header, met: 2 })
     }
 
+    /// One record more may be met: not more than length/8 of them.
+    fn may_meet(&self) -> bool {
+        (self.met + 1).saturating_mul(8) <= length(self.file)
+    }
+
     /// Meets the record a link leads to: at 8 or above, of the right type, inside the file.
     fn meet(&mut self, link: i64, record_type: i64) -> Result<Record<'a>, u32> {
-        self.met = self.met.saturating_add(1);
-        if self.met.saturating_mul(8) > length(self.file) || link < 8 {
+        if !self.may_meet() || link < 8 {
             return Err(BROKEN);
         }
+        self.met += 1;
         Record::at(self.file, link)
             .filter(|record| record.record_type == Some(record_type) && record.is_inside())
             .ok_or(BROKEN)
@@ -150,37 +158,83 @@ impl<'a> Way<'a> {
         Err(NO_NUMBER)
     }
 
-    /// File offset of the first byte of a variable's record: 16, then the chain and the VVR.
+    /// File offset of the first byte of a variable's record: 16, then the index and the VVR.
     pub fn record(&mut self, variable: &Variable, record: i64) -> Result<i64, u32> {
-        let varies = variable.record_variance();
-        let greatest = if varies { variable.max_rec } else { i64::MAX };
-        if variable.max_rec == -1 || !(0..=greatest).contains(&record) {
-            return Err(NO_NUMBER);
-        }
-        let wanted = if varies { record } else { 0 };
-        let entry = self.covering_entry(variable.vxr_head, wanted)?;
-        let vvr = self.meet(entry.values, record_type::VVR)?;
+        let wanted = stored_record(variable, record)?;
+        let (entry, _) = self.lowest_entry(variable.vxr_head, wanted)?;
+        let vvr = self.meet(entry.offset, record_type::VVR)?;
         rules::values(&vvr, &entry, variable.record_bytes).map_err(|_| BROKEN)?;
         Ok(vvr.offset + 8 + (wanted - entry.first) * variable.record_bytes)
     }
 
-    /// The used entry that covers the record; 17 at the chain's end.
-    fn covering_entry(&mut self, head: i64, record: i64) -> Result<IndexEntry, u32> {
+    /// How many levels the index has on the way to a variable's record: 16, then the index; the VVR is not met.
+    pub fn levels(&mut self, variable: &Variable, record: i64) -> Result<i64, u32> {
+        let wanted = stored_record(variable, record)?;
+        Ok(self.lowest_entry(variable.vxr_head, wanted)?.1)
+    }
+
+    /// The lowest used entry that covers the record, and its level: the entry of the top chain, and from it down; 17 at
+    /// the end of the chain or of a lower record.
+    fn lowest_entry(&mut self, head: i64, record: i64) -> Result<(IndexEntry, i64), u32> {
+        let mut entry = self.top_entry(head, record)?;
+        for level in 1..=MOST_LEVELS {
+            if !self.names_index(entry.offset) {
+                return Ok((entry, level));
+            }
+            if level < MOST_LEVELS {
+                entry = self.lower_entry(&entry, record)?;
+            }
+        }
+        Err(BROKEN)
+    }
+
+    /// The used entry of the top chain that covers the record; 17 at its end.
+    fn top_entry(&mut self, head: i64, record: i64) -> Result<IndexEntry, u32> {
         let mut link = head;
-        let mut floor = 0;
+        let mut within = Bounds { floor: 0, ceiling: None };
         while link != 0 {
             let vxr = self.meet(link, record_type::VXR)?;
             let index = rules::index(&vxr).map_err(|_| BROKEN)?;
-            for number in 0..index.used {
-                let entry = index.entry(self.file, number, floor).map_err(|_| BROKEN)?;
-                if entry.covers(record) {
-                    return Ok(entry);
-                }
-                floor = entry.last + 1;
+            if let Some(entry) = self.covering_entry(&index, record, &mut within)? {
+                return Ok(entry);
             }
             link = self.needed(link + 8)?;
         }
         Err(GAP)
+    }
+
+    /// The used entry, of the lower VXR that an entry names, that covers the record; 17 if none does.
+    fn lower_entry(&mut self, naming: &IndexEntry, record: i64) -> Result<IndexEntry, u32> {
+        let vxr = self.meet(naming.offset, record_type::VXR)?;
+        let index = rules::index(&vxr).map_err(|_| BROKEN)?;
+        if rules::next_index(&vxr).map_err(|_| BROKEN)? != 0 {
+            return Err(BROKEN);
+        }
+        let mut within = Bounds { floor: naming.first, ceiling: Some(naming.last) };
+        self.covering_entry(&index, record, &mut within)?.ok_or(GAP)
+    }
+
+    /// The used entry of a VXR that covers the record; those before it rise within the bounds, which move on with them.
+    fn covering_entry(
+        &self,
+        index: &Index,
+        record: i64,
+        within: &mut Bounds,
+    ) -> Result<Option<IndexEntry>, u32> {
+        for number in 0..index.used {
+            let entry = index.entry(self.file, number, *within).map_err(|_| BROKEN)?;
+            if entry.covers(record) {
+                return Ok(Some(entry));
+            }
+            *within = within.behind(entry.last);
+        }
+        Ok(None)
+    }
+
+    /// An entry's link leads to an index record.
+    fn names_index(&self, link: i64) -> bool {
+        let found = Record::at(self.file, link).and_then(|record| record.record_type);
+        link >= 8 && found == Some(record_type::VXR)
     }
 
     /// The element at this offset, decoded: 19 for a float in an encoding of VAX floats.
@@ -198,6 +252,17 @@ impl<'a> Way<'a> {
         let offset = u64::try_from(offset).map_err(|_| BROKEN)?;
         Ok(Answer { kind: data_type.form.number(), bits, offset })
     }
+}
+
+/// The stored record that a record number asks for: 16 if it is not from 0 to MaxRec; with record variance clear it is
+/// record 0 for every number from 0 on, and 16 if there is none.
+fn stored_record(variable: &Variable, record: i64) -> Result<i64, u32> {
+    let varies = variable.record_variance();
+    let greatest = if varies { variable.max_rec } else { i64::MAX };
+    if variable.max_rec == -1 || !(0..=greatest).contains(&record) {
+        return Err(NO_NUMBER);
+    }
+    Ok(if varies { record } else { 0 })
 }
 
 /// The place of a value in its record: 18 for wrong indices. Only varying dimensions move it.

@@ -27,13 +27,13 @@ returns-2 c = (
   λ z. omega arith,
 )
 
-in-order-requires : tie.Need-in-order-requires
-in-order-requires c κs = search needs
+closing-requires : tie.Need-closing-requires
+closing-requires c κs = search needs
 
 returns-3 : tie.Need-returns-3
 unfolding rangeNumber
 returns-3 c = (
-  simp (← c .before .before .before .before .rising .ensures, not-false (c .before .before .before .before .rising .result) (c .before .before .before .if1 .left), ← c .before .before .before .before .before .end .ensures .0, le-ltb _ _ (c .before .before .if2 .left), ← c .before .in-order .ensures, not-true (c .before .in-order .result) (c .if3 .taken)),
+  simp (← c .before .before .before .before .rising .ensures, not-false (c .before .before .before .before .rising .result) (c .before .before .before .if1 .left), ← c .before .before .before .before .before .end .ensures .0, le-ltb _ _ (c .before .before .if2 .left), ← c .before .closing .ensures, not-true (c .before .closing .result) (c .if3 .taken)),
   λ z. omega arith,
 )
 
@@ -43,7 +43,7 @@ add-if4 c = search needs
 returns-4 : tie.Need-returns-4
 unfolding rangeNumber
 returns-4 c = (
-  simp (← c .before .before .before .before .before .rising .ensures, not-false (c .before .before .before .before .before .rising .result) (c .before .before .before .before .if1 .left), ← c .before .before .before .before .before .before .end .ensures .0, le-ltb _ _ (c .before .before .before .if2 .left), ← c .before .before .in-order .ensures, not-false (c .before .before .in-order .result) (c .before .if3 .left), lt-ltb _ _ (c .if4 .taken)),
+  simp (← c .before .before .before .before .before .rising .ensures, not-false (c .before .before .before .before .before .rising .result) (c .before .before .before .before .if1 .left), ← c .before .before .before .before .before .before .end .ensures .0, le-ltb _ _ (c .before .before .before .if2 .left), ← c .before .before .closing .ensures, not-false (c .before .before .closing .result) (c .before .if3 .left), lt-ltb _ _ (c .if4 .taken)),
   λ z. omega arith,
 )
 
@@ -51,10 +51,10 @@ returns-5 : tie.Need-returns-5
 unfolding rangeNumber
 returns-5 c =
     let a = c .before .before .before .before .before .before .before .before .args in
-    let right : rangeNumber (a .f .now) (a .first) (a .last) (a .offset) (a .floor) ≡ 0 =
-    simp (← c .before .before .before .before .before .rising .ensures, not-false (c .before .before .before .before .before .rising .result) (c .before .before .before .before .if1 .left), ← c .before .before .before .before .before .before .end .ensures .0, le-ltb _ _ (c .before .before .before .if2 .left), ← c .before .before .in-order .ensures, not-false (c .before .before .in-order .result) (c .before .if3 .left), le-ltb _ _ (c .if4 .left)) in
-    (sym right, λ z. range-bounds (a .f .now) (a .first) (a .last) (a .offset) (a .floor) right)
+    let right : rangeNumber (a .f .now) (a .first) (a .last) (a .offset) (a .floor) (a .most) ≡ 0 =
+    simp (← c .before .before .before .before .before .rising .ensures, not-false (c .before .before .before .before .before .rising .result) (c .before .before .before .before .if1 .left), ← c .before .before .before .before .before .before .end .ensures .0, le-ltb _ _ (c .before .before .before .if2 .left), ← c .before .before .closing .ensures, not-false (c .before .before .closing .result) (c .before .if3 .left), le-ltb _ _ (c .if4 .left)) in
+    (sym right, λ z. range-bounds (a .f .now) (a .first) (a .last) (a .offset) (a .floor) (a .most) right)
 
 pub range-number-spec : {M : Type 1} → statement M
 range-number-spec =
-    tie.close (tie.spec end-requires rising-requires returns add-if2 returns-2 in-order-requires returns-3 add-if4 returns-4 returns-5)
+    tie.close (tie.spec end-requires rising-requires returns add-if2 returns-2 closing-requires returns-3 add-if4 returns-4 returns-5)

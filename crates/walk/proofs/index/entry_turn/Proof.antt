@@ -1,98 +1,51 @@
-use mathlib.Core.Path.{_∙_, ap, sym}
-use mathlib.Core.Bool.{Bool, _||_}
-use Prim.Native.Nat.{_+_}
+use Rattle.walk.proofs.Entered.{faulty-turn}
+use Rattle.walk.specs.Walk.{entryFaulty, entryTurn}
+use Rattle.variables.proofs.Known.{bytes-small}
 use Rattle.variables.specs.declared.vdr.Variable.{Variable}
-use Rattle.variables.proofs.Known.{bytes-small, vdr-inside}
-use Rattle.walk.specs.Walk.{valuesNumber, entered}
-use Rattle.walk.proofs.Entered.{early-refused, late-refused, goes-on}
+use Rattle.records.specs.Index.{entryOf}
 use native.Mathlib.Omega.{arith}
+use mathlib.Core.Path.{_∙_, ap, sym}
 use borrow.Author.Needs.{needs}
 use Rattle.walk.proofs.index.entry_turn.Statement.{statement}
 use Rattle.walk.proofs.index.entry_turn.Tie as tie
 
+most-of-requires : tie.Need-most-of-requires
+most-of-requires c κs = search needs
+
 entry-at-requires : tie.Need-entry-at-requires
 entry-at-requires c κs = search needs
 
-type-number-requires : tie.Need-type-number-requires
-type-number-requires c κs = search needs
-
-values-number-requires : tie.Need-values-number-requires
-values-number-requires c κs =
-    let a = c .before .before .before in
-    let e = c .before .entry-at in
-    (rw (a .pre .0) (bytes-small (a .args .f .now) (a .args .u .kind) (a .args .u .vdr)), e .ensures .1 .order, e .ensures .1 .small)
-
-entry-refused-requires : tie.Need-entry-refused-requires
-entry-refused-requires c κs = search needs
+entry-faulty-requires : tie.Need-entry-faulty-requires
+entry-faulty-requires c κs = let a = c .before .before .before .before .before in let e = c .before .before .entry-at .ensures .1 in (rw (a .pre .0) (bytes-small (a .args .f .now) (a .args .u .kind) (a .args .u .vdr)), e .order, e .small)
 
 returns : tie.Need-returns
-returns c =
-    let a = c .before .before .before .before .before .before .before in
-    let e = c .before .before .before .before .before .entry-at in
-    let t = c .before .before .before .before .type-number in
-    let n = c .before .before .before .values-number in
-    c .entry-refused .ensures
-    ∙ early-refused (a .args .f .now) (a .args .u) (a .args .x) (a .args .i) (a .args .floor) (a .args .covered) (e .result) (t .result) (n .result) (e .ensures .0) (t .ensures)
-    (n .ensures .0 ∙ ap (λ (v : Variable). valuesNumber (a .args .f .now) v (e .result)) (a .pre .0)) (c .before .if1 .taken)
+returns c = let a = c .before .before .before .before .before .before in let is = c .before .before .before .entry-at .ensures .0 ∙ ap (entryOf (a .args .f .now) (a .args .x) (a .args .i) (a .args .floor)) (c .before .before .before .before .most-of .ensures) in let e = c .before .before .before .entry-at .result in c .entry-faulty .ensures ∙ ap (λ (v : Variable). entryFaulty (a .args .f .now) v (a .args .room) e) (a .pre .0) ∙ faulty-turn (a .args .f .now) (a .args .u) (a .args .x) (a .args .i) (a .args .covered) (a .args .room) e (c .before .if1 .taken) ∙ ap (entryTurn (a .args .f .now) (a .args .u) (a .args .x) (a .args .i) (a .args .covered) (a .args .room)) is
 
-entry-refused-requires-2 : tie.Need-entry-refused-requires-2
-entry-refused-requires-2 c κs = search needs
+is-index-requires : tie.Need-is-index-requires
+is-index-requires c κs = search needs
+
+entry-lower-requires : tie.Need-entry-lower-requires
+entry-lower-requires c κs = let a = c .before .before .before .before .before .before .before in (a .pre .1, a .pre .2, c .before .before .before .before .entry-at .ensures .1, c .before .before .if1 .left)
 
 returns-2 : tie.Need-returns-2
-returns-2 c =
-    let a = c .before .before .before .before .before .before .before .before in
-    let e = c .before .before .before .before .before .before .entry-at in
-    let t = c .before .before .before .before .before .type-number in
-    let n = c .before .before .before .before .values-number in
-    c .entry-refused2 .ensures
-    ∙ late-refused (a .args .f .now) (a .args .u) (a .args .x) (a .args .i) (a .args .floor) (a .args .covered) (e .result) (t .result) (n .result) (e .ensures .0) (t .ensures)
-    (n .ensures .0 ∙ ap (λ (v : Variable). valuesNumber (a .args .f .now) v (e .result)) (a .pre .0)) (c .before .before .if1 .left) (c .before .if2 .taken)
+returns-2 c = let a = c .before .before .before .before .before .before .before .before in let is = c .before .before .before .before .before .entry-at .ensures .0 ∙ ap (entryOf (a .args .f .now) (a .args .x) (a .args .i) (a .args .floor)) (c .before .before .before .before .before .before .most-of .ensures) in simp (c .entry-lower .ensures, ← is, ← c .before .before .is-index .ensures, c .before .if2 .taken)
 
-is-covered-requires : tie.Need-is-covered-requires
-is-covered-requires c κs =
-    let a = c .before .before .before .before .before .before .before in
-    let v = ap (λ (w : Variable). w .fault) (a .pre .0) in
-    let z = c .before .before .before .values-number .ensures .1 (c .if2 .left) in
-    let h = vdr-inside (a .args .f .now) (a .args .u .kind) (a .args .u .vdr) (sym v ∙ z) in
-    omega (arith, h)
-
-add-enter : tie.Need-add-enter
-add-enter c = search needs
-
-add-enter-2 : tie.Need-add-enter-2
-add-enter-2 c = search needs
-
-enter-requires : tie.Need-enter-requires
-enter-requires c κs =
-    let a = c .before .before .before .before .before .before .before .before .before in
-    let e = c .before .before .before .before .before .before .before .entry-at in
-    (e .ensures .1 .inside (c .before .before .before .if1 .left), a .pre .1)
+entry-values-requires : tie.Need-entry-values-requires
+entry-values-requires c κs = let a = c .before .before .before .before .before .before .before in (a .pre .0, a .pre .1, a .pre .2, c .before .before .before .before .entry-at .ensures .1, c .before .before .if1 .left)
 
 returns-3 : tie.Need-returns-3
-returns-3 c =
-    let a = c .before .before .before .before .before .before .before .before .before .before in
-    let e = c .before .before .before .before .before .before .before .before .entry-at in
-    let t = c .before .before .before .before .before .before .before .type-number in
-    let n = c .before .before .before .before .before .before .values-number in
-    goes-on (a .args .f .now) (a .args .u) (a .args .x) (a .args .i) (a .args .floor) (a .args .covered) (e .result) (t .result) (n .result) (e .ensures .0) (t .ensures)
-    (n .ensures .0 ∙ ap (λ (v : Variable). valuesNumber (a .args .f .now) v (e .result)) (a .pre .0)) (c .before .before .before .before .if1 .left) (c .before .before .before .if2 .left)
-    (c .enter .result)
-    (c .enter .ensures
-    ∙ ap (λ (b : Bool). entered (a .args .f .now) (a .args .u) (a .args .x) (a .args .i + 1) (e .result .last + 1) (a .args .covered || b)) (c .before .before .is-covered .ensures))
+returns-3 c = let a = c .before .before .before .before .before .before .before .before in let is = c .before .before .before .before .before .entry-at .ensures .0 ∙ ap (entryOf (a .args .f .now) (a .args .x) (a .args .i) (a .args .floor)) (c .before .before .before .before .before .before .most-of .ensures) in simp (c .entry-values .ensures, ← is, ← c .before .before .is-index .ensures, c .before .if2 .left)
 
 pub entry-turn-spec : {M : Type 1} → statement M
 entry-turn-spec =
     tie.close
     (tie.spec
+    most-of-requires
     entry-at-requires
-    type-number-requires
-    values-number-requires
-    entry-refused-requires
+    entry-faulty-requires
     returns
-    entry-refused-requires-2
+    is-index-requires
+    entry-lower-requires
     returns-2
-    is-covered-requires
-    add-enter
-    add-enter-2
-    enter-requires
+    entry-values-requires
     returns-3)

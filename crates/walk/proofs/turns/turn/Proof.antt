@@ -1,6 +1,6 @@
 use native.Mathlib.Omega.{arith}
 use mathlib.Core.Path.{_∙_, ap, sym}
-use Rattle.walk.specs.Walk.{turnOf}
+use Rattle.walk.specs.Walk.{turnBy}
 use borrow.Author.Needs.{needs}
 use Rattle.walk.proofs.turns.turn.Statement.{statement}
 use Rattle.walk.proofs.turns.turn.Tie as tie
@@ -51,25 +51,32 @@ unused-turn-requires : tie.Need-unused-turn-requires
 unused-turn-requires c κs = search needs
 
 returns : tie.Need-returns
-returns c = let a = c .before .before .before .before .args in c .start-turn .ensures ∙ ap (turnOf (a .f .now)) (sym (c .before .enum-told .given .1))
+unfolding turnBy
+returns c = let a = c .before .before .before .before .args in c .start-turn .ensures ∙ ap (turnBy (a .f .now) (a .near) (a .room)) (sym (c .before .enum-told .given .1))
 
 returns-2 : tie.Need-returns-2
-returns-2 c = let a = c .before .before .before .before .before .args in c .vars-turn .ensures ∙ ap (turnOf (a .f .now)) (sym (c .before .before .w .given .1))
+unfolding turnBy
+returns-2 c = let a = c .before .before .before .before .before .args in c .vars-turn .ensures ∙ ap (turnBy (a .f .now) (a .near) (a .room)) (sym (c .before .before .w .given .1))
 
 returns-3 : tie.Need-returns-3
-returns-3 c = let a = c .before .before .before .before .before .args in c .chain-turn .ensures ∙ ap (turnOf (a .f .now)) (sym (c .before .before .w2 .given .1))
+unfolding turnBy
+returns-3 c = let a = c .before .before .before .before .before .args in c .chain-turn .ensures ∙ ap (turnBy (a .f .now) (a .near) (a .room)) (sym (c .before .before .w2 .given .1))
 
 returns-4 : tie.Need-returns-4
-returns-4 c = let a = c .before .before .before .before .before .args in c .entry-turn .ensures ∙ ap (turnOf (a .f .now)) (sym (c .before .before .w3 .given .1))
+unfolding turnBy
+returns-4 c = let a = c .before .before .before .before .before .args in c .entry-turn .ensures ∙ ap (turnBy (a .f .now) (a .near) (a .room)) (sym (c .before .before .w3 .given .1))
 
 returns-5 : tie.Need-returns-5
-returns-5 c = let a = c .before .before .before .before .before .args in c .attrs-turn .ensures ∙ ap (turnOf (a .f .now)) (sym (c .before .before .w4 .given .1))
+unfolding turnBy
+returns-5 c = let a = c .before .before .before .before .before .args in c .attrs-turn .ensures ∙ ap (turnBy (a .f .now) (a .near) (a .room)) (sym (c .before .before .w4 .given .1))
 
 returns-6 : tie.Need-returns-6
-returns-6 c = let a = c .before .before .before .before .before .args in c .entries-turn .ensures ∙ ap (turnOf (a .f .now)) (sym (c .before .before .w5 .given .1))
+unfolding turnBy
+returns-6 c = let a = c .before .before .before .before .before .args in c .entries-turn .ensures ∙ ap (turnBy (a .f .now) (a .near) (a .room)) (sym (c .before .before .w5 .given .1))
 
 returns-7 : tie.Need-returns-7
-returns-7 c = let a = c .before .before .before .before .before .args in c .unused-turn .ensures ∙ ap (turnOf (a .f .now)) (sym (c .before .before .w6 .given .1))
+unfolding turnBy
+returns-7 c = let a = c .before .before .before .before .before .args in c .unused-turn .ensures ∙ ap (turnBy (a .f .now) (a .near) (a .room)) (sym (c .before .before .w6 .given .1))
 
 pub turn-spec : {M : Type 1} → statement M
 turn-spec =

@@ -2,14 +2,14 @@ use native.Mathlib.Omega.{arith}
 use mathlib.Core.Path.{_≡_, _∙_, sym, refl}
 use Prim.Native.Nat.{_≤_, _-_}
 use lib.ListN.{length, drop}
-use Rattle.checker.specs.Saved.{sameNumbers}
-use Rattle.checker.proofs.Same.{differ, agree, all-same}
+use Rattle.checker.specs.Saved.{begins}
+use Rattle.checker.proofs.Same.{differ, agree, all-begin}
 use borrow.Author.Needs.{needs}
-use Rattle.checker.proofs.saved.same_numbers.Statement.{statement}
-use Rattle.checker.proofs.saved.same_numbers.Tie as tie
+use Rattle.checker.proofs.saved.begins_with.Statement.{statement}
+use Rattle.checker.proofs.saved.begins_with.Tie as tie
 
 abbrev Inv-loop : tie.InvT-loop
-Inv-loop s a i₀ i = (i ≤ 12) × (length a ≡ 12) × (sameNumbers a s ≡ sameNumbers (drop i a) (drop i s))
+Inv-loop s a i₀ i = (i ≤ 12) × (length a ≡ 12) × (begins a s ≡ begins (drop i a) (drop i s))
 
 abbrev μ-loop : tie.MeasureT-loop
 μ-loop s a i₀ i = 12 - i
@@ -53,10 +53,10 @@ returns-2 : tie.Need-returns-2 Inv-loop μ-loop
 returns-2 c =
     let l = c .before .loop in
     let a = c .before .before .args in
-    all-same (a .t1) (a .s .now) (l .i) (omega arith) (omega arith) ∙ sym (l .inv .2)
+    all-begin (a .t1) (a .s .now) (l .i) (omega arith) ∙ sym (l .inv .2)
 
-pub same-numbers-spec : {M : Type 1} → statement M
-same-numbers-spec =
+pub begins-with-spec : {M : Type 1} → statement M
+begins-with-spec =
     tie.close
     (tie.spec
     Inv-loop

@@ -1,0 +1,188 @@
+-- The index records above the one that is walked, as a saved state has them: levels and, behind them, none. Assumes nothing.
+use mathlib.Core.Path.{_≡_, refl, sym, ap, _∙_}
+use mathlib.Core.Logic.{_⊎_, inl, inr}
+use mathlib.Core.Bool.{Bool, true, false, and-true, or-true, _&&_, _||_}
+use mathlib.Core.List.{List, [], _∷_, _++_}
+use Prim.Native.Nat.{_≤_}
+use native.Mathlib.Omega.{arith}
+use lib.Dec.{leb, eqb}
+use borrow.Author.Tests.{leb-true, le-leb, eqb-true}
+use Rattle.walk.specs.Bounds.{SmallLevel, SmallLevels}
+use Rattle.walk.specs.Levels.{noLevel, noLevels, isNone, pushed, popped}
+use Rattle.walk.specs.declared.places.Level.{Level}
+use Rattle.walk.specs.declared.places.Levels.{Levels}
+use Rattle.walk.specs.declared.places.Walk as W
+use Rattle.walk.specs.declared.places.Walk.the-variants.{Start, Vars, Chain, Entry, Attrs, Entries, Unused}
+use Rattle.checker.specs.Saved.{offsetRange, countRange, levelThere, noneThere, levelList, noneOf, levelsThere, levelsRange}
+use Rattle.checker.proofs.Passed.{both}
+use Rattle.checker.proofs.Placed.{Placed}
+
+-- ---- tested from the last level up
+-- none says whether there is none of ls, there whether they are levels and behind them none
+pub record Tested (ls : List Level) (none there : Bool) : Type 0 where
+  pub none-is : none ≡ noneOf ls
+  pub there-is : there ≡ levelsThere ls
+
+pub last-tested : (l : Level) {n t : Bool} → n ≡ noneThere l → t ≡ levelThere l → Tested (l ∷ []) n (t || n)
+last-tested l {n} {t} e h =
+    let a : n ≡ noneOf (l ∷ []) = e ∙ sym (and-true (noneThere l)) in
+    let b : t ≡ (levelThere l && true) = h ∙ sym (and-true (levelThere l)) in
+    record { none-is = a; there-is = ap (λ (x : Bool). x || n) b ∙ ap (λ (x : Bool). levelThere l && true || x) a }
+
+pub more-tested : (l : Level) {ls : List Level} {n t none there : Bool}
+    → n ≡ noneThere l
+    → t ≡ levelThere l
+    → Tested ls none there
+    → Tested (l ∷ ls) (n && none) (t && there || (n && none))
+more-tested l e h k = record { none-is = rw (e, k .none-is); there-is = rw (e, h, k .none-is, k .there-is) }
+
+-- ---- levels and, behind them, none
+either : (a b : Bool) → (a || b) ≡ true → (a ≡ true) ⊎ (b ≡ true)
+either true b e = inl refl
+either false b e = inr e
+
+abbrev Cases : Level → List Level → Type 0
+Cases l ls = ((levelThere l ≡ true) × (levelsThere ls ≡ true)) ⊎ (noneOf (l ∷ ls) ≡ true)
+
+cases : (l : Level) (ls : List Level) → levelsThere (l ∷ ls) ≡ true → Cases l ls
+cases l ls e = go (either (levelThere l && levelsThere ls) (noneOf (l ∷ ls)) e)
+  where
+    go : ((levelThere l && levelsThere ls) ≡ true) ⊎ (noneOf (l ∷ ls) ≡ true) → Cases l ls
+    go (inl h) = inl (both (levelThere l) (levelsThere ls) h)
+    go (inr h) = inr h
+
+none-there : (ls : List Level) → noneOf ls ≡ true → levelsThere ls ≡ true
+none-there [] e = refl
+none-there (l ∷ ls) e = rw e (or-true (levelThere l && levelsThere ls))
+
+-- the nearest one away
+rest-there : (l : Level) (ls : List Level) → levelsThere (l ∷ ls) ≡ true → levelsThere ls ≡ true
+rest-there l ls e = go (cases l ls e)
+  where
+    go : Cases l ls → levelsThere ls ≡ true
+    go (inl h) = h .1
+    go (inr h) = none-there ls (both (noneThere l) (noneOf ls) h .1)
+
+-- one more, or none more, behind them all
+none-front : (ls rs : List Level) → noneOf (ls ++ rs) ≡ true → noneOf ls ≡ true
+none-front [] rs e = refl
+none-front (l ∷ ls) rs e = let p = both (noneThere l) (noneOf (ls ++ rs)) e in rw (p .0) (none-front ls rs (p .1))
+
+front-there : (ls rs : List Level) → levelsThere (ls ++ rs) ≡ true → levelsThere ls ≡ true
+front-there [] rs e = refl
+front-there (l ∷ ls) rs e = go (front-there ls rs) (cases l (ls ++ rs) e)
+  where
+    go : (levelsThere (ls ++ rs) ≡ true → levelsThere ls ≡ true) → Cases l (ls ++ rs) → levelsThere (l ∷ ls) ≡ true
+    go k (inl h) = rw (h .0, k (h .1))
+    go k (inr h) = none-there (l ∷ ls) (none-front (l ∷ ls) rs h)
+
+none-back : (ls : List Level) → noneOf ls ≡ true → noneOf (ls ++ noLevel ∷ []) ≡ true
+none-back [] e = refl
+none-back (l ∷ ls) e = let p = both (noneThere l) (noneOf ls) e in rw (p .0) (none-back ls (p .1))
+
+back-there : (ls : List Level) → levelsThere ls ≡ true → levelsThere (ls ++ noLevel ∷ []) ≡ true
+back-there [] e = refl
+back-there (l ∷ ls) e = go (back-there ls) (cases l ls e)
+  where
+    go : (levelsThere ls ≡ true → levelsThere (ls ++ noLevel ∷ []) ≡ true) → Cases l ls → levelsThere (l ∷ (ls ++ noLevel ∷ [])) ≡ true
+    go k (inl h) = rw (h .0, k (h .1))
+    go k (inr h) = none-there (l ∷ (ls ++ noLevel ∷ [])) (none-back (l ∷ ls) h)
+
+-- ---- one level
+three : (a b c : Bool) → (a && b && c) ≡ true → (a ≡ true) × (b ≡ true) × (c ≡ true)
+three a b c e = let p = both (a && b) c e in let q = both a b (p .0) in (q .0, q .1, p .1)
+
+there-parts : (l : Level) → levelThere l ≡ true → SmallLevel l × (1 ≤ l .next)
+there-parts l e =
+    let p = both (offsetRange (l .vxr) && leb 1 (l .next) && countRange (l .next)) (offsetRange (l .last)) e in
+    let q = three (offsetRange (l .vxr)) (leb 1 (l .next)) (countRange (l .next)) (p .0) in (
+      (leb-true (l .vxr) 2147483647 (q .0), leb-true (l .next) 2147483648 (q .2), leb-true (l .last) 2147483647 (p .1)),
+      leb-true 1 (l .next) (q .1),
+    )
+
+pub small-there : (l : Level) → SmallLevel l → 1 ≤ l .next → levelThere l ≡ true
+small-there l s n =
+    rw (le-leb (l .vxr) 2147483647 (s .0), le-leb 1 (l .next) n, le-leb (l .next) 2147483648 (s .1), le-leb (l .last) 2147483647 (s .2))
+
+none-parts : (l : Level) → noneThere l ≡ true → (l .vxr ≡ 0) × (l .next ≡ 0) × (l .last ≡ 0)
+none-parts l e =
+    let p = three (eqb (l .vxr) 0) (eqb (l .next) 0) (eqb (l .last) 0) e in
+    (eqb-true (l .vxr) 0 (p .0), eqb-true (l .next) 0 (p .1), eqb-true (l .last) 0 (p .2))
+
+head-small : (l : Level) (ls : List Level) → levelsThere (l ∷ ls) ≡ true → SmallLevel l
+head-small l ls e = go (cases l ls e)
+  where
+    go : Cases l ls → SmallLevel l
+    go (inl h) = there-parts l (h .0) .0
+    go (inr h) = let z = none-parts l (both (noneThere l) (noneOf ls) h .0) in (omega arith, omega arith, omega arith)
+
+abbrev AllSmall : List Level → Type 0
+AllSmall [] = Unit {0}
+AllSmall (l ∷ ls) = SmallLevel l × AllSmall ls
+
+all-small : (ls : List Level) → levelsThere ls ≡ true → AllSmall ls
+all-small [] e = tt
+all-small (l ∷ ls) e = (head-small l ls e, all-small ls (rest-there l ls e))
+
+-- none is there if the nearest is not
+head-none : (l : Level) (ls : List Level) → isNone l ≡ true → levelsThere (l ∷ ls) ≡ true → noneOf (l ∷ ls) ≡ true
+unfolding isNone
+head-none l ls z e = go (cases l ls e)
+  where
+    go : Cases l ls → noneOf (l ∷ ls) ≡ true
+    go (inl h) = absurd (omega (arith, there-parts l (h .0) .1, eqb-true (l .next) 0 z))
+    go (inr h) = h
+
+none-head : (l : Level) (ls : List Level) → noneOf (l ∷ ls) ≡ true → isNone l ≡ true
+unfolding isNone
+none-head l ls e = three (eqb (l .vxr) 0) (eqb (l .next) 0) (eqb (l .last) 0) (both (noneThere l) (noneOf ls) e .0) .1
+
+-- ---- the levels above a place of the walk
+pub record Above (up : Levels) (w : W.Walk) : Type 0 where
+  pub there : levelsThere (levelList up) ≡ true
+  pub placed : Placed (up .a) w
+
+pub top-above : Above noLevels Start
+unfolding isNone
+top-above = record { there = refl; placed = refl }
+
+module _ (up : Levels) where
+  abbrev behind : List Level
+  behind = up .b ∷ up .c ∷ up .d ∷ up .e ∷ up .f ∷ up .g ∷ []
+
+  none-above : (w : W.Walk) → Placed (up .a) w → noneOf (levelList up) ≡ true → Above up w
+  none-above w p e = record { there = none-there (levelList up) e; placed = p }
+
+  -- in their ranges, and back
+  pub range-above : (w : W.Walk) → levelsRange up w ≡ true → Above up w
+  range-above Start e = none-above Start (none-head (up .a) behind e) e
+  range-above (Vars k p n g) e = none-above (Vars k p n g) (none-head (up .a) behind e) e
+  range-above (Chain u p x floor c) e = record { there = e; placed = tt }
+  range-above (Entry u x i floor c) e = record { there = e; placed = tt }
+  range-above (Attrs p n) e = none-above (Attrs p n) (none-head (up .a) behind e) e
+  range-above (Entries k a n p g h) e = none-above (Entries k a n p g h) (none-head (up .a) behind e) e
+  range-above (Unused p b) e = none-above (Unused p b) (none-head (up .a) behind e) e
+
+  pub above-range : (w : W.Walk) → Above up w → levelsRange up w ≡ true
+  above-range Start h = head-none (up .a) behind (h .placed) (h .there)
+  above-range (Vars k p n g) h = head-none (up .a) behind (h .placed) (h .there)
+  above-range (Chain u p x floor c) h = h .there
+  above-range (Entry u x i floor c) h = h .there
+  above-range (Attrs p n) h = head-none (up .a) behind (h .placed) (h .there)
+  above-range (Entries k a n p g e) h = head-none (up .a) behind (h .placed) (h .there)
+  above-range (Unused p b) h = head-none (up .a) behind (h .placed) (h .there)
+
+  -- one level down, one up
+  pub pushed-there : (l : Level) → SmallLevel l → 1 ≤ l .next → levelsThere (levelList up) ≡ true → levelsThere (levelList (pushed l up)) ≡ true
+  pushed-there l s n e =
+      let front = up .a ∷ up .b ∷ up .c ∷ up .d ∷ up .e ∷ up .f ∷ [] in
+      rw (small-there l s n, front-there front (up .g ∷ []) e)
+
+  pub popped-there : levelsThere (levelList up) ≡ true → levelsThere (levelList (popped up)) ≡ true
+  popped-there e = back-there behind (rest-there (up .a) behind e)
+
+  -- so their numbers are
+  pub levels-small : levelsThere (levelList up) ≡ true → SmallLevels up
+  levels-small e =
+      let s = all-small (levelList up) e in
+      (s .0, s .1 .0, s .1 .1 .0, s .1 .1 .1 .0, s .1 .1 .1 .1 .0, s .1 .1 .1 .1 .1 .0, s .1 .1 .1 .1 .1 .1 .0)

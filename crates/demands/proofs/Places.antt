@@ -1,0 +1,77 @@
+-- The places of the walk, with the index records above them, and its steps from place to place. A link to a lower index record, and the
+-- zero link of one, are links like any other, to a place with one level more or less. Assumes nothing.
+use mathlib.Core.Path.{_≡_, refl}
+use mathlib.Core.List.{List, [], _∷_}
+use Prim.Native.Nat.{ℕ}
+use lib.ListN.{set}
+use Rattle.marks.specs.Marks.{leftOf}
+use Rattle.walk.specs.Numbers.{first}
+use Rattle.walk.specs.Levels.{noLevels, pushed, popped}
+use Rattle.walk.specs.Walk.{turnOf}
+use Rattle.walk.specs.declared.places.Levels.{Levels}
+use Rattle.walk.specs.declared.places.Walk as W
+use Rattle.walk.specs.declared.places.Turn as T
+use Rattle.walk.specs.declared.places.Turn.the-variants.{Over, End, Take, Down, Up}
+use Rattle.checker.specs.Step.{Conf, conf, done, walking, settled, linkNumber, turned, stepBy, stepOf}
+use Rattle.checker.specs.declared.state.State.{State}
+
+pub record Place : Type 0 where
+  pub walk : W.Walk
+  pub up : Levels
+
+abbrev pub place : W.Walk → Levels → Place
+place w up = record { walk = w; up = up }
+
+-- outside an index, and in its top chain
+abbrev pub top : W.Walk → Place
+top w = place w noLevels
+
+-- what a step finds, whatever the marks say, and the place that it leads to: a zero link, the end of the walk, or a link to a record
+pub data Move : Type 0 where
+  passes : ℕ → Place → Move
+  stops : ℕ → Move
+  takes : ℕ → ℕ → ℕ → ℕ → Place → Move
+
+abbrev pub moveBy : Levels → T.Turn → Move
+moveBy up (Over w v) = passes v (place w up)
+moveBy up (End v) = stops v
+moveBy up (Take w early t typed late) = takes early t typed late (place w up)
+moveBy up (Down w t typed l) = takes 0 t typed 0 (place w (pushed l up))
+moveBy up (Up w) = passes 0 (place w (popped up))
+
+abbrev pub moveOf : List ℕ → Place → Move
+moveOf f p = moveBy (p .up) (turnOf f (p .up) (p .walk))
+
+-- ---- without marks: a step ends well and claims cs, if what E says of the place that it leads to holds of the rest of them
+abbrev pub EndsBy : (Place → List ℕ → Type 0) → Move → List ℕ → Type 0
+EndsBy E (passes v p) cs = (v ≡ 0) × E p cs
+EndsBy E (stops v) cs = (v ≡ 0) × (cs ≡ [])
+EndsBy E (takes b t k l p) cs = (b ≡ 0) × (k ≡ 0) × (l ≡ 0) × (ds : List ℕ) × (cs ≡ t ∷ ds) × E p ds
+
+-- so does a turn at a place with these levels above it; and the step at a place
+abbrev pub TurnEnds : (Place → List ℕ → Type 0) → Levels → T.Turn → List ℕ → Type 0
+TurnEnds E up t cs = EndsBy E (moveBy up t) cs
+
+abbrev pub Steps : List ℕ → (Place → List ℕ → Type 0) → Place → List ℕ → Type 0
+Steps f E p cs = TurnEnds E (p .up) (turnOf f (p .up) (p .walk)) cs
+
+-- ---- with marks: a check that stands at a place, and where a step of it leads
+abbrev pub walkAt : ℕ → Place → State
+walkAt n p = walking n (p .walk) (p .up)
+
+abbrev pub moved : List ℕ → List ℕ → ℕ → Move → Conf
+moved f m n (passes v p) = settled v m (walkAt n p) m
+moved f m n (stops v) = conf (done (first (v ∷ leftOf f m ∷ []))) m
+moved f m n (takes b t k l p) = settled (linkNumber f m b t k l) m (walkAt n p) (set m t 2)
+
+turn-moves : (f m : List ℕ) (n : ℕ) (up : Levels) (t : T.Turn) → turned f m n up t ≡ moved f m n (moveBy up t)
+unfolding turned
+turn-moves f m n up (Over w v) = refl
+turn-moves f m n up (End v) = refl
+turn-moves f m n up (Take w early t typed late) = refl
+turn-moves f m n up (Down w t typed l) = refl
+turn-moves f m n up (Up w) = refl
+
+pub step-moves : (f m : List ℕ) (n : ℕ) (p : Place) → stepOf f (conf (walkAt n p) m) ≡ moved f m n (moveOf f p)
+unfolding stepBy
+step-moves f m n p = turn-moves f m n (p .up) (turnOf f (p .up) (p .walk))

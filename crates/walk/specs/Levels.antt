@@ -1,0 +1,51 @@
+-- The index records above the one that is walked: at most seven, the nearest first. Request #104. Assumes nothing.
+use Prim.Native.Nat.{ℕ}
+use mathlib.Core.Bool.{Bool, true, false, cond}
+use lib.Dec.{eqb}
+use Rattle.records.specs.Index.{noLimit}
+use Rattle.walk.specs.declared.places.Level.{Level}
+use Rattle.walk.specs.declared.places.Levels.{Levels}
+use Rattle.walk.specs.declared.places.Turn as T
+use Rattle.walk.specs.declared.places.Turn.the-variants.{Over, End, Take, Down, Up}
+
+abbrev pub noLevel : Level
+noLevel = record { vxr = 0; next = 0; last = 0 }
+
+-- those above a record of the top chain
+abbrev pub noLevels : Levels
+noLevels = record { a = noLevel; b = noLevel; c = noLevel; d = noLevel; e = noLevel; f = noLevel; g = noLevel }
+
+-- the entry after the one that led down is never entry 0
+unfoldable pub isNone : Level → Bool
+isNone l = eqb (l .next) 0
+
+-- "its ranges rise within the naming entry's": the greatest Last that an entry may have; no entry names a record of the top chain, so there
+-- it has no limit
+unfoldable pub mostOf : Level → ℕ
+mostOf l = cond (isNone l) noLimit (l .last)
+
+-- "eight levels, top included": the record that is walked is not one of the eighth level
+unfoldable pub roomBelow : Levels → Bool
+roomBelow s = isNone (s .g)
+
+abbrev pub pushed : Level → Levels → Levels
+pushed l s = record { a = l; b = s .a; c = s .b; d = s .c; e = s .d; f = s .e; g = s .f }
+
+abbrev pub popped : Levels → Levels
+popped s = record { a = s .b; b = s .c; c = s .d; d = s .e; e = s .f; f = s .g; g = noLevel }
+
+-- those where a turn goes on
+abbrev pub levelsAfter : Levels → T.Turn → Levels
+levelsAfter s (Over w v) = s
+levelsAfter s (End v) = s
+levelsAfter s (Take w early o typed late) = s
+levelsAfter s (Down w o typed l) = pushed l s
+levelsAfter s (Up w) = popped s
+
+-- they are others than before
+abbrev pub changesLevel : T.Turn → Bool
+changesLevel (Over w v) = false
+changesLevel (End v) = false
+changesLevel (Take w early o typed late) = false
+changesLevel (Down w o typed l) = true
+changesLevel (Up w) = true
