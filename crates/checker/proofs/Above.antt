@@ -13,7 +13,7 @@ use Rattle.walk.specs.declared.places.Level.{Level}
 use Rattle.walk.specs.declared.places.Levels.{Levels}
 use Rattle.walk.specs.declared.places.Walk as W
 use Rattle.walk.specs.declared.places.Walk.the-variants.{Start, Vars, Chain, Entry, Attrs, Entries, Unused}
-use Rattle.checker.specs.Saved.{offsetRange, countRange, levelThere, noneThere, levelList, noneOf, levelsThere, levelsRange}
+use Rattle.checker.specs.Saved.{offsetRange, countRange, levelThere, noneThere, levelList, noneOf, levelsStand, levelsRange}
 use Rattle.checker.proofs.Passed.{both}
 use Rattle.checker.proofs.Placed.{Placed}
 
@@ -21,7 +21,7 @@ use Rattle.checker.proofs.Placed.{Placed}
 -- none says whether there is none of ls, there whether they are levels and behind them none
 pub record Tested (ls : List Level) (none there : Bool) : Type 0 where
   pub none-is : none ≡ noneOf ls
-  pub there-is : there ≡ levelsThere ls
+  pub there-is : there ≡ levelsStand ls
 
 pub last-tested : (l : Level) {n t : Bool} → n ≡ noneThere l → t ≡ levelThere l → Tested (l ∷ []) n (t || n)
 last-tested l {n} {t} e h =
@@ -42,24 +42,24 @@ either true b e = inl refl
 either false b e = inr e
 
 abbrev Cases : Level → List Level → Type 0
-Cases l ls = ((levelThere l ≡ true) × (levelsThere ls ≡ true)) ⊎ (noneOf (l ∷ ls) ≡ true)
+Cases l ls = ((levelThere l ≡ true) × (levelsStand ls ≡ true)) ⊎ (noneOf (l ∷ ls) ≡ true)
 
-cases : (l : Level) (ls : List Level) → levelsThere (l ∷ ls) ≡ true → Cases l ls
-cases l ls e = go (either (levelThere l && levelsThere ls) (noneOf (l ∷ ls)) e)
+cases : (l : Level) (ls : List Level) → levelsStand (l ∷ ls) ≡ true → Cases l ls
+cases l ls e = go (either (levelThere l && levelsStand ls) (noneOf (l ∷ ls)) e)
   where
-    go : ((levelThere l && levelsThere ls) ≡ true) ⊎ (noneOf (l ∷ ls) ≡ true) → Cases l ls
-    go (inl h) = inl (both (levelThere l) (levelsThere ls) h)
+    go : ((levelThere l && levelsStand ls) ≡ true) ⊎ (noneOf (l ∷ ls) ≡ true) → Cases l ls
+    go (inl h) = inl (both (levelThere l) (levelsStand ls) h)
     go (inr h) = inr h
 
-none-there : (ls : List Level) → noneOf ls ≡ true → levelsThere ls ≡ true
+none-there : (ls : List Level) → noneOf ls ≡ true → levelsStand ls ≡ true
 none-there [] e = refl
-none-there (l ∷ ls) e = rw e (or-true (levelThere l && levelsThere ls))
+none-there (l ∷ ls) e = rw e (or-true (levelThere l && levelsStand ls))
 
 -- the nearest one away
-rest-there : (l : Level) (ls : List Level) → levelsThere (l ∷ ls) ≡ true → levelsThere ls ≡ true
+rest-there : (l : Level) (ls : List Level) → levelsStand (l ∷ ls) ≡ true → levelsStand ls ≡ true
 rest-there l ls e = go (cases l ls e)
   where
-    go : Cases l ls → levelsThere ls ≡ true
+    go : Cases l ls → levelsStand ls ≡ true
     go (inl h) = h .1
     go (inr h) = none-there ls (both (noneThere l) (noneOf ls) h .1)
 
@@ -68,11 +68,11 @@ none-front : (ls rs : List Level) → noneOf (ls ++ rs) ≡ true → noneOf ls �
 none-front [] rs e = refl
 none-front (l ∷ ls) rs e = let p = both (noneThere l) (noneOf (ls ++ rs)) e in rw (p .0) (none-front ls rs (p .1))
 
-front-there : (ls rs : List Level) → levelsThere (ls ++ rs) ≡ true → levelsThere ls ≡ true
+front-there : (ls rs : List Level) → levelsStand (ls ++ rs) ≡ true → levelsStand ls ≡ true
 front-there [] rs e = refl
 front-there (l ∷ ls) rs e = go (front-there ls rs) (cases l (ls ++ rs) e)
   where
-    go : (levelsThere (ls ++ rs) ≡ true → levelsThere ls ≡ true) → Cases l (ls ++ rs) → levelsThere (l ∷ ls) ≡ true
+    go : (levelsStand (ls ++ rs) ≡ true → levelsStand ls ≡ true) → Cases l (ls ++ rs) → levelsStand (l ∷ ls) ≡ true
     go k (inl h) = rw (h .0, k (h .1))
     go k (inr h) = none-there (l ∷ ls) (none-front (l ∷ ls) rs h)
 
@@ -80,11 +80,11 @@ none-back : (ls : List Level) → noneOf ls ≡ true → noneOf (ls ++ noLevel �
 none-back [] e = refl
 none-back (l ∷ ls) e = let p = both (noneThere l) (noneOf ls) e in rw (p .0) (none-back ls (p .1))
 
-back-there : (ls : List Level) → levelsThere ls ≡ true → levelsThere (ls ++ noLevel ∷ []) ≡ true
+back-there : (ls : List Level) → levelsStand ls ≡ true → levelsStand (ls ++ noLevel ∷ []) ≡ true
 back-there [] e = refl
 back-there (l ∷ ls) e = go (back-there ls) (cases l ls e)
   where
-    go : (levelsThere ls ≡ true → levelsThere (ls ++ noLevel ∷ []) ≡ true) → Cases l ls → levelsThere (l ∷ (ls ++ noLevel ∷ [])) ≡ true
+    go : (levelsStand ls ≡ true → levelsStand (ls ++ noLevel ∷ []) ≡ true) → Cases l ls → levelsStand (l ∷ (ls ++ noLevel ∷ [])) ≡ true
     go k (inl h) = rw (h .0, k (h .1))
     go k (inr h) = none-there (l ∷ (ls ++ noLevel ∷ [])) (none-back (l ∷ ls) h)
 
@@ -109,7 +109,7 @@ none-parts l e =
     let p = three (eqb (l .vxr) 0) (eqb (l .next) 0) (eqb (l .last) 0) e in
     (eqb-true (l .vxr) 0 (p .0), eqb-true (l .next) 0 (p .1), eqb-true (l .last) 0 (p .2))
 
-head-small : (l : Level) (ls : List Level) → levelsThere (l ∷ ls) ≡ true → SmallLevel l
+head-small : (l : Level) (ls : List Level) → levelsStand (l ∷ ls) ≡ true → SmallLevel l
 head-small l ls e = go (cases l ls e)
   where
     go : Cases l ls → SmallLevel l
@@ -120,12 +120,12 @@ abbrev AllSmall : List Level → Type 0
 AllSmall [] = Unit {0}
 AllSmall (l ∷ ls) = SmallLevel l × AllSmall ls
 
-all-small : (ls : List Level) → levelsThere ls ≡ true → AllSmall ls
+all-small : (ls : List Level) → levelsStand ls ≡ true → AllSmall ls
 all-small [] e = tt
 all-small (l ∷ ls) e = (head-small l ls e, all-small ls (rest-there l ls e))
 
 -- none is there if the nearest is not
-head-none : (l : Level) (ls : List Level) → isNone l ≡ true → levelsThere (l ∷ ls) ≡ true → noneOf (l ∷ ls) ≡ true
+head-none : (l : Level) (ls : List Level) → isNone l ≡ true → levelsStand (l ∷ ls) ≡ true → noneOf (l ∷ ls) ≡ true
 unfolding isNone
 head-none l ls z e = go (cases l ls e)
   where
@@ -139,7 +139,7 @@ none-head l ls e = three (eqb (l .vxr) 0) (eqb (l .next) 0) (eqb (l .last) 0) (b
 
 -- ---- the levels above a place of the walk
 pub record Above (up : Levels) (w : W.Walk) : Type 0 where
-  pub there : levelsThere (levelList up) ≡ true
+  pub there : levelsStand (levelList up) ≡ true
   pub placed : Placed (up .a) w
 
 pub top-above : Above noLevels Start
@@ -173,16 +173,16 @@ module _ (up : Levels) where
   above-range (Unused p b) h = head-none (up .a) behind (h .placed) (h .there)
 
   -- one level down, one up
-  pub pushed-there : (l : Level) → SmallLevel l → 1 ≤ l .next → levelsThere (levelList up) ≡ true → levelsThere (levelList (pushed l up)) ≡ true
+  pub pushed-there : (l : Level) → SmallLevel l → 1 ≤ l .next → levelsStand (levelList up) ≡ true → levelsStand (levelList (pushed l up)) ≡ true
   pushed-there l s n e =
       let front = up .a ∷ up .b ∷ up .c ∷ up .d ∷ up .e ∷ up .f ∷ [] in
       rw (small-there l s n, front-there front (up .g ∷ []) e)
 
-  pub popped-there : levelsThere (levelList up) ≡ true → levelsThere (levelList (popped up)) ≡ true
+  pub popped-there : levelsStand (levelList up) ≡ true → levelsStand (levelList (popped up)) ≡ true
   popped-there e = back-there behind (rest-there (up .a) behind e)
 
   -- so their numbers are
-  pub levels-small : levelsThere (levelList up) ≡ true → SmallLevels up
+  pub levels-small : levelsStand (levelList up) ≡ true → SmallLevels up
   levels-small e =
       let s = all-small (levelList up) e in
       (s .0, s .1 .0, s .1 .1 .0, s .1 .1 .1 .0, s .1 .1 .1 .1 .0, s .1 .1 .1 .1 .1 .0, s .1 .1 .1 .1 .1 .1 .0)

@@ -1,7 +1,7 @@
 -- What a load makes of numbers, and of those of a save. Assumes nothing.
 use mathlib.Core.Path.{_≡_, refl, sym, ap, _∙_}
 use mathlib.Core.Bool.{Bool, true, false, cond, true≢false, _&&_}
-use mathlib.Core.List.{List, [], _∷_, _++_}
+use mathlib.Core.List.{List, [], _∷_}
 use Prim.Native.Nat.{ℕ, suc, _+_, _-_}
 use native.Mathlib.Omega.{arith}
 use lib.ListN.{length, getD, length-append}
@@ -15,7 +15,8 @@ use Rattle.checker.specs.declared.state.Stage.{Stage}
 use Rattle.checker.specs.declared.state.Stage.the-variants.{Fresh, Sweep, Walking, Done, Strange}
 use Rattle.checker.specs.declared.state.State.{State}
 use Rattle.checker.specs.Step.{done, answerOf}
-use Rattle.checker.specs.Saved.{stateLength, saveStage, levelsIn, saveLevels, save, stageRange, levelsBy, stageBy, begins, levelsFit, checked, verdictRange, load}
+use Rattle.checker.specs.Saved.{stateLength, saveStage, levelsIn, saveLevels, saveNumbers, save}
+use Rattle.checker.specs.Saved.{stageRange, stageBy, sameNumbers, checked, verdictRange, load}
 use Rattle.checker.proofs.Outcomes.{at}
 use Rattle.checker.proofs.Passed.{both}
 use Rattle.checker.specs.Ready.{Told, Loaded}
@@ -29,16 +30,13 @@ loaded-range n (Done v) e = absurd (true≢false (sym e))
 loaded-range n Strange e = tt
 
 checked-loaded : (s : List ℕ) (n : ℕ) (g : Stage) → Loaded n (checked s n g)
-checked-loaded s n g = go (stageRange n g && same && fit) refl
+checked-loaded s n g = go (stageRange n g && same) refl
   where
     same : Bool
-    same = begins (saveStage n g) s
+    same = sameNumbers (saveNumbers n g) s
 
-    fit : Bool
-    fit = levelsFit (levelsBy s) g
-
-    go : (b : Bool) → (stageRange n g && same && fit) ≡ b → Loaded n (cond b g Strange)
-    go true e = loaded-range n g (both (stageRange n g) same (both (stageRange n g && same) fit e .0) .0)
+    go : (b : Bool) → (stageRange n g && same) ≡ b → Loaded n (cond b g Strange)
+    go true e = loaded-range n g (both (stageRange n g) same e .0)
     go false e = tt
 
 record IsLoaded (s : State) : Type 0 where
@@ -58,39 +56,36 @@ load-is l = go (eqb (getD l 0 0) 0) (verdictRange (getD l 0 0 - 1)) refl .loaded
     go false false e = record { loaded = tt }
 
 -- ---- of the numbers of a save it makes the state again
-begins-own : (l r : List ℕ) → begins l (l ++ r) ≡ true
-begins-own [] r = refl
-begins-own (x ∷ xs) r = rw (eq-eqb x x refl, begins-own xs r)
+same-own : (l : List ℕ) → sameNumbers l l ≡ true
+same-own [] = refl
+same-own (x ∷ xs) = rw (eq-eqb x x refl, same-own xs)
 
 module _ (n : ℕ) where
-  abbrev saveBoth : Stage → List ℕ
-  saveBoth g = saveStage n g ++ saveLevels (levelsIn g)
+  self : (g : Stage) → stageRange n g ≡ true → _≡_ {A = State} (at n (checked (saveNumbers n g) n g)) (at n g)
+  self g h = rw (h, same-own (saveNumbers n g))
 
-  self : (g : Stage) → stageRange n g ≡ true → levelsFit (levelsBy (saveBoth g)) g ≡ true → _≡_ {A = State} (at n (checked (saveBoth g) n g)) (at n g)
-  self g h k = rw (h, begins-own (saveStage n g) (saveLevels (levelsIn g)), k)
-
-  load-walk : (w : W.Walk) (up : Levels) → stageRange n (Walking w up) ≡ true → load (saveBoth (Walking w up)) ≡ at n (Walking w up)
+  load-walk : (w : W.Walk) (up : Levels) → stageRange n (Walking w up) ≡ true → load (saveNumbers n (Walking w up)) ≡ at n (Walking w up)
   unfolding load stageBy
-  load-walk Start up h = self (Walking Start up) h refl
-  load-walk (Vars k p i g) up h = self (Walking (Vars k p i g) up) h refl
-  load-walk (Chain u p x floor true) up h = self (Walking (Chain u p x floor true) up) h refl
-  load-walk (Chain u p x floor false) up h = self (Walking (Chain u p x floor false) up) h refl
-  load-walk (Entry u x i floor true) up h = self (Walking (Entry u x i floor true) up) h refl
-  load-walk (Entry u x i floor false) up h = self (Walking (Entry u x i floor false) up) h refl
-  load-walk (Attrs p i) up h = self (Walking (Attrs p i) up) h refl
-  load-walk (Entries k a i p e g) up h = self (Walking (Entries k a i p e g) up) h refl
-  load-walk (Unused p b) up h = self (Walking (Unused p b) up) h refl
+  load-walk Start up h = self (Walking Start up) h
+  load-walk (Vars k p i g) up h = self (Walking (Vars k p i g) up) h
+  load-walk (Chain u p x floor true) up h = self (Walking (Chain u p x floor true) up) h
+  load-walk (Chain u p x floor false) up h = self (Walking (Chain u p x floor false) up) h
+  load-walk (Entry u x i floor true) up h = self (Walking (Entry u x i floor true) up) h
+  load-walk (Entry u x i floor false) up h = self (Walking (Entry u x i floor false) up) h
+  load-walk (Attrs p i) up h = self (Walking (Attrs p i) up) h
+  load-walk (Entries k a i p e g) up h = self (Walking (Entries k a i p e g) up) h
+  load-walk (Unused p b) up h = self (Walking (Unused p b) up) h
 
-  load-done : (v : ℕ) → Told v → load (saveBoth (Done v)) ≡ done v
+  load-done : (v : ℕ) → Told v → load (saveNumbers n (Done v)) ≡ done v
   unfolding load
   load-done v t =
       let less : suc v - 1 ≡ v = omega arith in
       rw (eqb·suc-zero v, less, t .in-range)
 
-  load-stage : (g : Stage) → Loaded n g → load (saveBoth g) ≡ at n g
+  load-stage : (g : Stage) → Loaded n g → load (saveNumbers n g) ≡ at n g
   unfolding load stageBy
-  load-stage Fresh h = self Fresh h refl
-  load-stage (Sweep o) h = self (Sweep o) h refl
+  load-stage Fresh h = self Fresh h
+  load-stage (Sweep o) h = self (Sweep o) h
   load-stage (Walking w up) h = load-walk w up h
   load-stage (Done v) h = load-done v (h .1) ∙ ap (λ (k : ℕ). at k (Done v)) (sym (h .0))
   load-stage Strange h = refl

@@ -26,7 +26,7 @@ use Rattle.checker.specs.declared.state.Stage.{Stage}
 use Rattle.checker.specs.declared.state.Stage.the-variants.{Fresh, Sweep, Walking, Done, Strange}
 use Rattle.checker.specs.declared.state.State.{State}
 use Rattle.checker.specs.Step.{Conf, conf, Run, fresh, finished, stepOf, runOf}
-use Rattle.checker.specs.Saved.{save, lengthRange, offsetRange, linkRange, countRange, varRange, walkRange, levelsThere, levelList, levelsRange}
+use Rattle.checker.specs.Saved.{save, lengthRange, offsetRange, linkRange, countRange, varRange, walkRange, levelsStand, levelList, levelsRange}
 use Rattle.checker.specs.Grant.{otherFile, worked, grantBy, grantOf}
 use Rattle.checker.proofs.Placed.{NextPlaced, placed-turn}
 use Rattle.checker.proofs.Above.{Above, top-above, range-above, above-range, pushed-there, popped-there, levels-small}
@@ -211,7 +211,7 @@ module _ (Odd : ℕ → List ℕ → Type 0) (f : List ℕ) where
 
       turn : (up : Levels) (t : T.Turn)
           → Noted f n m
-          → levelsThere (levelList up) ≡ true
+          → levelsStand (levelList up) ≡ true
           → NextWithin t
           → NextPlaced (up .a) t
           → TurnGoes (Sound Odd f) f m n up t

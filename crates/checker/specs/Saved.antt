@@ -56,8 +56,12 @@ abbrev pub saveLevels : Levels → List ℕ
 saveLevels s =
     saveLevel (s .a) ++ (saveLevel (s .b) ++ (saveLevel (s .c) ++ (saveLevel (s .d) ++ (saveLevel (s .e) ++ (saveLevel (s .f) ++ saveLevel (s .g))))))
 
+-- all thirty-three
+abbrev pub saveNumbers : ℕ → Stage → List ℕ
+saveNumbers l g = saveStage l g ++ saveLevels (levelsIn g)
+
 unfoldable pub save : State → List ℕ
-save s = saveStage (s .length) (s .stage) ++ saveLevels (levelsIn (s .stage))
+save s = saveNumbers (s .length) (s .stage)
 
 -- ---- ranges
 -- a length that an opening notes; an offset, a place in a list or an entry; where a link stands; a count, or a number + 1
@@ -100,16 +104,16 @@ noneOf [] = true
 noneOf (l ∷ ls) = noneThere l && noneOf ls
 
 -- "After a level that is not there none is there"
-abbrev pub levelsThere : List Level → Bool
-levelsThere [] = true
-levelsThere (l ∷ ls) = (levelThere l && levelsThere ls) || noneOf (l ∷ ls)
+abbrev pub levelsStand : List Level → Bool
+levelsStand [] = true
+levelsStand (l ∷ ls) = (levelThere l && levelsStand ls) || noneOf (l ∷ ls)
 
 -- levels stand above an index record alone
 abbrev pub levelsRange : Levels → W.Walk → Bool
 levelsRange up Start = noneOf (levelList up)
 levelsRange up (Vars k p n g) = noneOf (levelList up)
-levelsRange up (Chain u p x floor c) = levelsThere (levelList up)
-levelsRange up (Entry u x i floor c) = levelsThere (levelList up)
+levelsRange up (Chain u p x floor c) = levelsStand (levelList up)
+levelsRange up (Entry u x i floor c) = levelsStand (levelList up)
 levelsRange up (Attrs p n) = noneOf (levelList up)
 levelsRange up (Entries k a n p e g) = noneOf (levelList up)
 levelsRange up (Unused p b) = noneOf (levelList up)
@@ -163,23 +167,15 @@ listBy s phase =
 unfoldable pub stageBy : List ℕ → ℕ → Stage
 stageBy s phase = cond (eqb phase 0) Fresh (cond (eqb phase 1) (Sweep (getD s 4 0)) (cond (eqb phase 2) (walkingBy s Start) (listBy s phase)))
 
--- s begins with the numbers of xs
-abbrev pub begins : List ℕ → List ℕ → Bool
-begins [] s = true
-begins (x ∷ xs) [] = false
-begins (x ∷ xs) (y ∷ ys) = eqb x y && begins xs ys
-
--- a stage that is no walk has no levels
-abbrev pub levelsFit : Levels → Stage → Bool
-levelsFit up Fresh = noneOf (levelList up)
-levelsFit up (Sweep o) = noneOf (levelList up)
-levelsFit up (Walking w ls) = true
-levelsFit up (Done v) = true
-levelsFit up Strange = true
+abbrev pub sameNumbers : List ℕ → List ℕ → Bool
+sameNumbers [] [] = true
+sameNumbers [] (y ∷ ys) = false
+sameNumbers (x ∷ xs) [] = false
+sameNumbers (x ∷ xs) (y ∷ ys) = eqb x y && sameNumbers xs ys
 
 -- the numbers are those of that stage: each in its range, and those without a place in it 0
 abbrev pub checked : List ℕ → ℕ → Stage → Stage
-checked s l g = cond (stageRange l g && begins (saveStage l g) s && levelsFit (levelsBy s) g) g Strange
+checked s l g = cond (stageRange l g && sameNumbers (saveNumbers l g) s) g Strange
 
 -- "finished": the verdict number alone says so, 0 to 14, 20 and 23
 abbrev pub verdictRange : ℕ → Bool

@@ -4,7 +4,7 @@ ghost use mathlib.Core.List.{_++_};
 ghost use Prim.Native.Nat.{_+_, _≤_};
 ghost use lib.ListN.{length, take};
 ghost use Rattle.checker.specs.Ready.{VerdictFits};
-ghost use Rattle.checker.specs.Saved.{bit, saveWalk, saveStage, levelsIn, saveLevels, save, varRange, walkRange, levelThere, noneThere, levelList, noneOf, levelsThere, levelsRange, stageRange, varBy, levelBy, levelsBy, walkingBy, laterBy, listBy, stageBy, begins, levelsFit, checked, load};
+ghost use Rattle.checker.specs.Saved.{bit, saveWalk, saveStage, levelsIn, saveLevels, save, varRange, walkRange, levelThere, noneThere, levelList, noneOf, levelsStand, levelsRange, stageRange, varBy, levelBy, levelsBy, walkingBy, laterBy, listBy, stageBy, sameNumbers, checked, load};
 use crate::state::Stage;
 use crate::state::State;
 use crate::steps;
@@ -209,8 +209,8 @@ fn none_of(s: Levels) -> bool
 }
 
 // After a level that is not there none is there.
-fn levels_there(s: Levels) -> bool
-    ensures { λ r. ⌜ r ≡ levelsThere (levelList s) ⌝ }
+fn levels_stand(s: Levels) -> bool
+    ensures { λ r. ⌜ r ≡ levelsStand (levelList s) ⌝ }
 {
     let a = s.a;
     let b = s.b;
@@ -243,8 +243,8 @@ fn levels_range(up: Levels, w: Walk) -> bool
     match w {
         Walk::Start => none,
         Walk::Vars { .. } => none,
-        Walk::Chain { .. } => levels_there(up),
-        Walk::Entry { .. } => levels_there(up),
+        Walk::Chain { .. } => levels_stand(up),
+        Walk::Entry { .. } => levels_stand(up),
         Walk::Attrs { .. } => none,
         Walk::Entries { .. } => none,
         Walk::Unused { .. } => none,
@@ -423,32 +423,19 @@ fn stage_of(s: &[u32], phase: u32) -> Stage
     list_of(s, phase)
 }
 
-// A slice begins with twelve numbers.
-fn begins_with(a: [u32; 12], s: &[u32]) -> bool
-    requires { ⌜ length (now s) ≡ 33 ⌝ }
-    ensures { λ r. ⌜ r ≡ begins a (now (s .entry)) ⌝ }
+// Two lists of numbers are the same.
+fn same_numbers(a: &[u32], s: &[u32]) -> bool
+    requires { ⌜ (length (now a) ≡ 33) × (length (now s) ≡ 33) ⌝ }
+    ensures { λ r. ⌜ r ≡ sameNumbers (now (a .entry)) (now (s .entry)) ⌝ }
 {
     let mut i = 0;
-    while i < 12 {
+    while i < 33 {
         if a[i] != s[i] {
             return false;
         }
         i += 1;
     }
     true
-}
-
-// A stage that is no walk has no levels.
-fn levels_fit(up: Levels, g: Stage) -> bool
-    ensures { λ r. ⌜ r ≡ levelsFit up g ⌝ }
-{
-    match g {
-        Stage::Fresh => none_of(up),
-        Stage::Sweep { at: _ } => none_of(up),
-        Stage::Walking { walk: _, up: _ } => true,
-        Stage::Done { verdict: _ } => true,
-        Stage::Strange => true,
-    }
 }
 
 // A stage, or that its numbers are not those of a saved state.
@@ -459,10 +446,15 @@ fn checked_stage(s: &[u32], l: u32, g: Stage) -> Stage
     if !stage_range(l, g) {
         return Stage::Strange;
     }
-    if !begins_with(stage_numbers(l, g), s) {
-        return Stage::Strange;
-    }
-    if !levels_fit(levels_of(s), g) {
+    let mut own = [0u32; 33];
+    save_state(
+        &mut own,
+        State {
+            length: l,
+            stage: g,
+        },
+    );
+    if !same_numbers(&own, s) {
         return Stage::Strange;
     }
     g

@@ -14,14 +14,14 @@ enum-told-2 c = search needs
 enum-told-3 : tie.Need-enum-told-3
 enum-told-3 c = search needs
 
-levels-there-requires : tie.Need-levels-there-requires
-levels-there-requires c κs = search needs
+levels-stand-requires : tie.Need-levels-stand-requires
+levels-stand-requires c κs = search needs
 
 enum-told-4 : tie.Need-enum-told-4
 enum-told-4 c = search needs
 
-levels-there-requires-2 : tie.Need-levels-there-requires-2
-levels-there-requires-2 c κs = search needs
+levels-stand-requires-2 : tie.Need-levels-stand-requires-2
+levels-stand-requires-2 c κs = search needs
 
 enum-told-5 : tie.Need-enum-told-5
 enum-told-5 c = search needs
@@ -39,10 +39,10 @@ returns-2 : tie.Need-returns-2
 returns-2 c = rw (c .enum-told2 .given .1) (c .before .before .none-of .ensures)
 
 returns-3 : tie.Need-returns-3
-returns-3 c = rw (c .before .enum-told3 .given .1) (c .levels-there .ensures)
+returns-3 c = rw (c .before .enum-told3 .given .1) (c .levels-stand .ensures)
 
 returns-4 : tie.Need-returns-4
-returns-4 c = rw (c .before .enum-told4 .given .1) (c .levels-there2 .ensures)
+returns-4 c = rw (c .before .enum-told4 .given .1) (c .levels-stand2 .ensures)
 
 returns-5 : tie.Need-returns-5
 returns-5 c = rw (c .enum-told5 .given .1) (c .before .before .none-of .ensures)
@@ -61,9 +61,9 @@ levels-range-spec =
     enum-told
     enum-told-2
     enum-told-3
-    levels-there-requires
+    levels-stand-requires
     enum-told-4
-    levels-there-requires-2
+    levels-stand-requires-2
     enum-told-5
     enum-told-6
     enum-told-7

@@ -1,7 +1,7 @@
 use Rattle.checker.proofs.Above.{last-tested, more-tested}
 use borrow.Author.Needs.{needs}
-use Rattle.checker.proofs.saved.levels_there.Statement.{statement}
-use Rattle.checker.proofs.saved.levels_there.Tie as tie
+use Rattle.checker.proofs.saved.levels_stand.Statement.{statement}
+use Rattle.checker.proofs.saved.levels_stand.Tie as tie
 
 none-there-requires : tie.Need-none-there-requires
 none-there-requires c κs = search needs
@@ -69,8 +69,8 @@ returns c =
     let from-b = more-tested (s .b) (c8 .none-there6 .ensures) (c1 .level-there6 .ensures) from-c in
     more-tested (s .a) (c7 .none-there7 .ensures) (c .level-there7 .ensures) from-b .there-is
 
-pub levels-there-spec : {M : Type 1} → statement M
-levels-there-spec =
+pub levels-stand-spec : {M : Type 1} → statement M
+levels-stand-spec =
     tie.close
     (tie.spec
     none-there-requires
