@@ -1,8 +1,8 @@
-use mathlib.Core.Path.{_≡_, sym}
-use native.Mathlib.Omega.{arith}
-use borrow.Author.Tests.{lt-ltb, le-ltb, not-true, not-false}
-use Rattle.records.specs.Index.{rangeNumber}
 use Rattle.records.proofs.Ranges.{range-bounds}
+use Rattle.records.specs.Index.{closes, rangeNumber}
+use borrow.Author.Tests.{lt-ltb, le-ltb, lt-leb, le-leb, not-true, not-false}
+use native.Mathlib.Omega.{arith}
+use mathlib.Core.Path.{_≡_, sym}
 use borrow.Author.Needs.{needs}
 use Rattle.records.proofs.index.range_number.Statement.{statement}
 use Rattle.records.proofs.index.range_number.Tie as tie
@@ -14,47 +14,54 @@ rising-requires : tie.Need-rising-requires
 rising-requires c κs = search needs
 
 returns : tie.Need-returns
-unfolding rangeNumber
+unfolding rangeNumber closes
 returns c = (simp (← c .before .rising .ensures, not-true (c .before .rising .result) (c .if1 .taken)), λ z. omega arith)
 
 add-if2 : tie.Need-add-if2
 add-if2 c = search needs
 
 returns-2 : tie.Need-returns-2
-unfolding rangeNumber
-returns-2 c = (
-  simp (← c .before .before .rising .ensures, not-false (c .before .before .rising .result) (c .before .if1 .left), ← c .before .before .before .end .ensures .0, lt-ltb _ _ (c .if2 .taken)),
-  λ z. omega arith,
-)
+unfolding rangeNumber closes
+returns-2 c = (simp (← c .before .before .rising .ensures, not-false (c .before .before .rising .result) (c .before .if1 .left), ← c .before .before .before .end .ensures .0, lt-ltb _ _ (c .if2 .taken)), λ z. omega arith)
 
-closing-requires : tie.Need-closing-requires
-closing-requires c κs = search needs
+in-order-requires : tie.Need-in-order-requires
+in-order-requires c κs = search needs
 
 returns-3 : tie.Need-returns-3
-unfolding rangeNumber
-returns-3 c = (
-  simp (← c .before .before .before .before .rising .ensures, not-false (c .before .before .before .before .rising .result) (c .before .before .before .if1 .left), ← c .before .before .before .before .before .end .ensures .0, le-ltb _ _ (c .before .before .if2 .left), ← c .before .closing .ensures, not-true (c .before .closing .result) (c .if3 .taken)),
-  λ z. omega arith,
-)
+unfolding rangeNumber closes
+returns-3 c = (simp (← c .before .before .before .before .rising .ensures, not-false (c .before .before .before .before .rising .result) (c .before .before .before .if1 .left), ← c .before .before .before .before .before .end .ensures .0, le-ltb _ _ (c .before .before .if2 .left), ← c .before .in-order .ensures, not-true (c .before .in-order .result) (c .if3 .taken)), λ z. omega arith)
 
-add-if4 : tie.Need-add-if4
-add-if4 c = search needs
+nat-at-requires : tie.Need-nat-at-requires
+nat-at-requires c κs = search needs
 
 returns-4 : tie.Need-returns-4
-unfolding rangeNumber
-returns-4 c = (
-  simp (← c .before .before .before .before .before .rising .ensures, not-false (c .before .before .before .before .before .rising .result) (c .before .before .before .before .if1 .left), ← c .before .before .before .before .before .before .end .ensures .0, le-ltb _ _ (c .before .before .before .if2 .left), ← c .before .before .closing .ensures, not-false (c .before .before .closing .result) (c .before .if3 .left), lt-ltb _ _ (c .if4 .taken)),
-  λ z. omega arith,
-)
+unfolding rangeNumber closes
+returns-4 c = (simp (← c .before .before .before .before .before .before .rising .ensures, not-false (c .before .before .before .before .before .before .rising .result) (c .before .before .before .before .before .if1 .left), ← c .before .before .before .before .before .before .before .end .ensures .0, le-ltb _ _ (c .before .before .before .before .if2 .left), ← c .before .before .before .in-order .ensures, not-false (c .before .before .before .in-order .result) (c .before .before .if3 .left), ← c .before .nat-at .ensures .0, lt-leb _ _ (c .if4 .taken)), λ z. omega arith)
+
+add-if5 : tie.Need-add-if5
+add-if5 c = search needs
 
 returns-5 : tie.Need-returns-5
-unfolding rangeNumber
-returns-5 c =
-    let a = c .before .before .before .before .before .before .before .before .args in
-    let right : rangeNumber (a .f .now) (a .first) (a .last) (a .offset) (a .floor) (a .most) ≡ 0 =
-    simp (← c .before .before .before .before .before .rising .ensures, not-false (c .before .before .before .before .before .rising .result) (c .before .before .before .before .if1 .left), ← c .before .before .before .before .before .before .end .ensures .0, le-ltb _ _ (c .before .before .before .if2 .left), ← c .before .before .closing .ensures, not-false (c .before .before .closing .result) (c .before .if3 .left), le-ltb _ _ (c .if4 .left)) in
-    (sym right, λ z. range-bounds (a .f .now) (a .first) (a .last) (a .offset) (a .floor) (a .most) right)
+unfolding rangeNumber closes
+returns-5 c = (simp (← c .before .before .before .before .before .before .before .rising .ensures, not-false (c .before .before .before .before .before .before .before .rising .result) (c .before .before .before .before .before .before .if1 .left), ← c .before .before .before .before .before .before .before .before .end .ensures .0, le-ltb _ _ (c .before .before .before .before .before .if2 .left), ← c .before .before .before .before .in-order .ensures, not-false (c .before .before .before .before .in-order .result) (c .before .before .before .if3 .left), ← c .before .before .nat-at .ensures .0, le-leb _ _ (c .before .if4 .left), lt-ltb _ _ (c .if5 .taken)), λ z. omega arith)
+
+returns-6 : tie.Need-returns-6
+unfolding rangeNumber closes
+returns-6 c = let a = c .before .before .before .before .before .before .before .before .before .before .args in let right : rangeNumber (a .f .now) (a .first) (a .last) (a .offset) (a .floor) (a .most) ≡ 0 = simp (← c .before .before .before .before .before .before .before .rising .ensures, not-false (c .before .before .before .before .before .before .before .rising .result) (c .before .before .before .before .before .before .if1 .left), ← c .before .before .before .before .before .before .before .before .end .ensures .0, le-ltb _ _ (c .before .before .before .before .before .if2 .left), ← c .before .before .before .before .in-order .ensures, not-false (c .before .before .before .before .in-order .result) (c .before .before .before .if3 .left), ← c .before .before .nat-at .ensures .0, le-leb _ _ (c .before .if4 .left), le-ltb _ _ (c .if5 .left)) in (sym right, λ z. range-bounds (a .f .now) (a .first) (a .last) (a .offset) (a .floor) (a .most) right)
 
 pub range-number-spec : {M : Type 1} → statement M
 range-number-spec =
-    tie.close (tie.spec end-requires rising-requires returns add-if2 returns-2 closing-requires returns-3 add-if4 returns-4 returns-5)
+    tie.close
+    (tie.spec
+    end-requires
+    rising-requires
+    returns
+    add-if2
+    returns-2
+    in-order-requires
+    returns-3
+    nat-at-requires
+    returns-4
+    add-if5
+    returns-5
+    returns-6)
