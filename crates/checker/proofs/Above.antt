@@ -137,6 +137,16 @@ none-head : (l : Level) (ls : List Level) → noneOf (l ∷ ls) ≡ true → isN
 unfolding isNone
 none-head l ls e = three (eqb (l .vxr) 0) (eqb (l .next) 0) (eqb (l .last) 0) (both (noneThere l) (noneOf ls) e .0) .1
 
+pub none-tested : (l : Level) (ls : List Level) → (levelsStand (l ∷ ls) && isNone l) ≡ noneOf (l ∷ ls)
+none-tested l ls = go (levelsStand (l ∷ ls)) (isNone l) (noneOf (l ∷ ls)) (λ e z. head-none l ls z e) (none-there (l ∷ ls)) (none-head l ls)
+  where
+    go : (s z n : Bool) → (s ≡ true → z ≡ true → n ≡ true) → (n ≡ true → s ≡ true) → (n ≡ true → z ≡ true) → (s && z) ≡ n
+    go true true n h a b = sym (h refl refl)
+    go true false true h a b = b refl
+    go true false false h a b = refl
+    go false z true h a b = a refl
+    go false z false h a b = refl
+
 -- ---- the levels above a place of the walk
 pub record Above (up : Levels) (w : W.Walk) : Type 0 where
   pub there : levelsStand (levelList up) ≡ true

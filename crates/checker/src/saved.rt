@@ -192,22 +192,6 @@ fn none_there(l: Level) -> bool
     (l.vxr == 0) & (l.next == 0) & (l.last == 0)
 }
 
-// No level is there.
-fn none_of(s: Levels) -> bool
-    ensures { λ r. ⌜ r ≡ noneOf (levelList s) ⌝ }
-{
-    let a = s.a;
-    let b = s.b;
-    let c = s.c;
-    let d = s.d;
-    let e = s.e;
-    let f = s.f;
-    let g = s.g;
-    none_there(a)
-        & (none_there(b)
-            & (none_there(c) & (none_there(d) & (none_there(e) & (none_there(f) & none_there(g))))))
-}
-
 // After a level that is not there none is there.
 fn levels_stand(s: Levels) -> bool
     ensures { λ r. ⌜ r ≡ levelsStand (levelList s) ⌝ }
@@ -233,6 +217,14 @@ fn levels_stand(s: Levels) -> bool
     let from_c = (level_there(c) & from_d) | none_c;
     let from_b = (level_there(b) & from_c) | none_b;
     (level_there(a) & from_b) | none_a
+}
+
+// No level is there: the nearest is not.
+fn none_of(s: Levels) -> bool
+    ensures { λ r. ⌜ r ≡ noneOf (levelList s) ⌝ }
+{
+    let nearest = s.a;
+    levels_stand(s) & levels::is_none(nearest)
 }
 
 // Levels stand above an index record alone.
