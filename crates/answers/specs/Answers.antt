@@ -9,6 +9,7 @@ use Rattle.values.specs.declared.value.Answer.{Answer}
 use Rattle.values.specs.declared.value.Decoded.{Decoded}
 use Rattle.values.specs.declared.value.Decoded.the-variants.{Given, Vax, Nothing}
 use Rattle.values.specs.Values.{decodedOf}
+use Rattle.records.specs.Opening.{bodyOf}
 use Rattle.records.specs.Attributes.{elementSize}
 use Rattle.variables.specs.Vdr.{variableOf}
 use Rattle.variables.specs.Place.{placeOf}
@@ -75,7 +76,7 @@ valueOn f k r is x (Stopped n) = Refused n
 
 -- A VALUE: "asked by kind, number, record, indices and element"
 unfoldable pub valueRead : List ℕ → ℤ → ℤ → ℤ → List ℤ → ℤ → Read
-valueRead f k n r is x = valueOn f (kindAmong 3 8 k) r is x (variableWay f k n)
+valueRead f k n r is x = valueOn (bodyOf f) (kindAmong 3 8 k) r is x (variableWay f k n)
 
 -- "data type 16, .. elements 24 .., value from 48"
 abbrev pub entryOn : List ℕ → ℤ → Way → Read
@@ -84,7 +85,7 @@ entryOn f x (Stopped n) = Refused n
 
 -- AN ENTRY'S VALUE, of the entry that is wanted, at a place of its list or of a number
 unfoldable pub entryValue : List ℕ → ℤ → ℤ → Wanted → ℤ → Read
-entryValue f a k w x = entryOn f x (entryWay f a k w)
+entryValue f a k w x = entryOn (bodyOf f) x (entryWay f a k w)
 
 -- "by attribute, kind, entry number and element"
 abbrev pub entryRead : List ℕ → ℤ → ℤ → ℤ → ℤ → Read
@@ -103,4 +104,4 @@ padOn f k x (Stopped n) = Refused n
 
 -- A PAD VALUE: "pad value as elements (18 if there is none)"
 unfoldable pub padRead : List ℕ → ℤ → ℤ → ℤ → Read
-padRead f k n x = padOn f (kindAmong 3 8 k) x (variableWay f k n)
+padRead f k n x = padOn (bodyOf f) (kindAmong 3 8 k) x (variableWay f k n)

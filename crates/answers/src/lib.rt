@@ -9,6 +9,7 @@ ghost use Rattle.answers.specs.Answers.{answered, elementThere, elementR
 ghost use Rattle.answers.specs.Bounds.{Inside, Fits};
 use format::fields;
 use format::types;
+use records::opening;
 use values::value;
 use values::value::Answer;
 use values::value::Decoded;
@@ -103,11 +104,12 @@ fn in_variable(f: &[u8], v: u32, left: u32, u: Variable, r: i64, indices: &[i64]
 pub fn read_value(f: &[u8], kind: i64, number: i64, r: i64, indices: &[i64], x: i64) -> Read
     ensures { λ q. ⌜ q ≡ valueRead (now (f .entry)) kind number r (now (indices .entry)) x ⌝ }
 {
-    let way = lists::to_variable(f, kind, number);
+    let b = opening::body(f);
+    let way = lists::to_variable(f, b, kind, number);
     match way {
         Way::Found { at, left } => {
-            let u = vdr::known_at(f, lists::kind_among(3, 8, kind), at);
-            in_variable(f, at, left, u, r, indices, x)
+            let u = vdr::known_at(b, lists::kind_among(3, 8, kind), at);
+            in_variable(b, at, left, u, r, indices, x)
         }
         Way::Stopped { number } => Read::Refused(number),
     }
@@ -117,11 +119,12 @@ pub fn read_value(f: &[u8], kind: i64, number: i64, r: i64, indices: &[i64], x: 
 pub fn read_entry(f: &[u8], attribute: i64, kind: i64, w: Wanted, x: i64) -> Read
     ensures { λ q. ⌜ q ≡ entryValue (now (f .entry)) attribute kind w x ⌝ }
 {
-    let way = lists::to_entry(f, attribute, kind, w);
+    let b = opening::body(f);
+    let way = lists::to_entry(f, b, attribute, kind, w);
     match way {
         Way::Found { at, left: _ } => {
             let e = at as usize;
-            element(f, at as u64 + 48, e + 16, e + 24, x)
+            element(b, at as u64 + 48, e + 16, e + 24, x)
         }
         Way::Stopped { number } => Read::Refused(number),
     }
@@ -149,11 +152,12 @@ fn in_pad(f: &[u8], v: u32, u: Variable, x: i64) -> Read
 pub fn read_pad(f: &[u8], kind: i64, number: i64, x: i64) -> Read
     ensures { λ q. ⌜ q ≡ padRead (now (f .entry)) kind number x ⌝ }
 {
-    let way = lists::to_variable(f, kind, number);
+    let b = opening::body(f);
+    let way = lists::to_variable(f, b, kind, number);
     match way {
         Way::Found { at, left: _ } => {
-            let u = vdr::known_at(f, lists::kind_among(3, 8, kind), at);
-            in_pad(f, at, u, x)
+            let u = vdr::known_at(b, lists::kind_among(3, 8, kind), at);
+            in_pad(b, at, u, x)
         }
         Way::Stopped { number } => Read::Refused(number),
     }

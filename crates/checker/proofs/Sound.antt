@@ -10,7 +10,8 @@ use lib.Dec.{ltb, leb, eqb}
 use borrow.Author.Tests.{leb-true, ltb-false, eqb-true, le-leb, le-ltb, eq-eqb, ne-eqb}
 use Rattle.format.specs.Fields.{endOf}
 use Rattle.records.specs.Rules.{sizeAt}
-use Rattle.records.specs.Opening.{tooLong, magicsRight, whollyCompressed, cdrRight, singleFile, gdrAt, gdrRight, opening}
+use Rattle.records.specs.Opening.{tooLong, opening, bodyOf}
+use Rattle.records.proofs.Bodies.{opening-passes, body-le}
 use Rattle.marks.specs.Marks.{marked}
 use Rattle.walk.specs.Bounds.{VarKind, EntryKind, SmallVar, Within}
 use Rattle.walk.specs.Levels.{noLevels, roomBelow}
@@ -180,17 +181,6 @@ pub record Sound (Odd : ℕ → List ℕ → Type 0) (f : List ℕ) (c : Conf) :
 abbrev pub Own : List ℕ → ℕ → List ℕ → Type 0
 Own f n m = otherFile f m n ≡ false
 
-long-enough : (f : List ℕ) → opening f ≡ 0 → 372 ≤ length f
-unfolding opening
-long-enough f e = go (leb 372 (length f)) refl e
-  where
-    rest : ℕ
-    rest = cond (whollyCompressed f) 4 (cond (cdrRight f) (cond (singleFile f) (cond (gdrRight f (gdrAt f)) 0 6) 14) 5)
-
-    go : (b : Bool) → leb 372 (length f) ≡ b → cond (b && magicsRight f) rest 3 ≡ 0 → 372 ≤ length f
-    go true h e = leb-true 372 (length f) h
-    go false h e = absurd (omega arith)
-
 not-long : (f : List ℕ) → tooLong f ≡ false → length f ≤ 2147483647
 unfolding tooLong
 not-long f e = ltb-false 2147483647 (length f) e
@@ -203,6 +193,9 @@ module _ (Odd : ℕ → List ℕ → Type 0) (f : List ℕ) where
       m : List ℕ
       m = c .marks
 
+      b : List ℕ
+      b = bodyOf f
+
       n : ℕ
       n = c .state .length
 
@@ -214,7 +207,7 @@ module _ (Odd : ℕ → List ℕ → Type 0) (f : List ℕ) where
           → levelsStand (levelList up) ≡ true
           → NextWithin t
           → NextPlaced (up .a) t
-          → TurnGoes (Sound Odd f) f m n up t
+          → TurnGoes (Sound Odd f) b m n up t
       turn up (Over w v) a e b p = record { sound = (a, b, record { there = e; placed = p }) }
       turn up (End v) a e b p = tt
       turn up (Take w early t typed late) a e b p =
@@ -231,21 +224,22 @@ module _ (Odd : ℕ → List ℕ → Type 0) (f : List ℕ) where
       goes : (s : Stage) → SoundBy Odd f n m s → Goes (Sound Odd f) f m n s
       goes Fresh g = λ e.
           let p = opened f m e in
-          record { sound = ((refl, long-enough f (p .2), not-long f (p .0), p .1), omega arith, omega arith) }
+          record { sound = ((refl, opening-passes f (p .2) .least, not-long f (p .0), p .1), omega arith, omega arith) }
       goes (Sweep o) g = λ e.
-          let t = tiled f o e in
+          let t = tiled b o e in
           let a = g .0 in
-          let fits : o + sizeAt f o ≤ length m = omega arith in
-          let l : length (marked m o (sizeAt f o)) ≡ length m = marked-length m o (sizeAt f o) fits in
-          let next = o + sizeAt f o in
-          let noted : Noted f n (marked m o (sizeAt f o)) = (a .0, a .1, a .2, rw l (a .3)) in
-          record { sound = swept (marked m o (sizeAt f o)) next noted (omega arith) (omega arith) (eqb next (endOf f)) }
+          let less = body-le f in
+          let fits : o + sizeAt b o ≤ length m = omega arith in
+          let l : length (marked m o (sizeAt b o)) ≡ length m = marked-length m o (sizeAt b o) fits in
+          let next = o + sizeAt b o in
+          let noted : Noted f n (marked m o (sizeAt b o)) = (a .0, a .1, a .2, rw l (a .3)) in
+          record { sound = swept (marked m o (sizeAt b o)) next noted (omega arith) (omega arith) (eqb next (endOf b)) }
       goes (Walking w up) g =
           let near = up .a in
           let room = roomBelow up in
           let there = g .2 .there in
-          turn up (turnOf f up w) (g .0) there
-          (within-turn f near room w (levels-small up there .0) (g .1) .next-within) (placed-turn f near room w (g .2 .placed) .next-placed)
+          turn up (turnOf b up w) (g .0) there
+          (within-turn b near room w (levels-small up there .0) (g .1) .next-within) (placed-turn b near room w (g .2 .placed) .next-placed)
       goes (Done v) g = tt
       goes Strange g = tt
 

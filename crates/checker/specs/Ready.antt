@@ -1,4 +1,4 @@
--- What a step may count on: that the marks are as long as the file, that its numbers are in their ranges, and that a verdict is one. Assumes nothing.
+-- What a step may count on: that the marks are no fewer than the bytes, that its numbers are in their ranges, and that a verdict is one. Assumes nothing.
 use Prim.Native.Nat.{ℕ, _≤_}
 use mathlib.Core.List.{List}
 use lib.ListN.{length}
@@ -25,7 +25,7 @@ wentTo n up (Over v) = done v
 abbrev pub overTo : ℕ → W.Walk → Went
 overTo v w = cond (eqb v 0) (On w) (Over v)
 
--- the file is one that an opening lets pass, and the marks are long enough
+-- the bytes f are no more than an offset can say, and the marks m no fewer
 pub record Lent (f m : List ℕ) : Type 0 where
   pub marks : length f ≤ length m
   pub short : length f ≤ 2147483647

@@ -22,3 +22,4 @@ pub mod OneLevel
 pub mod VariableFacts
 pub mod Demand2
 pub mod Demand3
+pub mod Padded

@@ -12,7 +12,8 @@ use Rattle.walk.specs.declared.places.Levels.{Levels}
 use Rattle.walk.specs.declared.places.Walk as W
 use Rattle.walk.specs.declared.places.Turn as T
 use Rattle.walk.specs.declared.places.Turn.the-variants.{Over, End, Take, Down, Up}
-use Rattle.checker.specs.Step.{Conf, conf, done, walking, settled, linkNumber, turned, stepBy, stepOf}
+use Rattle.demands.proofs.Plain.{stepIn, inner}
+use Rattle.checker.specs.Step.{Conf, conf, done, walking, settled, linkNumber, turned}
 use Rattle.checker.specs.declared.state.State.{State}
 
 pub record Place : Type 0 where
@@ -72,6 +73,6 @@ turn-moves f m n up (Take w early t typed late) = refl
 turn-moves f m n up (Down w t typed l) = refl
 turn-moves f m n up (Up w) = refl
 
-pub step-moves : (f m : List ℕ) (n : ℕ) (p : Place) → stepOf f (conf (walkAt n p) m) ≡ moved f m n (moveOf f p)
-unfolding stepBy
+pub step-moves : (f m : List ℕ) (n : ℕ) (p : Place) → inner f (conf (walkAt n p) m) ≡ moved f m n (moveOf f p)
+unfolding stepIn
 step-moves f m n p = turn-moves f m n (p .up) (turnOf f (p .up) (p .walk))

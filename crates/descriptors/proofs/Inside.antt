@@ -1,4 +1,4 @@
--- A record that a way has found lies in the file up to the end of its fields. Assumes nothing.
+-- A record that a way has found lies before the end of the file up to the end of its fields. Assumes nothing.
 use mathlib.Core.Path.{_≡_, refl, subst}
 use mathlib.Core.Bool.{Bool, true, false, cond}
 use mathlib.Core.List.{List}
@@ -8,6 +8,7 @@ use lib.IntN.{ℤ, pos}
 use lib.ListN.{length}
 use lib.Dec.{eqb}
 use Rattle.format.specs.Fields.{endOf, eqZ}
+use Rattle.records.specs.Opening.{bodyOf}
 use Rattle.variables.specs.Vdr.{countPlace, layoutAt, layoutOf, variableOf}
 use Rattle.variables.proofs.Right.{right}
 use Rattle.variables.proofs.Dimensions.{Dimensions, of-variable}
@@ -20,11 +21,6 @@ use Rattle.ways.proofs.Found.{Met, variable-finds, attribute-finds, entry-finds
 use Rattle.descriptors.specs.declared.Dimensions.the-variants.{Are, Unknown}
 use Rattle.descriptors.specs.Descriptors.{variableDimensions}
 use Rattle.descriptors.specs.Bounds.{fieldBytes, Holds, Lie}
-
--- what a way has found holds as many bytes as each record that it can find
-holds : (f : List ℕ) (t n : ℕ) → ((o : ℕ) → meets f t o ≡ true → o + n ≤ length f) → (way : Way) → Finds (Met f t) way → Holds f n way
-holds f t n h (Found o left) m = h o (m .met)
-holds f t n h (Stopped v) m = tt
 
 counted : (f : List ℕ) (o : ℕ) → layoutOf f 8 o .sizes + 4 * layoutOf f 8 o .count ≤ endOf f → o + 132 ≤ length f
 unfolding layoutOf layoutAt countPlace endOf
@@ -45,33 +41,42 @@ module _ (f : List ℕ) where
       go true e = rw e (entry-inside f o k m)
       go false e = rw e (entry-inside f o k m)
 
-  pub variable-holds : (k n : ℤ) → Holds f (fieldBytes (kindAmong 3 8 k)) (variableWay f k n)
-  variable-holds k n = holds f (kindAmong 3 8 k) (fieldBytes (kindAmong 3 8 k)) (variable-bytes k) (variableWay f k n) (variable-finds f k n)
+-- in a file, whose part before its end is b
+module _ (f b : List ℕ) (part : b ≡ bodyOf f) where
+  -- what a way has found holds as many bytes as each record that it can find
+  holds : (t n : ℕ) → ((o : ℕ) → meets b t o ≡ true → o + n ≤ length b) → (way : Way) → Finds (Met f t) way → Holds b n way
+  holds t n h (Found o left) m = h o (rw part (m .met))
+  holds t n h (Stopped v) m = tt
 
-  pub variable-named : (k n : ℤ) → Holds f 128 (variableWay f k n)
-  variable-named k n = holds f (kindAmong 3 8 k) 128 (λ o m. variable-inside f o k m) (variableWay f k n) (variable-finds f k n)
+  pub variable-holds : (k n : ℤ) → Holds b (fieldBytes (kindAmong 3 8 k)) (variableWay f k n)
+  variable-holds k n = holds (kindAmong 3 8 k) (fieldBytes (kindAmong 3 8 k)) (variable-bytes b k) (variableWay f k n) (variable-finds f k n)
 
-  pub attribute-holds : (n : ℤ) → Holds f 116 (attributeWay f n)
-  attribute-holds n = holds f 4 116 (attribute-inside f) (attributeWay f n) (attribute-finds f n)
+  pub variable-named : (k n : ℤ) → Holds b 128 (variableWay f k n)
+  variable-named k n = holds (kindAmong 3 8 k) 128 (λ o m. variable-inside b o k m) (variableWay f k n) (variable-finds f k n)
 
-  pub entry-holds : (a k : ℤ) (w : Wanted) → Holds f (fieldBytes (kindAmong 5 9 k)) (entryWay f a k w)
-  entry-holds a k w = holds f (kindAmong 5 9 k) (fieldBytes (kindAmong 5 9 k)) (entry-bytes k) (entryWay f a k w) (entry-finds f a k w)
+  pub attribute-holds : (n : ℤ) → Holds b 116 (attributeWay f n)
+  attribute-holds n = holds 4 116 (attribute-inside b) (attributeWay f n) (attribute-finds f n)
 
-  pub found-inside : (k n : ℤ) (o left : ℕ) → variableWay f k n ≡ Found o left → o + 128 ≤ length f
-  found-inside k n o left e = subst (Holds f 128) e (variable-named k n)
+  pub entry-holds : (a k : ℤ) (w : Wanted) → Holds b (fieldBytes (kindAmong 5 9 k)) (entryWay f a k w)
+  entry-holds a k w = holds (kindAmong 5 9 k) (fieldBytes (kindAmong 5 9 k)) (entry-bytes b k) (entryWay f a k w) (entry-finds f a k w)
+
+  pub found-inside : (k n : ℤ) (o left : ℕ) → variableWay f k n ≡ Found o left → o + 128 ≤ length b
+  found-inside k n o left e = subst (Holds b 128) e (variable-named k n)
 
   -- a variable that was found is one of a file whose length an offset can say
-  pub found-short : (k n : ℤ) (o left : ℕ) → variableWay f k n ≡ Found o left → length f < 2147483648
-  found-short k n o left e = subst (Finds (Met f (kindAmong 3 8 k))) e (variable-finds f k n) .file .short
+  found-short : (k n : ℤ) (o left : ℕ) → variableWay f k n ≡ Found o left → length b < 2147483648
+  found-short k n o left e =
+      let m = subst (Finds (Met f (kindAmong 3 8 k))) e (variable-finds f k n) .file in
+      rw part (omega (arith, m .short, m .part))
 
   -- the dimensions of a variable that was found, and of one that was not
   module _ (k n : ℤ) where
-    pub dimensions-are : (o left : ℕ) → variableWay f k n ≡ Found o left → Are (variableOf f (kindAmong 3 8 k) o .dimensions) ≡ variableDimensions f k n
+    pub dimensions-are : (o left : ℕ) → variableWay f k n ≡ Found o left → Are (variableOf b (kindAmong 3 8 k) o .dimensions) ≡ variableDimensions f k n
     unfolding variableDimensions
-    dimensions-are o left e = rw e
+    dimensions-are o left e = rw (e, part)
 
-    pub dimensions-lie : (o left : ℕ) → variableWay f k n ≡ Found o left → Lie f (Are (variableOf f (kindAmong 3 8 k) o .dimensions))
-    dimensions-lie o left e = let d = of-variable f (kindAmong 3 8 k) o in (d .sizes, d .variances, found-short k n o left e)
+    pub dimensions-lie : (o left : ℕ) → variableWay f k n ≡ Found o left → Lie b (Are (variableOf b (kindAmong 3 8 k) o .dimensions))
+    dimensions-lie o left e = let d = of-variable b (kindAmong 3 8 k) o in (d .sizes, d .variances, found-short k n o left e)
 
     pub dimensions-unknown : (v : ℕ) → variableWay f k n ≡ Stopped v → Unknown v ≡ variableDimensions f k n
     unfolding variableDimensions

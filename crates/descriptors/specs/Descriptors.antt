@@ -1,12 +1,12 @@
 -- Descriptors: what the CDR, the GDR, a VDR, an ADR and an AEDR say. Document 01, "Values". Assumes nothing.
-use Prim.Native.Nat.{ℕ, zero, suc, _+_, _*_}
+use Prim.Native.Nat.{ℕ, zero, suc, _+_, _-_, _*_}
 use mathlib.Core.Bool.{Bool, false, cond, _&&_, _||_}
 use mathlib.Core.List.{List, [], _∷_}
-use lib.ListN.{getD}
+use lib.ListN.{length, getD}
 use lib.Dec.{leb, eqb}
 use lib.IntN.{ℤ, pos}
 use Rattle.format.specs.Fields.{fieldAt, bitAt, natOr}
-use Rattle.records.specs.Opening.{gdrAt, rNumDims}
+use Rattle.records.specs.Opening.{gdrAt, rNumDims, fileEnd, bodyOf}
 use Rattle.variables.specs.Vdr.{variableOf}
 use Rattle.variables.specs.Place.{indexRight}
 use Rattle.variables.specs.declared.vdr.Variable.{Variable}
@@ -62,21 +62,24 @@ fieldOn f t field (Found o left) = cond (isShown t field) (Is (fieldAt f (o + fi
 fieldOn f t field (Stopped v) = Refused v
 
 unfoldable pub variableField : List ℕ → ℤ → ℤ → ℕ → Field
-variableField f k n field = fieldOn f (kindAmong 3 8 k) field (variableWay f k n)
+variableField f k n field = fieldOn (bodyOf f) (kindAmong 3 8 k) field (variableWay f k n)
 
 unfoldable pub attributeField : List ℕ → ℤ → ℕ → Field
-attributeField f n field = fieldOn f 4 field (attributeWay f n)
+attributeField f n field = fieldOn (bodyOf f) 4 field (attributeWay f n)
 
 unfoldable pub entryField : List ℕ → ℤ → ℤ → Wanted → ℕ → Field
-entryField f a k w field = fieldOn f (kindAmong 5 9 k) field (entryWay f a k w)
+entryField f a k w field = fieldOn (bodyOf f) (kindAmong 5 9 k) field (entryWay f a k w)
 
 -- ---- dimensions: the d-th of n fields from p on; "a dimension that is not there, 18"
 unfoldable pub rowField : List ℕ → ℕ → ℕ → ℤ → Field
 rowField f p n d = cond (indexRight d n) (Is (fieldAt f (p + 4 * natOr 0 d))) (Refused 18)
 
 -- the GDR's, of the rVariables: "sizes from 60"
+abbrev pub gdrSize : List ℕ → ℤ → Field
+gdrSize f d = rowField f (gdrAt f + 60) (rNumDims f (gdrAt f)) d
+
 unfoldable pub dimensionSize : List ℕ → ℤ → Field
-dimensionSize f d = cond (opened f) (rowField f (gdrAt f + 60) (rNumDims f (gdrAt f)) d) (Refused 20)
+dimensionSize f d = cond (opened f) (gdrSize (bodyOf f) d) (Refused 20)
 
 -- the dimensions of the VDR that a way has found, or where the way stopped
 abbrev pub dimensionsOn : List ℕ → ℕ → Way → Dimensions
@@ -84,7 +87,7 @@ dimensionsOn f k (Found v left) = Are (variableOf f k v .dimensions)
 dimensionsOn f k (Stopped v) = Unknown v
 
 unfoldable pub variableDimensions : List ℕ → ℤ → ℤ → Dimensions
-variableDimensions f k n = dimensionsOn f (kindAmong 3 8 k) (variableWay f k n)
+variableDimensions f k n = dimensionsOn (bodyOf f) (kindAmong 3 8 k) (variableWay f k n)
 
 -- a zVariable's own sizes; an rVariable has none
 abbrev pub sizeOn : List ℕ → ℕ → ℤ → Dimensions → Field
@@ -92,14 +95,14 @@ sizeOn f k d (Are l) = cond (eqb k 8) (rowField f (l .sizes) (l .count) d) (Refu
 sizeOn f k d (Unknown v) = Refused v
 
 unfoldable pub variableSize : List ℕ → ℤ → ℤ → ℤ → Field
-variableSize f k n d = sizeOn f (kindAmong 3 8 k) d (variableDimensions f k n)
+variableSize f k n d = sizeOn (bodyOf f) (kindAmong 3 8 k) d (variableDimensions f k n)
 
 abbrev pub varianceOn : List ℕ → ℤ → Dimensions → Field
 varianceOn f d (Are l) = rowField f (l .variances) (l .count) d
 varianceOn f d (Unknown v) = Refused v
 
 unfoldable pub variableVariance : List ℕ → ℤ → ℤ → ℤ → Field
-variableVariance f k n d = varianceOn f d (variableDimensions f k n)
+variableVariance f k n d = varianceOn (bodyOf f) d (variableDimensions f k n)
 
 -- ---- how many levels the index of a variable has on the way to a record: 1 where the covering entry of the top chain names no index
 -- record; what the lowest entry names is not looked at
@@ -112,7 +115,7 @@ levelsOn f r (Found v left) = levelsField (levelsWay f v r left)
 levelsOn f r (Stopped v) = Refused v
 
 unfoldable pub variableLevels : List ℕ → ℤ → ℤ → ℤ → Field
-variableLevels f k n r = levelsOn f r (variableWay f k n)
+variableLevels f k n r = levelsOn (bodyOf f) r (variableWay f k n)
 
 -- ---- names: "names up to the NUL", 64 bytes at most
 unfoldable pub untilNul : List ℕ → ℕ → ℕ → ℕ
@@ -126,13 +129,13 @@ nameOn f place (Stopped v) = Nameless v
 
 -- VDR: "name 64"; ADR: "name 52 (64 bytes)"
 unfoldable pub variableName : List ℕ → ℤ → ℤ → Name
-variableName f k n = nameOn f 64 (variableWay f k n)
+variableName f k n = nameOn (bodyOf f) 64 (variableWay f k n)
 
 unfoldable pub attributeName : List ℕ → ℤ → Name
-attributeName f n = nameOn f 52 (attributeWay f n)
+attributeName f n = nameOn (bodyOf f) 52 (attributeWay f n)
 
 -- ---- "majority, encoding, counts and rVariable dimensions": 0 majority, 1 for row and 0 for column; 1 encoding; 2 NrVars, 3 NzVars,
--- 4 NumAttr; 5 the number of dimensions of the rVariables; any other 18
+-- 4 NumAttr; 5 the number of dimensions of the rVariables; 6 how many bytes of padding lie behind the end; any other 18
 abbrev pub majority : Bool → ℤ
 majority row = cond row (pos 1) (pos 0)
 
@@ -146,5 +149,9 @@ abbrev pub said : List ℕ → ℕ → Field
 said f what =
     cond (eqb what 0) (Is (majority (bitAt f 32 1))) (cond (leb what 5) (Is (fieldAt f (saidPlace f what))) (Refused 18))
 
+-- #101: the length less the end
+abbrev pub padding : List ℕ → ℤ
+padding f = pos (length f - fileEnd f)
+
 unfoldable pub fileField : List ℕ → ℕ → Field
-fileField f what = cond (opened f) (said f what) (Refused 20)
+fileField f what = cond (opened f) (cond (eqb what 6) (Is (padding f)) (said (bodyOf f) what)) (Refused 20)

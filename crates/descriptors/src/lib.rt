@@ -2,11 +2,12 @@
 ghost use mathlib.Core.Path.{_≡_};
 ghost use Prim.Native.Nat.{_+_, _*_, _≤_, _<_};
 ghost use lib.ListN.{length};
-ghost use Rattle.ways.specs.Opened.{Opened};
+ghost use Rattle.records.specs.Opening.{gdrAt, bodyOf};
 ghost use Rattle.ways.specs.Indexes.{LevelsFit};
 ghost use Rattle.descriptors.specs.Descriptors.{isShown, fieldOn, variableField, attributeField, entryField, rowField, dimensionSize, variableDimensions, variableSize, variableVariance, levelsField, variableLevels, untilNul, nameOn, variableName, attributeName, majority, saidPlace, said, fileField};
 ghost use Rattle.descriptors.specs.Bounds.{fieldBytes, Holds, Lie};
 use format::fields;
+use records::opening;
 use variables::place;
 use variables::vdr;
 use variables::vdr::Layout;
@@ -79,11 +80,12 @@ fn field_on(f: &[u8], t: u32, field: u64, way: Way) -> Field
 pub fn variable_field(f: &[u8], kind: i64, number: i64, field: u64) -> Field
     ensures { λ r. ⌜ r ≡ variableField (now (f .entry)) kind number field ⌝ }
 {
+    let b = opening::body(f);
     field_on(
-        f,
+        b,
         lists::kind_among(3, 8, kind),
         field,
-        lists::to_variable(f, kind, number),
+        lists::to_variable(f, b, kind, number),
     )
 }
 
@@ -91,18 +93,20 @@ pub fn variable_field(f: &[u8], kind: i64, number: i64, field: u64) -> Field
 pub fn attribute_field(f: &[u8], number: i64, field: u64) -> Field
     ensures { λ r. ⌜ r ≡ attributeField (now (f .entry)) number field ⌝ }
 {
-    field_on(f, 4, field, lists::to_attribute(f, number))
+    let b = opening::body(f);
+    field_on(b, 4, field, lists::to_attribute(f, b, number))
 }
 
 // A field of an entry's AEDR, by attribute, kind, which entry, and the field's offset.
 pub fn entry_field(f: &[u8], attribute: i64, kind: i64, w: Wanted, field: u64) -> Field
     ensures { λ r. ⌜ r ≡ entryField (now (f .entry)) attribute kind w field ⌝ }
 {
+    let b = opening::body(f);
     field_on(
-        f,
+        b,
         lists::kind_among(5, 9, kind),
         field,
-        lists::to_entry(f, attribute, kind, w),
+        lists::to_entry(f, b, attribute, kind, w),
     )
 }
 
@@ -125,18 +129,20 @@ pub fn dimension_size(f: &[u8], d: i64) -> Field
     if !lists::opens(f) {
         return Field::Refused(20);
     }
-    let g = fields::link_at(f, 16) as usize;
-    row_field(f, g + 60, fields::nat_at(f, g + 36), d)
+    let b = opening::body(f);
+    let g = fields::link_at(b, 16) as usize;
+    row_field(b, g + 60, fields::nat_at(b, g + 36), d)
 }
 
-// The dimensions of a variable, by kind and number.
-fn dimensions_of(f: &[u8], kind: i64, number: i64) -> Dimensions
-    ensures { λ r. ⌜ (r ≡ variableDimensions (now (f .entry)) kind number) × Lie (now (f .entry)) r ⌝ }
+// The dimensions of a variable, by kind and number: in a file, whose part before its end is b.
+fn dimensions_of(f: &[u8], b: &[u8], kind: i64, number: i64) -> Dimensions
+    requires { ⌜ now b ≡ bodyOf (now f) ⌝ }
+    ensures { λ r. ⌜ (r ≡ variableDimensions (now (f .entry)) kind number) × Lie (now (b .entry)) r ⌝ }
 {
-    let way = lists::to_variable(f, kind, number);
+    let way = lists::to_variable(f, b, kind, number);
     match way {
         Way::Found { at, left: _ } => {
-            let v = vdr::known_at(f, lists::kind_among(3, 8, kind), at);
+            let v = vdr::known_at(b, lists::kind_among(3, 8, kind), at);
             let l = v.dimensions;
             Dimensions::Are(l)
         }
@@ -148,11 +154,12 @@ fn dimensions_of(f: &[u8], kind: i64, number: i64) -> Dimensions
 pub fn variable_size(f: &[u8], kind: i64, number: i64, d: i64) -> Field
     ensures { λ r. ⌜ r ≡ variableSize (now (f .entry)) kind number d ⌝ }
 {
-    let dimensions = dimensions_of(f, kind, number);
+    let b = opening::body(f);
+    let dimensions = dimensions_of(f, b, kind, number);
     match dimensions {
         Dimensions::Are(l) => {
             if lists::kind_among(3, 8, kind) == 8 {
-                row_field(f, l.sizes, l.count as u32, d)
+                row_field(b, l.sizes, l.count as u32, d)
             } else {
                 Field::Refused(18)
             }
@@ -165,9 +172,10 @@ pub fn variable_size(f: &[u8], kind: i64, number: i64, d: i64) -> Field
 pub fn variable_variance(f: &[u8], kind: i64, number: i64, d: i64) -> Field
     ensures { λ r. ⌜ r ≡ variableVariance (now (f .entry)) kind number d ⌝ }
 {
-    let dimensions = dimensions_of(f, kind, number);
+    let b = opening::body(f);
+    let dimensions = dimensions_of(f, b, kind, number);
     match dimensions {
-        Dimensions::Are(l) => row_field(f, l.variances, l.count as u32, d),
+        Dimensions::Are(l) => row_field(b, l.variances, l.count as u32, d),
         Dimensions::Unknown(number) => Field::Refused(number),
     }
 }
@@ -187,9 +195,10 @@ fn levels_field(l: Levels) -> Field
 pub fn variable_levels(f: &[u8], kind: i64, number: i64, r: i64) -> Field
     ensures { λ q. ⌜ q ≡ variableLevels (now (f .entry)) kind number r ⌝ }
 {
-    let way = lists::to_variable(f, kind, number);
+    let b = opening::body(f);
+    let way = lists::to_variable(f, b, kind, number);
     match way {
-        Way::Found { at, left } => levels_field(indexes::to_levels(f, at, r, left)),
+        Way::Found { at, left } => levels_field(indexes::to_levels(b, at, r, left)),
         Way::Stopped { number } => Field::Refused(number),
     }
 }
@@ -230,14 +239,16 @@ fn name_on(f: &[u8], place: u32, way: Way) -> Name
 pub fn variable_name(f: &[u8], kind: i64, number: i64) -> Name
     ensures { λ r. ⌜ r ≡ variableName (now (f .entry)) kind number ⌝ }
 {
-    name_on(f, 64, lists::to_variable(f, kind, number))
+    let b = opening::body(f);
+    name_on(b, 64, lists::to_variable(f, b, kind, number))
 }
 
 // The name of an attribute, by number.
 pub fn attribute_name(f: &[u8], number: i64) -> Name
     ensures { λ r. ⌜ r ≡ attributeName (now (f .entry)) number ⌝ }
 {
-    name_on(f, 52, lists::to_attribute(f, number))
+    let b = opening::body(f);
+    name_on(b, 52, lists::to_attribute(f, b, number))
 }
 
 // 1 for row majority, 0 for column majority.
@@ -249,7 +260,7 @@ fn majority_of(row: bool) -> i32
 
 // Where what is asked for by 1 to 5 stands.
 fn said_place(f: &[u8], what: u64) -> usize
-    requires { ⌜ Opened (now f) ⌝ }
+    requires { ⌜ gdrAt (now f) + 60 ≤ length (now f) ⌝ }
     ensures { λ r. ⌜ (r ≡ saidPlace (now (f .entry)) what) × (r + 4 ≤ length (now (f .entry))) ⌝ }
 {
     let g = fields::link_at(f, 16) as usize;
@@ -270,7 +281,7 @@ fn said_place(f: &[u8], what: u64) -> usize
 
 // What the CDR and the GDR say of the file.
 fn said_of(f: &[u8], what: u64) -> Field
-    requires { ⌜ Opened (now f) ⌝ }
+    requires { ⌜ gdrAt (now f) + 60 ≤ length (now f) ⌝ }
     ensures { λ r. ⌜ r ≡ said (now (f .entry)) what ⌝ }
 {
     if what == 0 {
@@ -283,12 +294,16 @@ fn said_of(f: &[u8], what: u64) -> Field
 }
 
 // What the file says of itself: 0 majority, 1 encoding, 2 to 4 its counts of rVariables, zVariables and attributes, 5 the number
-// of dimensions of the rVariables.
+// of dimensions of the rVariables, 6 the bytes of padding behind its end.
 pub fn file_field(f: &[u8], what: u64) -> Field
     ensures { λ r. ⌜ r ≡ fileField (now (f .entry)) what ⌝ }
 {
     if !lists::opens(f) {
         return Field::Refused(20);
     }
-    said_of(f, what)
+    let b = opening::body(f);
+    if what == 6 {
+        return Field::Is((f.len() - b.len()) as i32);
+    }
+    said_of(b, what)
 }

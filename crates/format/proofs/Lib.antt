@@ -3,3 +3,4 @@ pub mod Complement
 pub mod SignedTests
 pub mod Table
 pub mod Each
+pub mod Agree

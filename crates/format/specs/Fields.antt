@@ -1,4 +1,4 @@
--- Control fields, and the end of the file. Assumes nothing.
+-- Control fields, and the end of the bytes that are lent. Assumes nothing.
 use Prim.Native.Nat.{ℕ, zero, suc, _+_, _/_, _%_}
 use mathlib.Core.Bool.{Bool, true, false, cond, _&&_}
 use mathlib.Core.List.{List}
@@ -8,7 +8,8 @@ use lib.IntN.{ℤ, pos, negsuc}
 use lib.Signed.{leZ}
 use Rattle.format.specs.Bytes.{bigAt, signedOf}
 
--- where the file ends: records, links and fields lie before it
+-- where the bytes end that a rule is lent: records, links and fields lie before it. The opening is lent the whole file, every other rule
+-- what lies before the file's end (`bodyOf`, records/specs/Opening.antt)
 unfoldable pub endOf : List ℕ → ℕ
 endOf f = length f
 

@@ -1,4 +1,4 @@
-// Control fields, and the end of the file.
+// Control fields, and the end of the bytes that are lent.
 ghost use mathlib.Core.Path.{_≡_};
 ghost use Prim.Native.Nat.{_+_, _*_, _≤_, _<_};
 ghost use lib.ListN.{length};
@@ -7,7 +7,7 @@ ghost use Rattle.format.specs.Fields.{endOf, fieldAt, isAt, atLeast, atM
 use crate::bytes;
 use crate::signed;
 
-// Where the file ends.
+// Where the bytes end.
 pub fn end(f: &[u8]) -> usize
     ensures { λ r. ⌜ (r ≡ endOf (now (f .entry))) × (r ≤ length (now (f .entry))) ⌝ }
 {

@@ -17,6 +17,8 @@ use Rattle.walk.specs.Walk.{turnOf}
 use Rattle.walk.specs.declared.places.Levels.{Levels}
 use Rattle.walk.specs.declared.places.Turn as T
 use Rattle.walk.specs.declared.places.Turn.the-variants.{Over, End, Take, Down, Up}
+use Rattle.records.specs.Opening.{fileEnd, bodyOf}
+use Rattle.records.proofs.Bodies.{body-length, body-le}
 use Rattle.checker.specs.declared.state.Stage.{Stage}
 use Rattle.checker.specs.declared.state.Stage.the-variants.{Fresh, Sweep, Walking, Done, Strange}
 use Rattle.checker.specs.declared.state.State.{State}
@@ -34,7 +36,7 @@ use Rattle.grants.specs.Promises.{comesBack, EveryGrant}
 use Rattle.grants.proofs.Answers.{answer-comes}
 
 -- ---- marks outside the records of the file are kept
-module _ (f m : List ℕ) (i : ℕ) (out : (i < 8) ⊎ (length f ≤ i)) where
+module _ (f m : List ℕ) (i : ℕ) (out : (i < 8) ⊎ (fileEnd f ≤ i)) where
   record Same (c : Conf) : Type 0 where
     count : length (c .marks) ≡ length m
     mark : getD (c .marks) i 0 ≡ getD m i 0
@@ -51,43 +53,50 @@ module _ (f m : List ℕ) (i : ℕ) (out : (i < 8) ⊎ (length f ≤ i)) where
       h : Same c
       h = k .1
 
+      b : List ℕ
+      b = bodyOf f
+
+      ends : length b ≡ fileEnd f
+      ends = body-length f
+
       m′ : List ℕ
       m′ = c .marks
 
       n : ℕ
       n = c .state .length
 
-      apart : (t : ℕ) → (i < 8) ⊎ (length f ≤ i) → 8 ≤ t → t < length f → i ≡ t → ⊥
-      apart t (inl a) b c e = omega arith
-      apart t (inr a) b c e = omega arith
+      apart : (t : ℕ) → (i < 8) ⊎ (fileEnd f ≤ i) → 8 ≤ t → t < length b → i ≡ t → ⊥
+      apart t (inl a) h c e = omega arith
+      apart t (inr a) h c e = omega (arith, ends)
 
-      claimed : (t : ℕ) (s : State) → startAt f m′ t ≡ true → Same (conf s (set m′ t 2))
+      claimed : (t : ℕ) (s : State) → startAt b m′ t ≡ true → Same (conf s (set m′ t 2))
       claimed t s e =
-          let a = started f m′ t e in
+          let a = started b m′ t e in
           record { count = length-set m′ t 2 ∙ h .count; mark = getD-set-other m′ t i 2 0 (λ e. apart t out (a .0) (a .1) e) ∙ h .mark }
 
-      turn : (up : Levels) (t : T.Turn) → TurnGoes Same f m′ n up t
+      turn : (up : Levels) (t : T.Turn) → TurnGoes Same b m′ n up t
       turn up (Over w v) = record { count = h .count; mark = h .mark }
       turn up (End v) = tt
       turn up (Take w early t typed late) = λ e. claimed t (walking n w up) (e .start)
       turn up (Down w t typed l) = λ e. claimed t (walking n w (pushed l up)) (e .start)
       turn up (Up w) = record { count = h .count; mark = h .mark }
 
-      aside : (o s : ℕ) → 8 ≤ o → o + s ≤ length f → (i < 8) ⊎ (length f ≤ i) → (i < o) ⊎ (o + s ≤ i)
-      aside o s a b (inl h) = inl (omega arith)
-      aside o s a b (inr h) = inr (omega arith)
+      aside : (o s : ℕ) → 8 ≤ o → o + s ≤ length b → (i < 8) ⊎ (fileEnd f ≤ i) → (i < o) ⊎ (o + s ≤ i)
+      aside o s a d (inl h) = inl (omega arith)
+      aside o s a d (inr h) = inr (omega (arith, ends))
 
       goes : (s : Stage) → SoundBy (Own f) f n m′ s → Goes Same f m′ n s
       goes Fresh g = λ e. record { count = h .count; mark = h .mark }
       goes (Sweep o) g = λ e.
-          let t = tiled f o e in
+          let t = tiled b o e in
           let a = g .0 in
-          let fits : o + sizeAt f o ≤ length m′ = omega arith in
+          let less = body-le f in
+          let fits : o + sizeAt b o ≤ length m′ = omega arith in
           record {
-            count = marked-length m′ o (sizeAt f o) fits ∙ h .count;
-            mark = marked-other m′ o (sizeAt f o) fits (omega arith) i (aside o (sizeAt f o) (g .1) (t .1) out) ∙ h .mark;
+            count = marked-length m′ o (sizeAt b o) fits ∙ h .count;
+            mark = marked-other m′ o (sizeAt b o) fits (omega arith) i (aside o (sizeAt b o) (g .1) (t .1) out) ∙ h .mark;
           }
-      goes (Walking w up) g = turn up (turnOf f up w)
+      goes (Walking w up) g = turn up (turnOf b up w)
       goes (Done v) g = tt
       goes Strange g = tt
 
@@ -102,7 +111,7 @@ module _ (f m l : List ℕ) (n : ℕ) where
     accepted : r .answer ≡ pos 0 → (length (r .state) ≡ stateLength) × (load (r .state) ≡ done 0)
     away : r .answer ≡ pos 21 → r ≡ granted (pos 21) 0 l m
     count : length (r .marks) ≡ length m
-    mark : (i : ℕ) → (i < 8) ⊎ (length f ≤ i) → getD (r .marks) i 0 ≡ getD m i 0
+    mark : (i : ℕ) → (i < 8) ⊎ (fileEnd f ≤ i) → getD (r .marks) i 0 ≡ getD m i 0
 
   -- a grant that changes nothing
   fine-still : (a : ℤ) → comesBack a ≡ true → (a ≡ pos 0 → (length l ≡ stateLength) × (load l ≡ done 0)) → Fine (granted a 0 l m)

@@ -4,3 +4,4 @@ pub mod Range
 pub mod Any
 pub mod Splits
 pub mod Promised
+pub mod Padding

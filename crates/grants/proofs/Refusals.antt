@@ -12,6 +12,7 @@ use Rattle.walk.specs.declared.places.Levels.{Levels}
 use Rattle.walk.specs.declared.places.Turn as T
 use Rattle.walk.specs.declared.places.Turn.the-variants.{Over, End, Take, Down, Up}
 use Rattle.walk.specs.declared.places.Walk.the-variants.{Start}
+use Rattle.records.specs.Opening.{bodyOf}
 use Rattle.checker.specs.declared.state.Stage.{Stage}
 use Rattle.checker.specs.declared.state.Stage.the-variants.{Fresh, Sweep, Walking, Done, Strange}
 use Rattle.checker.specs.Step.{Conf, finished, sweptTo, stepBy}
@@ -35,7 +36,7 @@ refusal-keeps-marks f m n s v e z = go s e
     P : Conf → Type 0
     P c = (c .state .stage ≡ Done v) → c .marks ≡ m
 
-    turn : (up : Levels) (t : T.Turn) → TurnGoes P f m n up t
+    turn : (up : Levels) (t : T.Turn) → TurnGoes P (bodyOf f) m n up t
     turn up (Over w v) = λ e. refl
     turn up (End v) = tt
     turn up (Take w early t typed late) = λ h e. absurd (true≢false (sym (ap finished e)))
@@ -46,7 +47,7 @@ refusal-keeps-marks f m n s v e z = go s e
     go Fresh e = step-by P f m n (λ v t e. refl) Fresh refl (λ h e. refl) e
     go (Sweep o) e =
         step-by P f m n (λ v t e. refl) (Sweep o) refl
-        (λ h e. absurd (true≢false (sym (ap finished e) ∙ swept-goes f (o + sizeAt f o)))) e
-    go (Walking w up) e = step-by P f m n (λ v t e. refl) (Walking w up) refl (turn up (turnOf f up w)) e
+        (λ h e. absurd (true≢false (sym (ap finished e) ∙ swept-goes (bodyOf f) (o + sizeAt (bodyOf f) o)))) e
+    go (Walking w up) e = step-by P f m n (λ v t e. refl) (Walking w up) refl (turn up (turnOf (bodyOf f) up w)) e
     go (Done u) e = done-marks f m n u
     go Strange e = step-by P f m n (λ v t e. refl) Strange refl tt e

@@ -8,6 +8,7 @@ use Prim.Native.Nat.{ℕ, _+_, _/_, _≤_, _<_, min}
 use lib.ListN.{length, getD}
 use lib.Dec.{leb, eqb}
 use lib.IntN.{ℤ, pos, negsuc}
+use Rattle.records.specs.Opening.{fileEnd, Unpadded}
 use Rattle.checker.specs.declared.state.Stage.{Stage}
 use Rattle.checker.specs.declared.state.Stage.the-variants.{Done, Strange}
 use Rattle.checker.specs.Step.{done, fresh, finished, answerOf, stepBy, plainRun}
@@ -93,10 +94,10 @@ pub record AnyState (f m l : List ℕ) (n : ℕ) : Type 0 where
       → grantOf f m l n ≡ granted (answerOf (load l .stage)) 0 l m
   -- "21 changes neither state nor marks, makes 0 steps and doesn't finish the check"
   pub turned-away : grantOf f m l n .answer ≡ pos 21 → grantOf f m l n ≡ granted (pos 21) 0 l m
-  -- "Marks 0 to 7 and beyond the file are never written", and none is added or lost
+  -- "Marks 0 to 7 and beyond the file are never written", "Bytes and marks from eof on are neither judged nor written"; none is added or lost
   pub marks-count : length (grantOf f m l n .marks) ≡ length m
   pub marks-low : (i : ℕ) → i < 8 → getD (grantOf f m l n .marks) i 0 ≡ getD m i 0
-  pub marks-beyond : (i : ℕ) → length f ≤ i → getD (grantOf f m l n .marks) i 0 ≡ getD m i 0
+  pub marks-beyond : (i : ℕ) → fileEnd f ≤ i → getD (grantOf f m l n .marks) i 0 ≡ getD m i 0
 
 abbrev pub EveryGrant : Type 0
 EveryGrant = (f m l : List ℕ) (n : ℕ) → AnyState f m l n
@@ -116,3 +117,23 @@ SplitsAlike = (f m l : List ℕ) (a b : ℕ) → grantOf f m l a .answer ≢ pos
 abbrev pub RefusalKeepsMarks : Type 0
 RefusalKeepsMarks =
     (f m : List ℕ) (n : ℕ) (s : Stage) (v : ℕ) → stepBy f m n s .state .stage ≡ Done v → v ≢ 0 → stepBy f m n s .marks ≡ m
+
+-- what two grants give back is the same, of the marks those below e
+pub record Alike (e : ℕ) (r s : Granted) : Type 0 where
+  pub answer : r .answer ≡ s .answer
+  pub steps : r .steps ≡ s .steps
+  pub state : r .state ≡ s .state
+  pub marks : (i : ℕ) → i < e → getD (r .marks) i 0 ≡ getD (s .marks) i 0
+
+-- THE PADDING CANNOT MATTER: behind the bytes b, whose eof is their number, stand p or as many others q, up to 511. With marks of one number
+-- that agree below eof every grant is the same on any state whatever, made up or not, and so is every list of grants: "Bytes and marks from
+-- eof on are neither judged nor written"
+abbrev pub PaddingIdle : Type 0
+PaddingIdle =
+    (b p q m o l : List ℕ) (n : ℕ)
+    → Unpadded b
+    → length p ≡ length q
+    → length p ≤ 511
+    → length m ≡ length o
+    → ((i : ℕ) → i < length b → getD m i 0 ≡ getD o i 0)
+    → Alike (length b) (grantOf (b ++ p) m l n) (grantOf (b ++ q) o l n)

@@ -12,8 +12,9 @@ use lib.ListN.{length, length-append}
 use borrow.Author.Tests.{lt-ltb, le-ltb, eqb-true, eqb-false}
 use Rattle.format.specs.Fields.{fieldAt, eqZ, isAt, natOr}
 use Rattle.format.proofs.SignedTests.{eqZ-true}
-use Rattle.records.specs.Opening.{tooLong, gdrAt}
-use Rattle.ways.specs.Lists.{opened, allowance, sought, placeWay, ofKinds, kindAmong, variableWay, attributeWay, entriesPlace, entriesOf, entryWay}
+use Rattle.records.specs.Opening.{tooLong, gdrAt, bodyOf}
+use Rattle.records.proofs.Bodies.{body-le}
+use Rattle.ways.specs.Lists.{opened, allowance, sought, placeWay, fileWay, ofKinds, kindAmong, variableWay, attributeWay, entriesPlace, entriesOf, entryWay}
 use Rattle.ways.specs.declared.lists.Wanted.{Wanted}
 use Rattle.ways.specs.declared.lists.Wanted.the-variants.{Place}
 use Rattle.ways.specs.declared.lists.Way.{Way}
@@ -45,14 +46,18 @@ none-placed {X} (x ∷ xs) i n h a =
         rw s (a (x ∷ earlier) later y (ap (λ (l : List X). x ∷ l) e))
 
 module _ (f : List ℕ) (n : NestedAccepted f) where
+  -- the bytes before the end
+  abbrev body : List ℕ
+  body = bodyOf f
+
   abbrev pub lay : Layout
   lay = n .valid .layout
 
   abbrev rs : List ℕ
-  rs = variableOffsets f (lay .0)
+  rs = variableOffsets body (lay .0)
 
   abbrev zs : List ℕ
-  zs = variableOffsets f (lay .1 .0)
+  zs = variableOffsets body (lay .1 .0)
 
   abbrev ads : List ℕ
   ads = attributeOffsets (lay .1 .1 .0)
@@ -64,19 +69,24 @@ module _ (f : List ℕ) (n : NestedAccepted f) where
   unfolding opened tooLong
   opens = rw (le-ltb 2147483647 (length f) (n .short), opening-makes f (n .opens))
 
-  standing : (o : ℕ) → o ∈ claimsOf f lay → Stands f o
+  standing : (o : ℕ) → o ∈ claimsOf body lay → Stands body o
   standing o i =
       let v = n .valid in
-      tiled-stands f (8 ∷ v .starts) 8 (omega arith) (v .tiles) o (mem-in o (8 ∷ v .starts) (v .reached .landed o (in-mem o (claimsOf f lay) i)))
+      tiled-stands body (8 ∷ v .starts) 8 (omega arith) (v .tiles) o (mem-in o (8 ∷ v .starts) (v .reached .landed o (in-mem o (claimsOf body lay) i)))
 
-  r-standing : (o : ℕ) → o ∈ rs → Stands f o
+  r-standing : (o : ℕ) → o ∈ rs → Stands body o
   r-standing o i = standing o (inr (in-left rs (zs ++ (ads ++ us)) o i))
 
-  z-standing : (o : ℕ) → o ∈ zs → Stands f o
+  z-standing : (o : ℕ) → o ∈ zs → Stands body o
   z-standing o i = standing o (inr (in-right rs (zs ++ (ads ++ us)) o (in-left zs (ads ++ us) o i)))
 
-  ads-standing : (o : ℕ) → o ∈ ads → Stands f o
+  ads-standing : (o : ℕ) → o ∈ ads → Stands body o
   ads-standing o i = standing o (inr (in-right rs (zs ++ (ads ++ us)) o (in-right zs (ads ++ us) o (in-left ads us o i))))
+
+  -- as many records may be met as the whole file has room for, and the lists have no more
+  enough : length rs + length zs + length ads ≤ allowance f
+  unfolding allowance
+  enough = omega (arith, room body (n .valid), body-le f)
 
   -- ---- variables: kind 3 where b is true, else 8
   abbrev pub varsOf : Bool → List ListedVdr
@@ -87,68 +97,68 @@ module _ (f : List ℕ) (n : NestedAccepted f) where
   NoPlace xs j = (leZ (pos 0) j ≡ false) ⊎ (length xs ≤ natOr 0 j)
 
   abbrev VarsOn : Bool → ℤ → Way → Type 0
-  VarsOn b j (Found v rest) = VariableIn f (cond b 3 8) (Place (natOr 0 j)) (allowance f) (varsOf b) v rest
+  VarsOn b j (Found v rest) = VariableIn body (cond b 3 8) (Place (natOr 0 j)) (allowance f) (varsOf b) v rest
   VarsOn b j (Stopped m) = (m ≡ 15) × NoPlace (varsOf b) j
 
-  vars-on : (b : Bool) (j : ℤ) → VarsOn b j (placeWay f (cond b 3 8) j)
+  vars-on : (b : Bool) (j : ℤ) → VarsOn b j (fileWay f (cond b 3 8) j)
   unfolding placeWay
   vars-on b (negsuc j) = (refl, inl refl)
   vars-on true (pos j) =
-      go (sought f 3 (Place j) (gdrAt f + 8) 0 (allowance f))
-      (variables-way f true (Place j) (gdrAt f + 8) (allowance f) (lay .0) (n .valid .obeys .1 .0) r-standing (omega (arith, room f (n .valid))))
+      go (sought body 3 (Place j) (gdrAt body + 8) 0 (allowance f))
+      (variables-way body true (Place j) (gdrAt body + 8) (allowance f) (lay .0) (n .valid .obeys .1 .0) r-standing (omega (arith, enough)))
     where
-      go : (s : Way) → OnVariables f 3 (Place j) (allowance f) (lay .0) s → VarsOn true (pos j) s
+      go : (s : Way) → OnVariables body 3 (Place j) (allowance f) (lay .0) s → VarsOn true (pos j) s
       go (Found v rest) a = a
       go (Stopped m) a = (a .number, inr (omega (arith, none-placed (lay .0) 0 j (omega arith) (a .none))))
   vars-on false (pos j) =
-      go (sought f 8 (Place j) (gdrAt f + 12) 0 (allowance f))
-      (variables-way f false (Place j) (gdrAt f + 12) (allowance f) (lay .1 .0) (n .valid .obeys .1 .1 .0) z-standing (omega (arith, room f (n .valid))))
+      go (sought body 8 (Place j) (gdrAt body + 12) 0 (allowance f))
+      (variables-way body false (Place j) (gdrAt body + 12) (allowance f) (lay .1 .0) (n .valid .obeys .1 .1 .0) z-standing (omega (arith, enough)))
     where
-      go : (s : Way) → OnVariables f 8 (Place j) (allowance f) (lay .1 .0) s → VarsOn false (pos j) s
+      go : (s : Way) → OnVariables body 8 (Place j) (allowance f) (lay .1 .0) s → VarsOn false (pos j) s
       go (Found v rest) a = a
       go (Stopped m) a = (a .number, inr (omega (arith, none-placed (lay .1 .0) 0 j (omega arith) (a .none))))
 
   -- ---- "counts equal lengths"
-  vars-count : (b : Bool) → fieldAt f (gdrAt f + cond b 24 40) ≡ pos (length (varsOf b))
+  vars-count : (b : Bool) → fieldAt body (gdrAt body + cond b 24 40) ≡ pos (length (varsOf b))
   unfolding isAt
-  vars-count true = eqZ-true (fieldAt f (gdrAt f + 24)) (pos (length (lay .0))) (r-reads f (lay .0) (gdrAt f + 8) (n .valid .obeys .1 .0) .0 .counted)
-  vars-count false = eqZ-true (fieldAt f (gdrAt f + 40)) (pos (length (lay .1 .0))) (z-reads f (lay .1 .0) (gdrAt f + 12) (n .valid .obeys .1 .1 .0) .counted)
+  vars-count true = eqZ-true (fieldAt body (gdrAt body + 24)) (pos (length (lay .0))) (r-reads body (lay .0) (gdrAt body + 8) (n .valid .obeys .1 .0) .0 .counted)
+  vars-count false = eqZ-true (fieldAt body (gdrAt body + 40)) (pos (length (lay .1 .0))) (z-reads body (lay .1 .0) (gdrAt body + 12) (n .valid .obeys .1 .1 .0) .counted)
 
-  attrs-count : fieldAt f (gdrAt f + 28) ≡ pos (length (lay .1 .1 .0))
+  attrs-count : fieldAt body (gdrAt body + 28) ≡ pos (length (lay .1 .1 .0))
   unfolding isAt
   attrs-count =
-      eqZ-true (fieldAt f (gdrAt f + 28)) (pos (length (lay .1 .1 .0))) (attrs-reads f (gdrAt f + 16) (lay .1 .1 .0) (n .valid .obeys .1 .1 .1 .0) .counted)
+      eqZ-true (fieldAt body (gdrAt body + 28)) (pos (length (lay .1 .1 .0))) (attrs-reads body (gdrAt body + 16) (lay .1 .1 .0) (n .valid .obeys .1 .1 .1 .0) .counted)
 
-  no-place : (p len : ℕ) (j : ℤ) → fieldAt f p ≡ pos len → (leZ (pos 0) j ≡ false) ⊎ (len ≤ natOr 0 j) → placeThere f p j ≡ false
+  no-place : (p len : ℕ) (j : ℤ) → fieldAt body p ≡ pos len → (leZ (pos 0) j ≡ false) ⊎ (len ≤ natOr 0 j) → placeThere body p j ≡ false
   no-place p len j e (inl h) = rw h
   no-place p len (pos j) e (inr h) = rw (e, le-ltb j len h) (and-false (leb 0 j))
   no-place p len (negsuc j) e (inr h) = refl
 
-  a-place : (p len : ℕ) (j : ℤ) → fieldAt f p ≡ pos len → leZ (pos 0) j ≡ true → natOr 0 j < len → placeThere f p j ≡ true
+  a-place : (p len : ℕ) (j : ℤ) → fieldAt body p ≡ pos len → leZ (pos 0) j ≡ true → natOr 0 j < len → placeThere body p j ≡ true
   a-place p len (pos j) e h l = rw (e, h, lt-ltb j len l)
   a-place p len (negsuc j) e h l = absurd (true≢false (sym h))
 
-  pub variable-not-there : (k j : ℤ) → (ofKinds 3 8 k ≡ false) ⊎ NoPlace (varsOf (eqZ k (pos 3))) j → variableThere f k j ≡ false
+  pub variable-not-there : (k j : ℤ) → (ofKinds 3 8 k ≡ false) ⊎ NoPlace (varsOf (eqZ k (pos 3))) j → variableThere body k j ≡ false
   variable-not-there k j (inl e) = rw e
   variable-not-there k j (inr h) =
-      rw (no-place (gdrAt f + cond (eqZ k (pos 3)) 24 40) (length (varsOf (eqZ k (pos 3)))) j (vars-count (eqZ k (pos 3))) h) (and-false (ofKinds 3 8 k))
+      rw (no-place (gdrAt body + cond (eqZ k (pos 3)) 24 40) (length (varsOf (eqZ k (pos 3)))) j (vars-count (eqZ k (pos 3))) h) (and-false (ofKinds 3 8 k))
 
   pub variable-is-there : (k j : ℤ) (v rest : ℕ) → ofKinds 3 8 k ≡ true → leZ (pos 0) j ≡ true
-      → VariableIn f (kindAmong 3 8 k) (Place (natOr 0 j)) (allowance f) (varsOf (eqZ k (pos 3))) v rest → variableThere f k j ≡ true
+      → VariableIn body (kindAmong 3 8 k) (Place (natOr 0 j)) (allowance f) (varsOf (eqZ k (pos 3))) v rest → variableThere body k j ≡ true
   variable-is-there k j v rest e h a =
       let b = a .found in
       let q : 0 + length (b .earlier) ≡ natOr 0 j = eqb-true (0 + length (b .earlier)) (natOr 0 j) (b .wanted) in
       let s = length-earlier (varsOf (eqZ k (pos 3))) (b .earlier) (b .later) (b .here) (b .split) in
-      rw (e, a-place (gdrAt f + cond (eqZ k (pos 3)) 24 40) (length (varsOf (eqZ k (pos 3)))) j (vars-count (eqZ k (pos 3))) h (omega (arith, q, s)))
+      rw (e, a-place (gdrAt body + cond (eqZ k (pos 3)) 24 40) (length (varsOf (eqZ k (pos 3)))) j (vars-count (eqZ k (pos 3))) h (omega (arith, q, s)))
 
   -- THE WAY TO A VARIABLE comes to it, or to 15
   abbrev pub VariableOn : ℤ → ℤ → Way → Type 0
-  VariableOn k j (Found v rest) = (ofKinds 3 8 k ≡ true) × VariableIn f (kindAmong 3 8 k) (Place (natOr 0 j)) (allowance f) (varsOf (eqZ k (pos 3))) v rest
+  VariableOn k j (Found v rest) = (ofKinds 3 8 k ≡ true) × VariableIn body (kindAmong 3 8 k) (Place (natOr 0 j)) (allowance f) (varsOf (eqZ k (pos 3))) v rest
   VariableOn k j (Stopped m) = (m ≡ 15) × ((ofKinds 3 8 k ≡ false) ⊎ NoPlace (varsOf (eqZ k (pos 3))) j)
 
   pub variable-on : (k j : ℤ) → VariableOn k j (variableWay f k j)
   unfolding variableWay
-  variable-on k j = rw opens (go (ofKinds 3 8 k) refl (placeWay f (kindAmong 3 8 k) j) (vars-on (eqZ k (pos 3)) j))
+  variable-on k j = rw opens (go (ofKinds 3 8 k) refl (fileWay f (kindAmong 3 8 k) j) (vars-on (eqZ k (pos 3)) j))
     where
       go : (c : Bool) → ofKinds 3 8 k ≡ c → (s : Way) → VarsOn (eqZ k (pos 3)) j s → VariableOn k j (cond c s (Stopped 15))
       go true e (Found v rest) a = (e, a)
@@ -157,17 +167,17 @@ module _ (f : List ℕ) (n : NestedAccepted f) where
 
   -- ---- attributes
   abbrev pub AttributeOn : ℤ → Way → Type 0
-  AttributeOn j (Found a rest) = AttributeIn f (Place (natOr 0 j)) (allowance f) (lay .1 .1 .0) a rest
+  AttributeOn j (Found a rest) = AttributeIn body (Place (natOr 0 j)) (allowance f) (lay .1 .1 .0) a rest
   AttributeOn j (Stopped m) = (m ≡ 15) × NoPlace (lay .1 .1 .0) j
 
-  attrs-on : (j : ℤ) → AttributeOn j (placeWay f 4 j)
+  attrs-on : (j : ℤ) → AttributeOn j (fileWay f 4 j)
   unfolding placeWay
   attrs-on (negsuc j) = (refl, inl refl)
   attrs-on (pos j) =
-      go (sought f 4 (Place j) (gdrAt f + 16) 0 (allowance f))
-      (attributes-way f (Place j) (gdrAt f + 16) (allowance f) (lay .1 .1 .0) (n .valid .obeys .1 .1 .1 .0) ads-standing (omega (arith, room f (n .valid))))
+      go (sought body 4 (Place j) (gdrAt body + 16) 0 (allowance f))
+      (attributes-way body (Place j) (gdrAt body + 16) (allowance f) (lay .1 .1 .0) (n .valid .obeys .1 .1 .1 .0) ads-standing (omega (arith, enough)))
     where
-      go : (s : Way) → OnAttributes f (Place j) (allowance f) (lay .1 .1 .0) s → AttributeOn (pos j) s
+      go : (s : Way) → OnAttributes body (Place j) (allowance f) (lay .1 .1 .0) s → AttributeOn (pos j) s
       go (Found a rest) w = w
       go (Stopped m) w = (w .number, inr (omega (arith, none-placed (lay .1 .1 .0) 0 j (omega arith) (w .none))))
 
@@ -183,60 +193,60 @@ module _ (f : List ℕ) (n : NestedAccepted f) where
   pub record EntryIn (b : Bool) (j : ℤ) (w : Wanted) (e rest : ℕ) : Type 0 where
     pub adr : ℕ
     pub left : ℕ
-    pub attribute : AttributeIn f (Place (natOr 0 j)) (allowance f) (lay .1 .1 .0) adr left
-    pub entry : FoundIn f (cond b 5 9) w (λ e. e) 0 left (entriesIn b (attribute .found .here)) e rest
+    pub attribute : AttributeIn body (Place (natOr 0 j)) (allowance f) (lay .1 .1 .0) adr left
+    pub entry : FoundIn body (cond b 5 9) w (λ e. e) 0 left (entriesIn b (attribute .found .here)) e rest
 
   pub record EntryLacks (b : Bool) (j : ℤ) (w : Wanted) (m : ℕ) : Type 0 where
     pub adr : ℕ
     pub left : ℕ
-    pub way : placeWay f 4 j ≡ Found adr left
-    pub attribute : AttributeIn f (Place (natOr 0 j)) (allowance f) (lay .1 .1 .0) adr left
-    pub entry : NoneIn f (cond b 5 9) w (λ e. e) 0 (entriesIn b (attribute .found .here)) m
+    pub way : fileWay f 4 j ≡ Found adr left
+    pub attribute : AttributeIn body (Place (natOr 0 j)) (allowance f) (lay .1 .1 .0) adr left
+    pub entry : NoneIn body (cond b 5 9) w (λ e. e) 0 (entriesIn b (attribute .found .here)) m
 
-  pub entries-linked : (b : Bool) (j : ℤ) (a left : ℕ) (i : AttributeIn f (Place (natOr 0 j)) (allowance f) (lay .1 .1 .0) a left)
-      → Linked f (λ e. e) (a + entriesPlace (cond b 5 9)) (entriesIn b (i .found .here))
-  entries-linked true j a left i = listed-reads f (entriesRules f 5 a) (a + 12) (i .found .here .grEntries) (i .gr) .linked
-  entries-linked false j a left i = listed-reads f (entriesRules f 9 a) (a + 36) (i .found .here .zEntries) (i .z) .linked
+  pub entries-linked : (b : Bool) (j : ℤ) (a left : ℕ) (i : AttributeIn body (Place (natOr 0 j)) (allowance f) (lay .1 .1 .0) a left)
+      → Linked body (λ e. e) (a + entriesPlace (cond b 5 9)) (entriesIn b (i .found .here))
+  entries-linked true j a left i = listed-reads body (entriesRules body 5 a) (a + 12) (i .found .here .grEntries) (i .gr) .linked
+  entries-linked false j a left i = listed-reads body (entriesRules body 9 a) (a + 36) (i .found .here .zEntries) (i .z) .linked
 
   abbrev EntriesOn : Bool → ℤ → Wanted → Way → Type 0
   EntriesOn b j w (Found e rest) = EntryIn b j w e rest
   EntriesOn b j w (Stopped m) = ((m ≡ 15) × NoPlace (lay .1 .1 .0) j) ⊎ ((m ≡ 16) × EntryLacks b j w m)
 
-  entries-on : (b : Bool) (j : ℤ) (w : Wanted) → EntriesOn b j w (entriesOf f (cond b 5 9) w (placeWay f 4 j))
-  entries-on b j w = go b (placeWay f 4 j) refl (attrs-on j)
+  entries-on : (b : Bool) (j : ℤ) (w : Wanted) → EntriesOn b j w (entriesOf body (cond b 5 9) w (fileWay f 4 j))
+  entries-on b j w = go b (fileWay f 4 j) refl (attrs-on j)
     where
-      go : (b : Bool) (s : Way) → placeWay f 4 j ≡ s → AttributeOn j s → EntriesOn b j w (entriesOf f (cond b 5 9) w s)
+      go : (b : Bool) (s : Way) → fileWay f 4 j ≡ s → AttributeOn j s → EntriesOn b j w (entriesOf body (cond b 5 9) w s)
       go b (Stopped m) q a = inl a
       go true (Found d left) q a =
-          on (sought f 5 w (d + 12) 0 left)
-          (entries-way f true w d (d + 12) left (a .found .here .grEntries) (a .gr)
+          on (sought body 5 w (d + 12) 0 left)
+          (entries-way body true w d (d + 12) left (a .found .here .grEntries) (a .gr)
           (λ o i. a .stands o (in-left (a .found .here .grEntries) (a .found .here .zEntries) o i))
           (omega (arith, a .room, length-append (a .found .here .grEntries) (a .found .here .zEntries))))
         where
-          on : (s : Way) → OnList f 5 w (λ e. e) 0 left (a .found .here .grEntries) s → EntriesOn true j w s
+          on : (s : Way) → OnList body 5 w (λ e. e) 0 left (a .found .here .grEntries) s → EntriesOn true j w s
           on (Found e rest) i = record { adr = d; left = left; attribute = a; entry = i }
           on (Stopped m) i = inr (i .number, record { adr = d; left = left; way = q; attribute = a; entry = i })
       go false (Found d left) q a =
-          on (sought f 9 w (d + 36) 0 left)
-          (entries-way f false w d (d + 36) left (a .found .here .zEntries) (a .z)
+          on (sought body 9 w (d + 36) 0 left)
+          (entries-way body false w d (d + 36) left (a .found .here .zEntries) (a .z)
           (λ o i. a .stands o (in-right (a .found .here .grEntries) (a .found .here .zEntries) o i))
           (omega (arith, a .room, length-append (a .found .here .grEntries) (a .found .here .zEntries))))
         where
-          on : (s : Way) → OnList f 9 w (λ e. e) 0 left (a .found .here .zEntries) s → EntriesOn false j w s
+          on : (s : Way) → OnList body 9 w (λ e. e) 0 left (a .found .here .zEntries) s → EntriesOn false j w s
           on (Found e rest) i = record { adr = d; left = left; attribute = a; entry = i }
           on (Stopped m) i = inr (i .number, record { adr = d; left = left; way = q; attribute = a; entry = i })
 
-  pub attribute-not-there : (j k : ℤ) → (ofKinds 5 9 k ≡ false) ⊎ NoPlace (lay .1 .1 .0) j → attributeThere f j k ≡ false
+  pub attribute-not-there : (j k : ℤ) → (ofKinds 5 9 k ≡ false) ⊎ NoPlace (lay .1 .1 .0) j → attributeThere body j k ≡ false
   attribute-not-there j k (inl e) = rw e
-  attribute-not-there j k (inr h) = rw (no-place (gdrAt f + 28) (length (lay .1 .1 .0)) j attrs-count h) (and-false (ofKinds 5 9 k))
+  attribute-not-there j k (inr h) = rw (no-place (gdrAt body + 28) (length (lay .1 .1 .0)) j attrs-count h) (and-false (ofKinds 5 9 k))
 
   pub attribute-is-there : (j k : ℤ) (a rest : ℕ) → ofKinds 5 9 k ≡ true → leZ (pos 0) j ≡ true
-      → AttributeIn f (Place (natOr 0 j)) (allowance f) (lay .1 .1 .0) a rest → attributeThere f j k ≡ true
+      → AttributeIn body (Place (natOr 0 j)) (allowance f) (lay .1 .1 .0) a rest → attributeThere body j k ≡ true
   attribute-is-there j k a rest e h i =
       let b = i .found in
       let q : 0 + length (b .earlier) ≡ natOr 0 j = eqb-true (0 + length (b .earlier)) (natOr 0 j) (b .wanted) in
       let s = length-earlier (lay .1 .1 .0) (b .earlier) (b .later) (b .here) (b .split) in
-      rw (e, a-place (gdrAt f + 28) (length (lay .1 .1 .0)) j attrs-count h (omega (arith, q, s)))
+      rw (e, a-place (gdrAt body + 28) (length (lay .1 .1 .0)) j attrs-count h (omega (arith, q, s)))
 
   -- THE WAY TO AN ENTRY comes to it, to 15 or to 16
   abbrev pub EntryOn : ℤ → ℤ → Wanted → Way → Type 0
@@ -247,7 +257,7 @@ module _ (f : List ℕ) (n : NestedAccepted f) where
 
   pub entry-on : (j k : ℤ) (w : Wanted) → EntryOn j k w (entryWay f j k w)
   unfolding entryWay
-  entry-on j k w = rw opens (go (ofKinds 5 9 k) refl (entriesOf f (kindAmong 5 9 k) w (placeWay f 4 j)) (entries-on (eqZ k (pos 5)) j w))
+  entry-on j k w = rw opens (go (ofKinds 5 9 k) refl (entriesOf body (kindAmong 5 9 k) w (fileWay f 4 j)) (entries-on (eqZ k (pos 5)) j w))
     where
       go : (c : Bool) → ofKinds 5 9 k ≡ c → (s : Way) → EntriesOn (eqZ k (pos 5)) j w s → EntryOn j k w (cond c s (Stopped 15))
       go true e (Found o rest) a = (e, a)

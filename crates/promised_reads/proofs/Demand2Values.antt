@@ -7,6 +7,7 @@ use mathlib.Core.List.{List}
 use Prim.Native.Nat.{ℕ, _+_}
 use lib.IntN.{ℤ, pos}
 use Rattle.format.specs.Fields.{eqZ, natOr}
+use Rattle.records.specs.Opening.{bodyOf}
 use Rattle.variables.specs.Vdr.{variableOf}
 use Rattle.values.specs.declared.value.Answer.{Answer}
 use Rattle.ways.specs.Lists.{allowance, ofKinds, kindAmong, headPlace, entriesPlace, variableWay, attributeWay, entryWay}
@@ -24,7 +25,7 @@ use Rattle.promised_reads.specs.Reading.{PlainAccepts, Met, ValueShown, 
 use Rattle.demands.proofs.NestedDemand.{NestedAccepted, nested-demand}
 use Rattle.demands.proofs.Nested.{chainRules}
 use Rattle.demands.proofs.Splits.{listed-reads}
-use Rattle.ways.proofs.Sought.{Finds, Listed, place-listed, ToVariable, variable-found, ToEntry, entry-found}
+use Rattle.ways.proofs.Sought.{Finds, Listed, place-listed, InOpened, ToVariable, variable-found, ToEntry, entry-found}
 use Rattle.answers.proofs.Telling.{Tells}
 use Rattle.promised_reads.proofs.Shown.{list-met, value-tells, entry-tells, pad-tells, levels-tell}
 use Rattle.promised_reads.proofs.Indexes.{Lost, RecordOn, LevelsOn, record-on, levels-on}
@@ -39,6 +40,10 @@ told Shown Why (Value a) t = t
 told Shown Why (Refused v) t = t
 
 module _ (f : List ℕ) (n : NestedAccepted f) where
+  -- the bytes before the end
+  abbrev body : List ℕ
+  body = bodyOf f
+
   -- ---- the numbers that the ways stop with
   pub variable-stops : (k j : ℤ) (m : ℕ) → variableWay f k j ≡ Stopped m → m ≡ 15
   variable-stops k j m e = subst (VariableOn f n k j) e (variable-on f n k j) .0
@@ -55,78 +60,78 @@ module _ (f : List ℕ) (n : NestedAccepted f) where
 
   -- ---- the variable found, and the way to a record of it
   module _ (k j : ℤ) (v left : ℕ) (way : variableWay f k j ≡ Found v left) where
-    listed : Listed f (kindAmong 3 8 k) j v
-    listed = subst (Finds (ToVariable f k j)) way (variable-found f k j) .listed
+    listed : Listed body (kindAmong 3 8 k) j v
+    listed = subst (Finds (InOpened f (ToVariable k j))) way (variable-found f k j) .1 .listed
 
-    pub vdr : VariableIn f (kindAmong 3 8 k) (Place (natOr 0 j)) (allowance f) (varsOf f n (eqZ k (pos 3))) v left
+    pub vdr : VariableIn body (kindAmong 3 8 k) (Place (natOr 0 j)) (allowance f) (varsOf f n (eqZ k (pos 3))) v left
     vdr = subst (VariableOn f n k j) way (variable-on f n k j) .1
 
     -- the top chain of its index
     abbrev pub chain : List ℕ
     chain = vdr .found .here .vxrs
 
-    pub way-on : (r : ℤ) → RecordOn f v chain r (recordWay f v (variableOf f (kindAmong 3 8 k) v .bytes) r left)
-    way-on r = record-on f (kindAmong 3 8 k) v chain (vdr .parts) (vdr .index) (vdr .stands) r left (vdr .room)
+    pub way-on : (r : ℤ) → RecordOn body v chain r (recordWay body v (variableOf body (kindAmong 3 8 k) v .bytes) r left)
+    way-on r = record-on body (kindAmong 3 8 k) v chain (vdr .parts) (vdr .index) (vdr .stands) r left (vdr .room)
 
-    pub levels-way-on : (r : ℤ) → LevelsOn f v chain r (levelsWay f v r left)
-    levels-way-on r = levels-on f (kindAmong 3 8 k) v chain (vdr .parts) (vdr .index) (vdr .stands) r left (vdr .room)
+    pub levels-way-on : (r : ℤ) → LevelsOn body v chain r (levelsWay body v r left)
+    levels-way-on r = levels-on body (kindAmong 3 8 k) v chain (vdr .parts) (vdr .index) (vdr .stands) r left (vdr .room)
 
-    pub there : variableThere f k j ≡ true
+    pub there : variableThere body k j ≡ true
     there = let a = subst (VariableOn f n k j) way (variable-on f n k j) in variable-is-there f n k j v left (a .0) (listed .least) (a .1)
 
-    pub met : Met f (kindAmong 3 8 k) (headPlace f (kindAmong 3 8 k)) (natOr 0 j) v
-    met = list-met f (kindAmong 3 8 k) (headPlace f (kindAmong 3 8 k)) (natOr 0 j) v (listed .is) (listed .met)
+    pub met : Met body (kindAmong 3 8 k) (headPlace body (kindAmong 3 8 k)) (natOr 0 j) v
+    met = list-met body (kindAmong 3 8 k) (headPlace body (kindAmong 3 8 k)) (natOr 0 j) v (listed .is) (listed .met)
 
     -- ---- why a record is refused
-    linked : Linked f (λ x. x) (v + 20) chain
-    linked = listed-reads f (chainRules f (kindAmong 3 8 k) v) (v + 20) chain (vdr .index) .linked
+    linked : Linked body (λ x. x) (v + 20) chain
+    linked = listed-reads body (chainRules body (kindAmong 3 8 k) v) (v + 20) chain (vdr .index) .linked
 
-    lost : (r : ℤ) (m : ℕ) → Lost f v chain r m
-        → ((m ≡ 16) × (recordThere f v r ≡ false)) ⊎ ((m ≡ 17) × (recordThere f v r ≡ true) × InGap f v (recordRead f v r))
+    lost : (r : ℤ) (m : ℕ) → Lost body v chain r m
+        → ((m ≡ 16) × (recordThere body v r ≡ false)) ⊎ ((m ≡ 17) × (recordThere body v r ≡ true) × InGap body v (recordRead body v r))
     lost r m (inl a) = inl a
     lost r m (inr a) = inr (a .0, a .1, record { vxrs = chain; linked = linked; none = a .2 })
 
-    record-why : (r : ℤ) (is : List ℤ) (x : ℤ) (m : ℕ) → recordWay f v (variableOf f (kindAmong 3 8 k) v .bytes) r left ≡ NoRecord m
-        → RecordRefused f (kindAmong 3 8 k) v r is x m
-    record-why r is x m e = go (lost r m (subst (RecordOn f v chain r) e (way-on r)))
+    record-why : (r : ℤ) (is : List ℤ) (x : ℤ) (m : ℕ) → recordWay body v (variableOf body (kindAmong 3 8 k) v .bytes) r left ≡ NoRecord m
+        → RecordRefused body (kindAmong 3 8 k) v r is x m
+    record-why r is x m e = go (lost r m (subst (RecordOn body v chain r) e (way-on r)))
       where
-        go : ((m ≡ 16) × (recordThere f v r ≡ false)) ⊎ ((m ≡ 17) × (recordThere f v r ≡ true) × InGap f v (recordRead f v r))
-            → RecordRefused f (kindAmong 3 8 k) v r is x m
+        go : ((m ≡ 16) × (recordThere body v r ≡ false)) ⊎ ((m ≡ 17) × (recordThere body v r ≡ true) × InGap body v (recordRead body v r))
+            → RecordRefused body (kindAmong 3 8 k) v r is x m
         go (inl a) = inl a
         go (inr a) = inr (inl a)
 
-    levels-why : (r : ℤ) (m : ℕ) → levelsWay f v r left ≡ Unknown m → LevelsRefused f k j r m
-    levels-why r m e = inr (there, v, met, lost r m (subst (LevelsOn f v chain r) e (levels-way-on r)))
+    levels-why : (r : ℤ) (m : ℕ) → levelsWay body v r left ≡ Unknown m → LevelsRefused body k j r m
+    levels-why r m e = inr (there, v, met, lost r m (subst (LevelsOn body v chain r) e (levels-way-on r)))
 
-    ranged : (r : ℤ) (at : ℕ) → recordWay f v (variableOf f (kindAmong 3 8 k) v .bytes) r left ≡ Record at
-        → (recordThere f v r ≡ true) × InRange f v (recordRead f v r)
+    ranged : (r : ℤ) (at : ℕ) → recordWay body v (variableOf body (kindAmong 3 8 k) v .bytes) r left ≡ Record at
+        → (recordThere body v r ≡ true) × InRange body v (recordRead body v r)
     ranged r at e =
-        let a = subst (RecordOn f v chain r) e (way-on r) in
+        let a = subst (RecordOn body v chain r) e (way-on r) in
         (a .0, record { vxrs = chain; linked = linked; slot = a .1; lowest = a .2; covers = a .3 })
 
   -- ---- the entry found
   module _ (b k : ℤ) (w : Wanted) (e left : ℕ) (way : entryWay f b k w ≡ Found e left) where
-    pub found : ToEntry f b k w e
-    found = subst (Finds (ToEntry f b k w)) way (entry-found f b k w)
+    pub found : ToEntry b k w body e
+    found = subst (Finds (InOpened f (ToEntry b k w))) way (entry-found f b k w) .1
 
-    pub owner-there : attributeThere f b k ≡ true
+    pub owner-there : attributeThere body b k ≡ true
     owner-there =
         let a = subst (EntryOn f n b k w) way (entry-on f n b k w) in
         attribute-is-there f n b k (a .1 .adr) (a .1 .left) (a .0) (found .attribute .least) (a .1 .attribute)
 
-    pub owner-met : Met f 4 (headPlace f 4) (natOr 0 b) (found .adr)
-    owner-met = list-met f 4 (headPlace f 4) (natOr 0 b) (found .adr) (found .attribute .is) (found .attribute .met)
+    pub owner-met : Met body 4 (headPlace body 4) (natOr 0 b) (found .adr)
+    owner-met = list-met body 4 (headPlace body 4) (natOr 0 b) (found .adr) (found .attribute .is) (found .attribute .met)
 
-    entry-met : Met f (kindAmong 5 9 k) (found .adr + entriesPlace (kindAmong 5 9 k)) (found .entry .place) e
-    entry-met = list-met f (kindAmong 5 9 k) (found .adr + entriesPlace (kindAmong 5 9 k)) (found .entry .place) e (found .entry .is) (found .entry .met)
+    entry-met : Met body (kindAmong 5 9 k) (found .adr + entriesPlace (kindAmong 5 9 k)) (found .entry .place) e
+    entry-met = list-met body (kindAmong 5 9 k) (found .adr + entriesPlace (kindAmong 5 9 k)) (found .entry .place) e (found .entry .is) (found .entry .met)
 
-  no-entry : (b k j x : ℤ) (m : ℕ) → m ≡ 16 → ofKinds 5 9 k ≡ true → EntryLacks f n (eqZ k (pos 5)) b (Number j) m → EntryRefused f b k j x m
+  no-entry : (b k j x : ℤ) (m : ℕ) → m ≡ 16 → ofKinds 5 9 k ≡ true → EntryLacks f n (eqZ k (pos 5)) b (Number j) m → EntryRefused body b k j x m
   no-entry b k j x m e h a =
-      let l = subst (Finds (Listed f 4 b)) (a .way) (place-listed f 4 b) in
+      let l = subst (Finds (Listed body 4 b)) (a .way) (place-listed body 4 b (allowance f)) in
       inr (
         attribute-is-there f n b k (a .adr) (a .left) h (l .least) (a .attribute),
         a .adr,
-        list-met f 4 (headPlace f 4) (natOr 0 b) (a .adr) (l .is) (l .met),
+        list-met body 4 (headPlace body 4) (natOr 0 b) (a .adr) (l .is) (l .met),
         inl (
           e,
           record {
@@ -141,15 +146,15 @@ module _ (f : List ℕ) (n : NestedAccepted f) where
   pub reads-right : ReadsRight f
   reads-right = record {
     value = λ k j r is x.
-        told (ValueShown f k j r is x) (ValueRefused f k j r is x) (valueRead f k j r is x)
-        (value-tells f k j r is x (ValueRefused f k j r is x)
+        told (ValueShown body k j r is x) (ValueRefused body k j r is x) (valueRead f k j r is x)
+        (value-tells f k j r is x (ValueRefused body k j r is x)
         (λ m e. let a = subst (VariableOn f n k j) e (variable-on f n k j) in inl (a .0, variable-not-there f n k j (a .1)))
         (λ v left m e h. inr (there k j v left e, v, met k j v left e, record-why k j v left e r is x m h))
         (λ v left at e h g. let a = ranged k j v left e r at h in inr (there k j v left e, v, met k j v left e, inr (inr (inl (refl, a .0, a .1, g)))))
         (λ v left at e h g w. let a = ranged k j v left e r at h in inr (there k j v left e, v, met k j v left e, inr (inr (inr (refl, a .0, a .1, g, w))))));
     entry = λ b k j x.
-        told (EntryShown f b k j x) (EntryRefused f b k j x) (entryRead f b k j x)
-        (entry-tells f b k j x (EntryShown f b k j x) (EntryRefused f b k j x)
+        told (EntryShown body b k j x) (EntryRefused body b k j x) (entryRead f b k j x)
+        (entry-tells f b k j x (EntryShown body b k j x) (EntryRefused body b k j x)
         (λ m e. entry-why b k j x m (subst (EntryOn f n b k (Number j)) e (entry-on f n b k (Number j))))
         (λ e left q a w h g. w)
         (λ e left q h.
@@ -167,19 +172,19 @@ module _ (f : List ℕ) (n : NestedAccepted f) where
           inr (e, found b k (Number j) e left q .entry .place, entry-met b k (Number j) e left q, found b k (Number j) e left q .entry .wanted, inr (refl, h, g)),
         )));
     pad = λ k j x.
-        told (PadShown f k j x) (PadRefused f k j x) (padRead f k j x)
-        (pad-tells f k j x (PadShown f k j x) (PadRefused f k j x)
+        told (PadShown body k j x) (PadRefused body k j x) (padRead f k j x)
+        (pad-tells f k j x (PadShown body k j x) (PadRefused body k j x)
         (λ m e. let a = subst (VariableOn f n k j) e (variable-on f n k j) in inl (a .0, variable-not-there f n k j (a .1)))
         (λ v left e a w h g. w)
         (λ v left e h. inr (there k j v left e, v, met k j v left e, inl (refl, h)))
         (λ v left e h g. inr (there k j v left e, v, met k j v left e, inr (refl, h, g))));
     levels = λ k j r.
-        levels-tell f k j r (LevelsRefused f k j r)
+        levels-tell f k j r (LevelsRefused body k j r)
         (λ m e. let a = subst (VariableOn f n k j) e (variable-on f n k j) in inl (a .0, variable-not-there f n k j (a .1)))
         (λ v left m e h. levels-why k j v left e r m h);
   }
     where
-      entry-why : (b k j x : ℤ) (m : ℕ) → EntryOn f n b k (Number j) (Stopped m) → EntryRefused f b k j x m
+      entry-why : (b k j x : ℤ) (m : ℕ) → EntryOn f n b k (Number j) (Stopped m) → EntryRefused body b k j x m
       entry-why b k j x m (inl a) = inl (a .0, attribute-not-there f n b k (a .1))
       entry-why b k j x m (inr a) = no-entry b k j x m (a .0) (a .1) (a .2)
 

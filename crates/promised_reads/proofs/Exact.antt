@@ -8,7 +8,8 @@ use native.Mathlib.Omega.{arith}
 use lib.Dec.{eqb}
 use lib.IntN.{ℤ}
 use Rattle.format.specs.Fields.{isAt, linkAt, natOr}
-use Rattle.ways.specs.Lists.{opened, ofKinds, meets, overOf, lastLink, sought, headPlace, kindAmong, entriesPlace, entriesOf, placeWay, variableWay, entryWay}
+use Rattle.records.specs.Opening.{bodyOf}
+use Rattle.ways.specs.Lists.{opened, allowance, ofKinds, meets, overOf, lastLink, sought, headPlace, kindAmong, entriesPlace, entriesOf, fileWay, variableWay, entryWay}
 use Rattle.ways.specs.declared.lists.Wanted.the-variants.{Number}
 use Rattle.ways.specs.declared.lists.Way.{Way}
 use Rattle.ways.specs.declared.lists.Way.the-variants.{Found, Stopped}
@@ -18,7 +19,7 @@ use Rattle.answers.specs.declared.Read.the-variants.{Value, Refused}
 use Rattle.demands.specs.Acceptance.{Each, Linked}
 use Rattle.promised_reads.specs.Reading.{Met, EntryShown, attributeThere, vaxFloat, padRight, NoEntry, NoEntryNumber, ElementsRefused, EntryRefused, GivenOrRefused}
 use Rattle.demands.proofs.NestedDemand.{NestedAccepted}
-use Rattle.ways.proofs.Kept.{both}
+use Rattle.records.proofs.Bodies.{both}
 use Rattle.ways.proofs.Sought.{Finds, found-not-stopped, found-same, Listed, place-listed}
 use Rattle.answers.proofs.Telling.{Tells}
 use Rattle.answers.proofs.Asked.{entry-stopped}
@@ -51,32 +52,32 @@ module _ (f : List ℕ) where
 
   -- ---- an entry that was found
   entry-judged : (b k n x : ℤ) (e left : ℕ) → entryWay f b k (Number n) ≡ Found e left
-      → Judged (elementThere f (e + 24) x) (vaxFloat f (e + 16)) (numberOf (entryRead f b k n x))
+      → Judged (elementThere (bodyOf f) (e + 24) x) (vaxFloat (bodyOf f) (e + 16)) (numberOf (entryRead f b k n x))
   entry-judged b k n x e left way =
-      numbered (elementThere f (e + 24) x) (vaxFloat f (e + 16)) (entryRead f b k n x)
-      (entry-tells f b k n x (λ a. Judged (elementThere f (e + 24) x) (vaxFloat f (e + 16)) 0) (Judged (elementThere f (e + 24) x) (vaxFloat f (e + 16)))
+      numbered (elementThere (bodyOf f) (e + 24) x) (vaxFloat (bodyOf f) (e + 16)) (entryRead f b k n x)
+      (entry-tells f b k n x (λ a. Judged (elementThere (bodyOf f) (e + 24) x) (vaxFloat (bodyOf f) (e + 16)) 0) (Judged (elementThere (bodyOf f) (e + 24) x) (vaxFloat (bodyOf f) (e + 16)))
       (λ m h. absurd (found-not-stopped e left m (sym way ∙ h)))
       (λ u rest h a w i v.
       let q = found-same e u left rest (sym h ∙ way) .0 in
-      inr (inr (refl, subst (λ (o : ℕ). elementThere f (o + 24) x ≡ true) q i, subst (λ (o : ℕ). vaxFloat f (o + 16) ≡ false) q v)))
-      (λ u rest h i. inl (refl, subst (λ (o : ℕ). elementThere f (o + 24) x ≡ false) (found-same e u left rest (sym h ∙ way) .0) i))
+      inr (inr (refl, subst (λ (o : ℕ). elementThere (bodyOf f) (o + 24) x ≡ true) q i, subst (λ (o : ℕ). vaxFloat (bodyOf f) (o + 16) ≡ false) q v)))
+      (λ u rest h i. inl (refl, subst (λ (o : ℕ). elementThere (bodyOf f) (o + 24) x ≡ false) (found-same e u left rest (sym h ∙ way) .0) i))
       (λ u rest h i v.
       let q = found-same e u left rest (sym h ∙ way) .0 in
-      inr (inl (refl, subst (λ (o : ℕ). elementThere f (o + 24) x ≡ true) q i, subst (λ (o : ℕ). vaxFloat f (o + 16) ≡ true) q v))))
+      inr (inl (refl, subst (λ (o : ℕ). elementThere (bodyOf f) (o + 24) x ≡ true) q i, subst (λ (o : ℕ). vaxFloat (bodyOf f) (o + 16) ≡ true) q v))))
 
   -- ---- the pad value of a VDR that was found
-  pad-judged : (k n x : ℤ) (v left : ℕ) → variableWay f k n ≡ Found v left → Judged (padRight f v x) (vaxFloat f (v + 12)) (numberOf (padRead f k n x))
+  pad-judged : (k n x : ℤ) (v left : ℕ) → variableWay f k n ≡ Found v left → Judged (padRight (bodyOf f) v x) (vaxFloat (bodyOf f) (v + 12)) (numberOf (padRead f k n x))
   pad-judged k n x v left way =
-      numbered (padRight f v x) (vaxFloat f (v + 12)) (padRead f k n x)
-      (pad-tells f k n x (λ a. Judged (padRight f v x) (vaxFloat f (v + 12)) 0) (Judged (padRight f v x) (vaxFloat f (v + 12)))
+      numbered (padRight (bodyOf f) v x) (vaxFloat (bodyOf f) (v + 12)) (padRead f k n x)
+      (pad-tells f k n x (λ a. Judged (padRight (bodyOf f) v x) (vaxFloat (bodyOf f) (v + 12)) 0) (Judged (padRight (bodyOf f) v x) (vaxFloat (bodyOf f) (v + 12)))
       (λ m h. absurd (found-not-stopped v left m (sym way ∙ h)))
       (λ u rest h a w i g.
       let q = found-same v u left rest (sym h ∙ way) .0 in
-      inr (inr (refl, subst (λ (o : ℕ). padRight f o x ≡ true) q i, subst (λ (o : ℕ). vaxFloat f (o + 12) ≡ false) q g)))
-      (λ u rest h i. inl (refl, subst (λ (o : ℕ). padRight f o x ≡ false) (found-same v u left rest (sym h ∙ way) .0) i))
+      inr (inr (refl, subst (λ (o : ℕ). padRight (bodyOf f) o x ≡ true) q i, subst (λ (o : ℕ). vaxFloat (bodyOf f) (o + 12) ≡ false) q g)))
+      (λ u rest h i. inl (refl, subst (λ (o : ℕ). padRight (bodyOf f) o x ≡ false) (found-same v u left rest (sym h ∙ way) .0) i))
       (λ u rest h i g.
       let q = found-same v u left rest (sym h ∙ way) .0 in
-      inr (inl (refl, subst (λ (o : ℕ). padRight f o x ≡ true) q i, subst (λ (o : ℕ). vaxFloat f (o + 12) ≡ true) q g))))
+      inr (inl (refl, subst (λ (o : ℕ). padRight (bodyOf f) o x ≡ true) q i, subst (λ (o : ℕ). vaxFloat (bodyOf f) (o + 12) ≡ true) q g))))
 
   -- ---- a list none of whose entries has the number n
   none-sought : (t : ℕ) (n : ℤ) (es : List ℕ) (left p i : ℕ) → Linked f (λ e. e) p es → Each es (λ earlier e. isAt f (e + 20) n ≡ false)
@@ -102,34 +103,40 @@ module _ (f : List ℕ) where
 pub elements-refused : ElementsRefused
 elements-refused f = record {
   entryWrong = λ b k n x e left way.
-      judged-wrong (elementThere f (e + 24) x) (vaxFloat f (e + 16)) (numberOf (entryRead f b k n x)) (entry-judged f b k n x e left way);
+      judged-wrong (elementThere (bodyOf f) (e + 24) x) (vaxFloat (bodyOf f) (e + 16)) (numberOf (entryRead f b k n x)) (entry-judged f b k n x e left way);
   entryFloat = λ b k n x e left way.
-      judged-float (elementThere f (e + 24) x) (vaxFloat f (e + 16)) (numberOf (entryRead f b k n x)) (entry-judged f b k n x e left way);
-  padWrong = λ k n x v left way. judged-wrong (padRight f v x) (vaxFloat f (v + 12)) (numberOf (padRead f k n x)) (pad-judged f k n x v left way);
-  padFloat = λ k n x v left way. judged-float (padRight f v x) (vaxFloat f (v + 12)) (numberOf (padRead f k n x)) (pad-judged f k n x v left way);
+      judged-float (elementThere (bodyOf f) (e + 24) x) (vaxFloat (bodyOf f) (e + 16)) (numberOf (entryRead f b k n x)) (entry-judged f b k n x e left way);
+  padWrong = λ k n x v left way. judged-wrong (padRight (bodyOf f) v x) (vaxFloat (bodyOf f) (v + 12)) (numberOf (padRead f k n x)) (pad-judged f k n x v left way);
+  padFloat = λ k n x v left way. judged-float (padRight (bodyOf f) v x) (vaxFloat (bodyOf f) (v + 12)) (numberOf (padRead f k n x)) (pad-judged f k n x v left way);
 }
 
 -- ---- 16 of an entry
-module _ (f : List ℕ) (b k n : ℤ) (a : ℕ) (met : Met f 4 (headPlace f 4) (natOr 0 b) a) (none : NoEntry f a (kindAmong 5 9 k) n) where
-  none-found : Finds (λ o. ⊥) (entryWay f b k (Number n))
-  unfolding entryWay
-  none-found = go (opened f) (ofKinds 5 9 k) (placeWay f 4 b) (place-listed f 4 b)
-    where
-      go : (c d : Bool) (s : Way) → Finds (Listed f 4 b) s
-          → Finds (λ o. ⊥) (cond c (cond d (entriesOf f (kindAmong 5 9 k) (Number n) s) (Stopped 15)) (Stopped 20))
-      go false d s l = tt
-      go true false s l = tt
-      go true true (Stopped m) l = tt
-      go true true (Found o left) l =
-          let q : a ≡ o = sym (met .place) ∙ sym (nth-same f (headPlace f 4) (natOr 0 b)) ∙ l .is in
-          none-sought f (kindAmong 5 9 k) n (none .entries) left (o + entriesPlace (kindAmong 5 9 k)) 0
-          (subst (λ (o : ℕ). Linked f (λ e. e) (o + entriesPlace (kindAmong 5 9 k)) (none .entries)) q (none .linked)) (none .none)
+module _ (f : List ℕ) (b k n : ℤ) (a : ℕ) (met : Met (bodyOf f) 4 (headPlace (bodyOf f) 4) (natOr 0 b) a)
+    (none : NoEntry (bodyOf f) a (kindAmong 5 9 k) n)
+  where
+    none-found : Finds (λ o. ⊥) (entryWay f b k (Number n))
+    unfolding entryWay
+    none-found = go (opened f) (ofKinds 5 9 k) (fileWay f 4 b) (place-listed (bodyOf f) 4 b (allowance f))
+      where
+        go : (c d : Bool) (s : Way) → Finds (Listed (bodyOf f) 4 b) s
+            → Finds (λ o. ⊥) (cond c (cond d (entriesOf (bodyOf f) (kindAmong 5 9 k) (Number n) s) (Stopped 15)) (Stopped 20))
+        go false d s l = tt
+        go true false s l = tt
+        go true true (Stopped m) l = tt
+        go true true (Found o left) l =
+            let q : a ≡ o = sym (met .place) ∙ sym (nth-same (bodyOf f) (headPlace (bodyOf f) 4) (natOr 0 b)) ∙ l .is in
+            none-sought (bodyOf f) (kindAmong 5 9 k) n (none .entries) left (o + entriesPlace (kindAmong 5 9 k)) 0
+            (subst (λ (o : ℕ). Linked (bodyOf f) (λ e. e) (o + entriesPlace (kindAmong 5 9 k)) (none .entries)) q (none .linked)) (none .none)
 
 module _ (f : List ℕ) (c : NestedAccepted f) (b k n x : ℤ) where
-  abbrev Lacks : Type 0
-  Lacks = (attributeThere f b k ≡ true) × (a : ℕ) × Met f 4 (headPlace f 4) (natOr 0 b) a × NoEntry f a (kindAmong 5 9 k) n
+  -- the bytes before the end
+  abbrev body : List ℕ
+  body = bodyOf f
 
-  sixteen-lacks : (m : ℕ) → m ≡ 16 → EntryRefused f b k n x m → Lacks
+  abbrev Lacks : Type 0
+  Lacks = (attributeThere body b k ≡ true) × (a : ℕ) × Met body 4 (headPlace body 4) (natOr 0 b) a × NoEntry body a (kindAmong 5 9 k) n
+
+  sixteen-lacks : (m : ℕ) → m ≡ 16 → EntryRefused body b k n x m → Lacks
   sixteen-lacks m q (inl a) = absurd (omega (arith, q, a .0))
   sixteen-lacks m q (inr (t, a, met, inl e)) = (t, a, met, e .1)
   sixteen-lacks m q (inr (t, a, met, inr (o, p, w, v, inl d))) = absurd (omega (arith, q, d .0))
@@ -149,7 +156,7 @@ module _ (f : List ℕ) (c : NestedAccepted f) (b k n x : ℤ) where
   sixteen : (numberOf (entryRead f b k n x) ≡ 16) ↔ Lacks
   sixteen = (go (entryRead f b k n x) (reads-right f c .entry b k n x), lacks-sixteen)
     where
-      go : (s : Read) → GivenOrRefused (EntryShown f b k n x) (EntryRefused f b k n x) s → numberOf s ≡ 16 → Lacks
+      go : (s : Read) → GivenOrRefused (EntryShown body b k n x) (EntryRefused body b k n x) s → numberOf s ≡ 16 → Lacks
       go (Value a) t q = absurd (omega arith)
       go (Refused m) t q = sixteen-lacks m q t
 

@@ -10,3 +10,4 @@ pub mod Never20
 pub mod CoveredOnce
 pub mod Fifteen
 pub mod Exact
+pub mod Unread

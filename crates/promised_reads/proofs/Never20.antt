@@ -8,7 +8,7 @@ use native.Mathlib.Omega.{arith}
 use lib.Dec.{leb, eqb}
 use lib.IntN.{ℤ}
 use Rattle.format.specs.Fields.{fieldAt, natOr, bitAt}
-use Rattle.records.specs.Opening.{gdrAt, rNumDims}
+use Rattle.records.specs.Opening.{gdrAt, rNumDims, bodyOf}
 use Rattle.variables.specs.Vdr.{variableOf}
 use Rattle.variables.specs.Place.{indexRight}
 use Rattle.values.specs.declared.value.Answer.{Answer}
@@ -18,7 +18,7 @@ use Rattle.ways.specs.declared.lists.Way.{Way}
 use Rattle.ways.specs.declared.lists.Way.the-variants.{Found, Stopped}
 use Rattle.answers.specs.Answers.{numberOf, elementThere, elementRead, valueRead, entryOn, entryValue, padRead}
 use Rattle.answers.proofs.Telling.{Tells, element-tells}
-use Rattle.ways.proofs.Sought.{Finds, first-met, ToEntry, entry-found}
+use Rattle.ways.proofs.Sought.{Finds, first-met, InOpened, ToEntry, entry-found}
 use Rattle.answers.specs.declared.Read.{Read}
 use Rattle.answers.specs.declared.Read.the-variants.{Value, Refused}
 use Rattle.descriptors.specs.Descriptors.{fieldNumber, nameNumber, isShown, fieldOn, variableField, attributeField, entryField, rowField, dimensionSize, dimensionsOn, variableDimensions, sizeOn, variableSize, varianceOn, variableVariance, variableLevels, nameOn, variableName, attributeName, said, fileField}
@@ -61,6 +61,10 @@ levels-why f k j r m (inr (t, v, w, inl a)) e = omega (arith, a .0)
 levels-why f k j r m (inr (t, v, w, inr a)) e = omega (arith, a .0)
 
 module _ (f : List ℕ) (n : NestedAccepted f) where
+  -- the bytes before the end
+  abbrev body : List ℕ
+  body = bodyOf f
+
   -- ---- descriptors: the number of a way, 0 or 18
   abbrev Goes : Way → Type 0
   Goes (Found o left) = Unit {0}
@@ -87,27 +91,27 @@ module _ (f : List ℕ) (n : NestedAccepted f) where
   shown-or true z = λ e. omega arith
   shown-or false z = λ e. omega arith
 
-  row-goes : (p m : ℕ) (d : ℤ) → fieldNumber (rowField f p m d) ≢ 20
+  row-goes : (p m : ℕ) (d : ℤ) → fieldNumber (rowField body p m d) ≢ 20
   unfolding rowField
-  row-goes p m d = shown-or (indexRight d m) (fieldAt f (p + 4 * natOr 0 d))
+  row-goes p m d = shown-or (indexRight d m) (fieldAt body (p + 4 * natOr 0 d))
 
-  field-goes : (t p : ℕ) (w : Way) → Goes w → fieldNumber (fieldOn f t p w) ≢ 20
-  field-goes t p (Found o left) h = shown-or (isShown t p) (fieldAt f (o + p))
+  field-goes : (t p : ℕ) (w : Way) → Goes w → fieldNumber (fieldOn body t p w) ≢ 20
+  field-goes t p (Found o left) h = shown-or (isShown t p) (fieldAt body (o + p))
   field-goes t p (Stopped m) h = h
 
-  size-goes : (k : ℕ) (d : ℤ) (w : Way) → Goes w → fieldNumber (sizeOn f k d (dimensionsOn f k w)) ≢ 20
+  size-goes : (k : ℕ) (d : ℤ) (w : Way) → Goes w → fieldNumber (sizeOn body k d (dimensionsOn body k w)) ≢ 20
   size-goes k d (Found v left) h = go (eqb k 8)
     where
-      go : (b : Bool) → fieldNumber (cond b (rowField f (variableOf f k v .dimensions .sizes) (variableOf f k v .dimensions .count) d) (NoField 18)) ≢ 20
-      go true = row-goes (variableOf f k v .dimensions .sizes) (variableOf f k v .dimensions .count) d
+      go : (b : Bool) → fieldNumber (cond b (rowField body (variableOf body k v .dimensions .sizes) (variableOf body k v .dimensions .count) d) (NoField 18)) ≢ 20
+      go true = row-goes (variableOf body k v .dimensions .sizes) (variableOf body k v .dimensions .count) d
       go false = λ e. omega arith
   size-goes k d (Stopped m) h = h
 
-  variance-goes : (k : ℕ) (d : ℤ) (w : Way) → Goes w → fieldNumber (varianceOn f d (dimensionsOn f k w)) ≢ 20
-  variance-goes k d (Found v left) h = row-goes (variableOf f k v .dimensions .variances) (variableOf f k v .dimensions .count) d
+  variance-goes : (k : ℕ) (d : ℤ) (w : Way) → Goes w → fieldNumber (varianceOn body d (dimensionsOn body k w)) ≢ 20
+  variance-goes k d (Found v left) h = row-goes (variableOf body k v .dimensions .variances) (variableOf body k v .dimensions .count) d
   variance-goes k d (Stopped m) h = h
 
-  name-goes : (p : ℕ) (w : Way) → Goes w → nameNumber (nameOn f p w) ≢ 20
+  name-goes : (p : ℕ) (w : Way) → Goes w → nameNumber (nameOn body p w) ≢ 20
   name-goes p (Found o left) h = λ e. omega arith
   name-goes p (Stopped m) h = h
 
@@ -115,12 +119,12 @@ module _ (f : List ℕ) (n : NestedAccepted f) where
   is-or true z s h e = omega arith
   is-or false z s h e = h e
 
-  said-goes : (what : ℕ) → fieldNumber (said f what) ≢ 20
+  said-goes : (what : ℕ) → fieldNumber (said body what) ≢ 20
   said-goes what = is-or (eqb what 0) _ _ (is-or (leb what 5) _ _ (λ e. omega arith))
 
-  levels-go : (k j r : ℤ) (s : Field) → ShownOrRefused (LevelsShown f k j r) (LevelsRefused f k j r) s → fieldNumber s ≢ 20
+  levels-go : (k j r : ℤ) (s : Field) → ShownOrRefused (LevelsShown body k j r) (LevelsRefused body k j r) s → fieldNumber s ≢ 20
   levels-go k j r (Is x) t = λ e. omega arith
-  levels-go k j r (NoField m) t = levels-why f k j r m t
+  levels-go k j r (NoField m) t = levels-why body k j r m t
 
   -- an entry that was found gives a value, 18 or 19
   entry-never : (b k : ℤ) (w : Wanted) (x : ℤ) → numberOf (entryValue f b k w x) ≢ 20
@@ -131,31 +135,31 @@ module _ (f : List ℕ) (n : NestedAccepted f) where
       given (Value a) t = λ q. omega arith
       given (Refused m) t = t
 
-      go : (way : Way) → Goes way → Finds (ToEntry f b k w) way → numberOf (entryOn f x way) ≢ 20
+      go : (way : Way) → Goes way → Finds (InOpened f (ToEntry b k w)) way → numberOf (entryOn body x way) ≢ 20
       go (Stopped m) h t = h
       go (Found e left) h t =
-          let m = first-met f (kindAmong 5 9 k) w (t .adr + entriesPlace (kindAmong 5 9 k)) 0 e (t .entry) in
-          given (elementRead f (e + 48) (e + 16) (e + 24) x)
-          (element-tells f (e + 48) (e + 16) (e + 24) x (λ a. Unit {0}) (λ v. v ≢ 20) (λ i q. omega arith) (λ i v q. omega arith)
-          (entry-sized f k e m) (ordered f (t .opens))
-          (λ i. omega (arith, entry-element f k e m x i, entry-lies f k e m .inside)) (λ a i o d. tt))
+          let m = first-met body (kindAmong 5 9 k) w (t .1 .adr + entriesPlace (kindAmong 5 9 k)) 0 e (t .1 .entry) in
+          given (elementRead body (e + 48) (e + 16) (e + 24) x)
+          (element-tells body (e + 48) (e + 16) (e + 24) x (λ a. Unit {0}) (λ v. v ≢ 20) (λ i q. omega arith) (λ i v q. omega arith)
+          (entry-sized body k e m) (ordered f (t .0))
+          (λ i. omega (arith, entry-element body k e m x i, entry-lies body k e m .inside)) (λ a i o d. tt))
 
   pub never-twenty : NeverTwenty f
   unfolding variableField attributeField entryField dimensionSize variableDimensions variableSize variableVariance variableName attributeName fileField
   never-twenty = record {
-    value = λ k j r is x. never (ValueShown f k j r is x) (ValueRefused f k j r is x) (value-why f k j r is x) (valueRead f k j r is x) (reads-right f n .value k j r is x);
+    value = λ k j r is x. never (ValueShown body k j r is x) (ValueRefused body k j r is x) (value-why body k j r is x) (valueRead f k j r is x) (reads-right f n .value k j r is x);
     entry = entry-never;
-    pad = λ k j x. never (PadShown f k j x) (PadRefused f k j x) (pad-why f k j x) (padRead f k j x) (reads-right f n .pad k j x);
+    pad = λ k j x. never (PadShown body k j x) (PadRefused body k j x) (pad-why body k j x) (padRead f k j x) (reads-right f n .pad k j x);
     ofVariable = λ k j p. field-goes (kindAmong 3 8 k) p (variableWay f k j) (variable-goes k j);
     ofAttribute = λ j p. field-goes 4 p (attributeWay f j) (attribute-goes j);
     ofEntry = λ b k w p. field-goes (kindAmong 5 9 k) p (entryWay f b k w) (entry-goes b k w);
-    ofDimension = λ d. rw (opens f n) (row-goes (gdrAt f + 60) (rNumDims f (gdrAt f)) d);
+    ofDimension = λ d. rw (opens f n) (row-goes (gdrAt body + 60) (rNumDims body (gdrAt body)) d);
     ofSize = λ k j d. size-goes (kindAmong 3 8 k) d (variableWay f k j) (variable-goes k j);
     ofVariance = λ k j d. variance-goes (kindAmong 3 8 k) d (variableWay f k j) (variable-goes k j);
     ofLevels = λ k j r. levels-go k j r (variableLevels f k j r) (reads-right f n .levels k j r);
     variableNamed = λ k j. name-goes 64 (variableWay f k j) (variable-goes k j);
     attributeNamed = λ j. name-goes 52 (attributeWay f j) (attribute-goes j);
-    ofFile = λ what. rw (opens f n) (said-goes what);
+    ofFile = λ what. rw (opens f n) (is-or (eqb what 6) _ _ (said-goes what));
   }
 
 -- THE THEOREM

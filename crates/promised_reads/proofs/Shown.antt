@@ -1,6 +1,6 @@
 -- THE VALUE SHOWN: of every file, accepted or not. Assumes nothing.
 use mathlib.Core.Path.{_≡_, refl, sym, ap, _∙_, subst}
-use mathlib.Core.Bool.{Bool, true, false, cond, not, _&&_, _||_}
+use mathlib.Core.Bool.{Bool, true, false, cond, _&&_, _||_}
 use mathlib.Core.List.{List}
 use Prim.Native.Nat.{ℕ, suc, _+_, _-_, _*_, _≤_, _<_}
 use native.Mathlib.Nat.{mul-le-mul-right, suc-mul, mul-comm}
@@ -13,7 +13,7 @@ use Rattle.format.specs.Bytes.{bigAt}
 use Rattle.format.specs.Fields.{eqZ, isAt, natAt, natOr, bitAt, atLeast, atMost}
 use Rattle.format.specs.Encodings.{encodingOf}
 use Rattle.records.specs.Rules.{sizeAt, typedAt}
-use Rattle.records.specs.Opening.{tooLong, cdrRight, opening}
+use Rattle.records.specs.Opening.{cdrRight, bodyOf}
 use Rattle.records.specs.Attributes.{elementSize, aedrRight, aedrRule}
 use Rattle.records.specs.Index.{vvrRule}
 use Rattle.records.specs.Tree.{firstOf, lastOf, namedBy}
@@ -35,17 +35,19 @@ use Rattle.ways.specs.declared.indexes.Values.the-variants.{Record, Refused as 
 use Rattle.ways.specs.declared.indexes.Levels.{Levels}
 use Rattle.ways.specs.declared.indexes.Levels.the-variants.{Are, Unknown}
 use Rattle.descriptors.specs.Descriptors.{levelsField, levelsOn, variableLevels}
+use Rattle.descriptors.specs.declared.Field.{Field}
 use Rattle.answers.specs.Answers.{encodingAt, rowMajority, elementThere, elementRead, atPlace, inRecord, inValues, inVariable, valueOn, valueRead, entryOn, entryValue, entryRead, padIn, padOn, padRead}
 use Rattle.answers.specs.declared.Read.the-variants.{Refused}
-use Rattle.promised_reads.specs.Reading.{Met, ValueShown, EntryShown, PadShown, LevelsShown, ValuesShown, padRight, vaxFloat, ShownOrRefused}
+use Rattle.promised_reads.specs.Reading.{Met, ValueShown, EntryShown, PadShown, LevelsShown, ValuesShown, questionRight, padRight, vaxFloat, ShownOrRefused}
 use Rattle.variables.proofs.Capped.{capped-small}
 use Rattle.variables.proofs.Bound.{place-below}
 use Rattle.variables.proofs.Right.{right, fields-right, variable-is, place-is}
-use Rattle.demands.proofs.Opened.{opening-reads}
 use Rattle.demands.proofs.Records.{judged-reads}
 use Rattle.demands.proofs.VariableFacts.{z-layout, r-layout, exact-size}
-use Rattle.ways.proofs.Kept.{both, Lies, lands-lies, meets-parts, variable-kept, entry-kept}
-use Rattle.ways.proofs.Sought.{nth, first-met, listed-met, Finds, ToVariable, variable-found, ToEntry, entry-found}
+use Rattle.records.proofs.Bodies.{both, opening-passes, opening-body}
+use Rattle.ways.proofs.Opening.{opened-parts}
+use Rattle.ways.proofs.Kept.{Lies, lands-lies, meets-parts, variable-kept, entry-kept}
+use Rattle.ways.proofs.Sought.{nth, first-met, listed-met, Finds, InOpened, ToVariable, variable-found, ToEntry, entry-found}
 use Rattle.ways.proofs.Chains.{ToRecord, Leads, record-found, ToLevels, Counts, levels-found}
 use Rattle.answers.proofs.Telling.{Tells, given-plain, element-below, element-tells}
 use Rattle.promised_reads.proofs.Down.{nth-same, Reached, reached}
@@ -53,17 +55,18 @@ use Rattle.promised_reads.proofs.Down.{nth-same, Reached, reached}
 pub list-met : (f : List ℕ) (t p n o : ℕ) → nth f p n ≡ o → ((h : ℕ) → h ≤ n → meets f t (nth f p h) ≡ true) → Met f t p n o
 list-met f t p n o e g = record { place = sym (nth-same f p n) ∙ e; rules = λ h l. ap (meets f t) (sym (nth-same f p h)) ∙ g h l }
 
-module _ (f : List ℕ) where
-  -- ---- the encoding of a file that opens
-  pub ordered : opened f ≡ true → 1 ≤ encodingOf (encodingAt f) .order
-  unfolding opened cdrRight
-  ordered e =
-      let a = both (not (tooLong f)) (eqb (opening f) 0) e in
-      let o = opening-reads f (eqb-true (opening f) 0 (a .1)) in
-      let order = leb 1 (encodingOf (natAt f 28) .order) in
-      let before = typedAt f 8 (pos 1) && eqb (sizeAt f 8) 304 && isAt f 20 (pos 2) in
-      leb-true 1 (encodingOf (natAt f 28) .order) (both before order (both (before && order) (ltb (bigAt f 32 4) 4) (o .cdr) .0) .1)
+-- ---- the encoding of a file that opens
+cdr-ordered : (f : List ℕ) → cdrRight f ≡ true → 1 ≤ encodingOf (encodingAt f) .order
+unfolding cdrRight
+cdr-ordered f e =
+    let order = leb 1 (encodingOf (natAt f 28) .order) in
+    let before = typedAt f 8 (pos 1) && eqb (sizeAt f 8) 304 && isAt f 20 (pos 2) in
+    leb-true 1 (encodingOf (natAt f 28) .order) (both before order (both (before && order) (ltb (bigAt f 32 4) 4) e .0) .1)
 
+pub ordered : (f : List ℕ) → opened f ≡ true → 1 ≤ encodingOf (encodingAt (bodyOf f)) .order
+ordered f e = let b = bodyOf f in cdr-ordered b (opening-passes b (opening-body f (opened-parts f e .1)) .cdr)
+
+module _ (f : List ℕ) where
   -- ---- the values of a record
   -- the record of number r of the VDR at v, of a given size, begins at an offset
   pub record Located (v bytes r at : ℕ) : Type 0 where
@@ -123,12 +126,12 @@ vdr-sized f o e =
     let q = both (a && b) c (both (a && b && c) d (both (a && b && c && d) g p .0) .0) .0 in
     leb-true 1 (elementSize f (o + 12)) (both a b q .0)
 
--- ---- A VALUE OF A VARIABLE: N is a fact of every number that a refusal gives
+-- ---- A VALUE OF A VARIABLE, in the bytes f, whose encoding has an order: N is a fact of every number that a refusal gives
 module _ (f : List ℕ) (k n r : ℤ) (is : List ℤ) (x : ℤ) (N : ℕ → Type 0) where
   abbrev Shown : Answer → Type 0
   Shown = ValueShown f k n r is x
 
-  module _ (v : ℕ) (found : ToVariable f k n v) where
+  module _ (order : 1 ≤ encodingOf (encodingAt f) .order) (v : ℕ) (found : ToVariable k n f v) where
     abbrev l : Layout
     l = layoutOf f (kindAmong 3 8 k) v
 
@@ -151,7 +154,7 @@ module _ (f : List ℕ) (k n r : ℤ) (is : List ℤ) (x : ℤ) (N : ℕ → Typ
         → Tells Shown N (elementRead f (at + place * valueBytes f v) (v + 12) (v + 48) x)
     in-place at there loc ok eighteen nineteen =
         element-tells f (at + place * valueBytes f v) (v + 12) (v + 48) x Shown N eighteen nineteen
-        (vdr-sized f v (fields-right f (kindAmong 3 8 k) v fault)) (ordered f (found .opens))
+        (vdr-sized f v (fields-right f (kindAmong 3 8 k) v fault)) order
         (λ h. let b = inside h in omega (arith, b, loc .is, loc .size, loc .lies .inside))
         (λ a h i d.
         let b = inside h in
@@ -225,18 +228,25 @@ module _ (f : List ℕ) (k n r : ℤ) (is : List ℤ) (x : ℤ) (N : ℕ → Typ
             (eighteen at e) (nineteen at e)
         go (NoRecord m) e t = refused m e
 
+-- and in a file, before its end
+module _ (f : List ℕ) (k n r : ℤ) (is : List ℤ) (x : ℤ) (N : ℕ → Type 0) where
+  abbrev wayOf : ℕ → ℕ → Values
+  wayOf v left = recordWay (bodyOf f) v (variableOf (bodyOf f) (kindAmong 3 8 k) v .bytes) r left
+
   pub value-tells : ((m : ℕ) → variableWay f k n ≡ Stopped m → N m)
-      → ((v left m : ℕ) → variableWay f k n ≡ Found v left → recordWay f v (variableOf f (kindAmong 3 8 k) v .bytes) r left ≡ NoRecord m → N m)
-      → ((v left at : ℕ) → variableWay f k n ≡ Found v left → recordWay f v (variableOf f (kindAmong 3 8 k) v .bytes) r left ≡ Record at
-      → (placed f (layoutOf f (kindAmong 3 8 k) v) is && elementThere f (v + 48) x) ≡ false → N 18)
-      → ((v left at : ℕ) → variableWay f k n ≡ Found v left → recordWay f v (variableOf f (kindAmong 3 8 k) v .bytes) r left ≡ Record at
-      → (placed f (layoutOf f (kindAmong 3 8 k) v) is && elementThere f (v + 48) x) ≡ true → vaxFloat f (v + 12) ≡ true → N 19)
-      → Tells Shown N (valueRead f k n r is x)
+      → ((v left m : ℕ) → variableWay f k n ≡ Found v left → wayOf v left ≡ NoRecord m → N m)
+      → ((v left at : ℕ) → variableWay f k n ≡ Found v left → wayOf v left ≡ Record at
+      → questionRight (bodyOf f) (kindAmong 3 8 k) v is x ≡ false → N 18)
+      → ((v left at : ℕ) → variableWay f k n ≡ Found v left → wayOf v left ≡ Record at
+      → questionRight (bodyOf f) (kindAmong 3 8 k) v is x ≡ true → vaxFloat (bodyOf f) (v + 12) ≡ true → N 19)
+      → Tells (ValueShown (bodyOf f) k n r is x) N (valueRead f k n r is x)
   unfolding valueRead
   value-tells stopped refused eighteen nineteen = go (variableWay f k n) refl (variable-found f k n)
     where
-      go : (w : Way) → variableWay f k n ≡ w → Finds (ToVariable f k n) w → Tells Shown N (valueOn f (kindAmong 3 8 k) r is x w)
-      go (Found v left) e t = in-variable v t left (λ m. refused v left m e) (λ at. eighteen v left at e) (λ at. nineteen v left at e)
+      go : (w : Way) → variableWay f k n ≡ w → Finds (InOpened f (ToVariable k n)) w
+          → Tells (ValueShown (bodyOf f) k n r is x) N (valueOn (bodyOf f) (kindAmong 3 8 k) r is x w)
+      go (Found v left) e t =
+          in-variable (bodyOf f) k n r is x N (ordered f (t .0)) v (t .1) left (λ m. refused v left m e) (λ at. eighteen v left at e) (λ at. nineteen v left at e)
       go (Stopped m) e t = stopped m e
 
 -- ---- AN ENTRY'S VALUE
@@ -269,12 +279,12 @@ module _ (f : List ℕ) (k : ℤ) (e : ℕ) (m : meets f (kindAmong 5 9 k) e ≡
       omega (arith, a, parts .1, suc-mul (natOr 0 x) (elementSize f (e + 16)))
 
 module _ (f : List ℕ) (b k n x : ℤ) (Fact : Answer → Type 0) (N : ℕ → Type 0) where
-  in-entry : (e : ℕ) → ToEntry f b k (Number n) e
+  in-entry : 1 ≤ encodingOf (encodingAt f) .order → (e : ℕ) → ToEntry b k (Number n) f e
       → ((a : Answer) → EntryShown f b k n x a → elementThere f (e + 24) x ≡ true → vaxFloat f (e + 16) ≡ false → Fact a)
       → (elementThere f (e + 24) x ≡ false → N 18) → (elementThere f (e + 24) x ≡ true → vaxFloat f (e + 16) ≡ true → N 19)
       → Tells Fact N (elementRead f (e + 48) (e + 16) (e + 24) x)
-  in-entry e t fact eighteen nineteen =
-      element-tells f (e + 48) (e + 16) (e + 24) x Fact N eighteen nineteen (entry-sized f k e m) (ordered f (t .opens))
+  in-entry order e t fact eighteen nineteen =
+      element-tells f (e + 48) (e + 16) (e + 24) x Fact N eighteen nineteen (entry-sized f k e m) order
       (λ h. omega (arith, entry-element f k e m x h, entry-lies f k e m .inside))
       (λ a h i d.
       let j = entry-element f k e m x h in
@@ -298,17 +308,20 @@ module _ (f : List ℕ) (b k n x : ℤ) (Fact : Answer → Type 0) (N : ℕ → 
       m : meets f (kindAmong 5 9 k) e ≡ true
       m = first-met f (kindAmong 5 9 k) (Number n) (t .adr + entriesPlace (kindAmong 5 9 k)) 0 e (t .entry)
 
+module _ (f : List ℕ) (b k n x : ℤ) (Fact : Answer → Type 0) (N : ℕ → Type 0) where
   pub entry-tells : ((m : ℕ) → entryWay f b k (Number n) ≡ Stopped m → N m)
-      → ((e left : ℕ) → entryWay f b k (Number n) ≡ Found e left → (a : Answer) → EntryShown f b k n x a
-      → elementThere f (e + 24) x ≡ true → vaxFloat f (e + 16) ≡ false → Fact a)
-      → ((e left : ℕ) → entryWay f b k (Number n) ≡ Found e left → elementThere f (e + 24) x ≡ false → N 18)
-      → ((e left : ℕ) → entryWay f b k (Number n) ≡ Found e left → elementThere f (e + 24) x ≡ true → vaxFloat f (e + 16) ≡ true → N 19)
+      → ((e left : ℕ) → entryWay f b k (Number n) ≡ Found e left → (a : Answer) → EntryShown (bodyOf f) b k n x a
+      → elementThere (bodyOf f) (e + 24) x ≡ true → vaxFloat (bodyOf f) (e + 16) ≡ false → Fact a)
+      → ((e left : ℕ) → entryWay f b k (Number n) ≡ Found e left → elementThere (bodyOf f) (e + 24) x ≡ false → N 18)
+      → ((e left : ℕ) → entryWay f b k (Number n) ≡ Found e left
+      → elementThere (bodyOf f) (e + 24) x ≡ true → vaxFloat (bodyOf f) (e + 16) ≡ true → N 19)
       → Tells Fact N (entryRead f b k n x)
   unfolding entryValue
   entry-tells stopped fact eighteen nineteen = go (entryWay f b k (Number n)) refl (entry-found f b k (Number n))
     where
-      go : (w : Way) → entryWay f b k (Number n) ≡ w → Finds (ToEntry f b k (Number n)) w → Tells Fact N (entryOn f x w)
-      go (Found e left) q t = in-entry e t (fact e left q) (eighteen e left q) (nineteen e left q)
+      go : (w : Way) → entryWay f b k (Number n) ≡ w → Finds (InOpened f (ToEntry b k (Number n))) w → Tells Fact N (entryOn (bodyOf f) x w)
+      go (Found e left) q t =
+          in-entry (bodyOf f) b k n x Fact N (ordered f (t .0)) e (t .1) (fact e left q) (eighteen e left q) (nineteen e left q)
       go (Stopped m) q t = stopped m q
 
 -- ---- A PAD VALUE
@@ -325,12 +338,13 @@ pad-behind f k o = go (eqb k 8) refl
     go false e = omega (arith, r-layout f k o e .2)
 
 module _ (f : List ℕ) (k n x : ℤ) (Fact : Answer → Type 0) (N : ℕ → Type 0) where
-  in-pad : (v : ℕ) → ToVariable f k n v → ((a : Answer) → PadShown f k n x a → padRight f v x ≡ true → vaxFloat f (v + 12) ≡ false → Fact a)
+  in-pad : 1 ≤ encodingOf (encodingAt f) .order → (v : ℕ) → ToVariable k n f v
+      → ((a : Answer) → PadShown f k n x a → padRight f v x ≡ true → vaxFloat f (v + 12) ≡ false → Fact a)
       → (padRight f v x ≡ false → N 18)
       → (padRight f v x ≡ true → vaxFloat f (v + 12) ≡ true → N 19)
       → Tells Fact N (padIn f v (variableOf f (kindAmong 3 8 k) v) x)
   unfolding padIn
-  in-pad v t fact eighteen nineteen = rw (variable-is f (kindAmong 3 8 k) v fault) (go (bitAt f (v + 28) 2) refl)
+  in-pad order v t fact eighteen nineteen = rw (variable-is f (kindAmong 3 8 k) v fault) (go (bitAt f (v + 28) 2) refl)
     where
       met : Lies f (kindAmong 3 8 k) v
       met = meets-parts f (kindAmong 3 8 k) v (listed-met f (kindAmong 3 8 k) n v (t .listed)) .0
@@ -353,7 +367,7 @@ module _ (f : List ℕ) (k n x : ℤ) (Fact : Answer → Type 0) (N : ℕ → Ty
       go true e =
           element-tells f (layoutOf f (kindAmong 3 8 k) v .variances + 4 * layoutOf f (kindAmong 3 8 k) v .count) (v + 12) (v + 48) x Fact N
           (λ h. eighteen (rw (e, h))) (λ h. nineteen (rw (e, h)))
-          (vdr-sized f v (fields-right f (kindAmong 3 8 k) v fault)) (ordered f (t .opens))
+          (vdr-sized f v (fields-right f (kindAmong 3 8 k) v fault)) order
           (λ h. omega (arith, inside h, ends e, met .inside))
           (λ a h i d. fact a (record {
             kind = t .kind;
@@ -368,54 +382,61 @@ module _ (f : List ℕ) (k n x : ℤ) (Fact : Answer → Type 0) (N : ℕ → Ty
           }) (rw (e, h)) (given-plain f (a .offset) (natAt f (v + 12)) (encodingAt f) a d))
       go false e = eighteen (rw e)
 
+module _ (f : List ℕ) (k n x : ℤ) (Fact : Answer → Type 0) (N : ℕ → Type 0) where
   pub pad-tells : ((m : ℕ) → variableWay f k n ≡ Stopped m → N m)
-      → ((v left : ℕ) → variableWay f k n ≡ Found v left → (a : Answer) → PadShown f k n x a → padRight f v x ≡ true → vaxFloat f (v + 12) ≡ false → Fact a)
-      → ((v left : ℕ) → variableWay f k n ≡ Found v left → padRight f v x ≡ false → N 18)
-      → ((v left : ℕ) → variableWay f k n ≡ Found v left → padRight f v x ≡ true → vaxFloat f (v + 12) ≡ true → N 19)
+      → ((v left : ℕ) → variableWay f k n ≡ Found v left → (a : Answer) → PadShown (bodyOf f) k n x a
+      → padRight (bodyOf f) v x ≡ true → vaxFloat (bodyOf f) (v + 12) ≡ false → Fact a)
+      → ((v left : ℕ) → variableWay f k n ≡ Found v left → padRight (bodyOf f) v x ≡ false → N 18)
+      → ((v left : ℕ) → variableWay f k n ≡ Found v left → padRight (bodyOf f) v x ≡ true → vaxFloat (bodyOf f) (v + 12) ≡ true → N 19)
       → Tells Fact N (padRead f k n x)
   unfolding padRead
   pad-tells stopped fact eighteen nineteen = go (variableWay f k n) refl (variable-found f k n)
     where
-      go : (w : Way) → variableWay f k n ≡ w → Finds (ToVariable f k n) w → Tells Fact N (padOn f (kindAmong 3 8 k) x w)
-      go (Found v left) q t = in-pad v t (fact v left q) (eighteen v left q) (nineteen v left q)
+      go : (w : Way) → variableWay f k n ≡ w → Finds (InOpened f (ToVariable k n)) w → Tells Fact N (padOn (bodyOf f) (kindAmong 3 8 k) x w)
+      go (Found v left) q t =
+          in-pad (bodyOf f) k n x Fact N (ordered f (t .0)) v (t .1) (fact v left q) (eighteen v left q) (nineteen v left q)
       go (Stopped m) q t = stopped m q
 
 -- ---- HOW MANY LEVELS
-pub levels-tell : (f : List ℕ) (k n r : ℤ) (N : ℕ → Type 0) → ((m : ℕ) → variableWay f k n ≡ Stopped m → N m)
-    → ((v left m : ℕ) → variableWay f k n ≡ Found v left → levelsWay f v r left ≡ Unknown m → N m)
-    → ShownOrRefused (LevelsShown f k n r) N (variableLevels f k n r)
-unfolding variableLevels
-levels-tell f k n r N stopped refused = go (variableWay f k n) refl (variable-found f k n)
-  where
-    counted : (v : ℕ) → ToVariable f k n v → (m : ℕ) → ToLevels f v r m → LevelsShown f k n r (pos m)
-    counted v t m l =
-        let w = reached f v r (l .entry) (l .way) in
-        let many : m ≡ suc (length (w .way .below)) = omega (arith, l .is, w .deep) in
-        record {
-          kind = t .kind;
-          number = t .listed .least;
-          vdr = v;
-          variable = list-met f (kindAmong 3 8 k) (headPlace f (kindAmong 3 8 k)) (natOr 0 n) v (t .listed .is) (t .listed .met);
-          there = l .way .there;
-          way = w .way;
-          counted = ap pos many;
-        }
+levels-counted : (f : List ℕ) (k n r : ℤ) (v : ℕ) → ToVariable k n f v → (m : ℕ) → ToLevels f v r m → LevelsShown f k n r (pos m)
+levels-counted f k n r v t m l =
+    let w = reached f v r (l .entry) (l .way) in
+    let many : m ≡ suc (length (w .way .below)) = omega (arith, l .is, w .deep) in
+    record {
+      kind = t .kind;
+      number = t .listed .least;
+      vdr = v;
+      variable = list-met f (kindAmong 3 8 k) (headPlace f (kindAmong 3 8 k)) (natOr 0 n) v (t .listed .is) (t .listed .met);
+      there = l .way .there;
+      way = w .way;
+      counted = ap pos many;
+    }
 
-    told : (v left : ℕ) → variableWay f k n ≡ Found v left → ToVariable f k n v → (s : Levels) → levelsWay f v r left ≡ s → Counts (ToLevels f v r) s
-        → ShownOrRefused (LevelsShown f k n r) N (levelsField s)
-    told v left q t (Are m) e l = counted v t m l
-    told v left q t (Unknown m) e l = refused v left m q e
+module _ (f : List ℕ) (k n r : ℤ) (N : ℕ → Type 0) where
+  abbrev LevelsTell : Field → Type 0
+  LevelsTell = ShownOrRefused (LevelsShown (bodyOf f) k n r) N
 
-    go : (w : Way) → variableWay f k n ≡ w → Finds (ToVariable f k n) w → ShownOrRefused (LevelsShown f k n r) N (levelsOn f r w)
-    go (Found v left) q t = told v left q t (levelsWay f v r left) refl (levels-found f v r left)
-    go (Stopped m) q t = stopped m q
+  pub levels-tell : ((m : ℕ) → variableWay f k n ≡ Stopped m → N m)
+      → ((v left m : ℕ) → variableWay f k n ≡ Found v left → levelsWay (bodyOf f) v r left ≡ Unknown m → N m)
+      → LevelsTell (variableLevels f k n r)
+  unfolding variableLevels
+  levels-tell stopped refused = go (variableWay f k n) refl (variable-found f k n)
+    where
+      told : (v left : ℕ) → variableWay f k n ≡ Found v left → ToVariable k n (bodyOf f) v → (s : Levels) → levelsWay (bodyOf f) v r left ≡ s
+          → Counts (ToLevels (bodyOf f) v r) s → LevelsTell (levelsField s)
+      told v left q t (Are m) e l = levels-counted (bodyOf f) k n r v t m l
+      told v left q t (Unknown m) e l = refused v left m q e
+
+      go : (w : Way) → variableWay f k n ≡ w → Finds (InOpened f (ToVariable k n)) w → LevelsTell (levelsOn (bodyOf f) r w)
+      go (Found v left) q t = told v left q (t .1) (levelsWay (bodyOf f) v r left) refl (levels-found (bodyOf f) v r left)
+      go (Stopped m) q t = stopped m q
 
 -- THE THEOREM
 pub values-shown : ValuesShown
 values-shown f = record {
   value = λ k n r is x a e.
-      subst (Tells (ValueShown f k n r is x) (λ m. Unit {0})) e (value-tells f k n r is x (λ m. Unit {0}) (λ m q. tt) (λ v left m q h. tt) (λ v left at q h g. tt) (λ v left at q h g w. tt));
-  entry = λ b k n x a e. subst (Tells (EntryShown f b k n x) (λ m. Unit {0})) e (entry-tells f b k n x (EntryShown f b k n x) (λ m. Unit {0}) (λ m q. tt) (λ e left q a w h v. w) (λ e left q h. tt) (λ e left q h g. tt));
-  pad = λ k n x a e. subst (Tells (PadShown f k n x) (λ m. Unit {0})) e (pad-tells f k n x (PadShown f k n x) (λ m. Unit {0}) (λ m q. tt) (λ v left q a w h g. w) (λ v left q h. tt) (λ v left q h g. tt));
-  levels = λ k n r x e. subst (ShownOrRefused (LevelsShown f k n r) (λ m. Unit {0})) e (levels-tell f k n r (λ m. Unit {0}) (λ m q. tt) (λ v left m q h. tt));
+      subst (Tells (ValueShown (bodyOf f) k n r is x) (λ m. Unit {0})) e (value-tells f k n r is x (λ m. Unit {0}) (λ m q. tt) (λ v left m q h. tt) (λ v left at q h g. tt) (λ v left at q h g w. tt));
+  entry = λ b k n x a e. subst (Tells (EntryShown (bodyOf f) b k n x) (λ m. Unit {0})) e (entry-tells f b k n x (EntryShown (bodyOf f) b k n x) (λ m. Unit {0}) (λ m q. tt) (λ e left q a w h v. w) (λ e left q h. tt) (λ e left q h g. tt));
+  pad = λ k n x a e. subst (Tells (PadShown (bodyOf f) k n x) (λ m. Unit {0})) e (pad-tells f k n x (PadShown (bodyOf f) k n x) (λ m. Unit {0}) (λ m q. tt) (λ v left q a w h g. w) (λ v left q h. tt) (λ v left q h g. tt));
+  levels = λ k n r x e. subst (ShownOrRefused (LevelsShown (bodyOf f) k n r) (λ m. Unit {0})) e (levels-tell f k n r (λ m. Unit {0}) (λ m q. tt) (λ v left m q h. tt));
 }

@@ -1,9 +1,9 @@
 -- WHAT THE READER SHOWS: statements about its definitions, of every file, and of every file that the plain run accepts.
--- Document 01, "Values" and "Numbers that come back"; request #104. Assumes nothing.
+-- Document 01, "Values" and "Numbers that come back"; requests #104 and #101. Assumes nothing.
 use mathlib.Core.Path.{_≡_}
 use mathlib.Core.Logic.{_≢_, _↔_, _⊎_}
 use mathlib.Core.Bool.{Bool, true, false, cond, _&&_}
-use mathlib.Core.List.{List, [], _∷_}
+use mathlib.Core.List.{List, [], _∷_, _++_}
 use Prim.Native.Nat.{ℕ, zero, suc, _+_, _-_, _*_, _≤_, _<_}
 use lib.ListN.{length}
 use lib.IntN.{ℤ, pos}
@@ -15,7 +15,7 @@ use Rattle.values.specs.Values.{isVax, decodedOf}
 use Rattle.values.specs.declared.value.Answer.{Answer}
 use Rattle.values.specs.declared.value.Decoded.the-variants.{Given}
 use Rattle.records.specs.Rules.{sizeAt, typedAt}
-use Rattle.records.specs.Opening.{gdrAt}
+use Rattle.records.specs.Opening.{gdrAt, bodyOf, Unpadded}
 use Rattle.records.specs.Attributes.{elementSize}
 use Rattle.records.specs.Index.{usedAt}
 use Rattle.records.specs.Tree.{Slot, usedEntries, firstOf, lastOf, namedBy, levelsBelow, namesIndex, lowerSlots, lowest, lowestEntries, entriesUnder}
@@ -41,6 +41,9 @@ abbrev pub PlainAccepts : List ℕ → Type 0
 PlainAccepts f = (m : List ℕ) × (length f ≤ length m) × (endStage f m ≡ Done 0)
 
 -- ---- THE VALUE SHOWN, of every file, accepted or not
+
+-- #101: "the sweep, links and indexes end at eof, and 7, 8 and 20 read "end" as eof, "inside" as below it". What is shown is said of the
+-- bytes f before the end of a file, `bodyOf` of it, and what a call answers of the file
 
 -- "the list from its head to the wanted place": the n-th record, from 0, of the list whose head link stands at p
 abbrev pub nthRecord : List ℕ → ℕ → ℕ → ℕ
@@ -167,10 +170,10 @@ pub record LevelsShown (f : List ℕ) (k n r : ℤ) (levels : ℤ) : Type 0 wher
 
 -- every value given is the one shown so, and every number of levels
 pub record ShowsRight (f : List ℕ) : Type 0 where
-  pub value : (k n r : ℤ) (is : List ℤ) (x : ℤ) (a : Answer) → valueRead f k n r is x ≡ Value a → ValueShown f k n r is x a
-  pub entry : (b k n x : ℤ) (a : Answer) → entryRead f b k n x ≡ Value a → EntryShown f b k n x a
-  pub pad : (k n x : ℤ) (a : Answer) → padRead f k n x ≡ Value a → PadShown f k n x a
-  pub levels : (k n r x : ℤ) → variableLevels f k n r ≡ Is x → LevelsShown f k n r x
+  pub value : (k n r : ℤ) (is : List ℤ) (x : ℤ) (a : Answer) → valueRead f k n r is x ≡ Value a → ValueShown (bodyOf f) k n r is x a
+  pub entry : (b k n x : ℤ) (a : Answer) → entryRead f b k n x ≡ Value a → EntryShown (bodyOf f) b k n x a
+  pub pad : (k n x : ℤ) (a : Answer) → padRead f k n x ≡ Value a → PadShown (bodyOf f) k n x a
+  pub levels : (k n r x : ℤ) → variableLevels f k n r ≡ Is x → LevelsShown (bodyOf f) k n r x
 
 abbrev pub ValuesShown : Type 0
 ValuesShown = (f : List ℕ) → ShowsRight f
@@ -227,45 +230,46 @@ questionRight f t v is x = placed f (layoutOf f t v) is && elementThere f (v + 4
 abbrev pub NoneCovers : List ℕ → List ℕ → ℕ → Type 0
 NoneCovers f vxrs r = (s : Slot) → s ∈ lowestEntries f vxrs → CoveredBy f r s → ⊥
 
--- the VDR at v, of kind k and number n, has the index vxrs: the number that comes back, for every record, indices and element
-pub record NumbersExact (f : List ℕ) (k n : ℤ) (v : ℕ) (vxrs : List ℕ) : Type 0 where
+-- in the bytes b before the end of the file f the VDR at v, of kind k and number n, has the index vxrs: the number that comes back, for
+-- every record, indices and element
+pub record NumbersExact (f b : List ℕ) (k n : ℤ) (v : ℕ) (vxrs : List ℕ) : Type 0 where
   -- "A record number from 0 to MaxRec is looked up": any other is 16
-  pub missing : (r : ℤ) (is : List ℤ) (x : ℤ) → (numberOf (valueRead f k n r is x) ≡ 16) ↔ (recordThere f v r ≡ false)
+  pub missing : (r : ℤ) (is : List ℤ) (x : ℤ) → (numberOf (valueRead f k n r is x) ≡ 16) ↔ (recordThere b v r ≡ false)
   -- "The index entry whose First..Last covers it is used, or 17 exactly if no used entry does"; #104: "now over the lowest entries"
-  pub gap : (r : ℤ) → recordThere f v r ≡ true → (is : List ℤ) (x : ℤ)
-      → (numberOf (valueRead f k n r is x) ≡ 17) ↔ NoneCovers f vxrs (recordRead f v r)
+  pub gap : (r : ℤ) → recordThere b v r ≡ true → (is : List ℤ) (x : ℤ)
+      → (numberOf (valueRead f k n r is x) ≡ 17) ↔ NoneCovers b vxrs (recordRead b v r)
   -- "a lower record that ends without covering is 17", so an empty one is: where an entry of any level covers the record and names one
-  pub empty : (r : ℤ) → recordThere f v r ≡ true → (top s : Slot) → top ∈ usedEntries f vxrs → s ∈ entriesUnder f levelsBelow top
-      → CoveredBy f (recordRead f v r) s → namesIndex f s ≡ true → usedAt f (namedBy f s) ≡ 0 → (is : List ℤ) (x : ℤ)
+  pub empty : (r : ℤ) → recordThere b v r ≡ true → (top s : Slot) → top ∈ usedEntries b vxrs → s ∈ entriesUnder b levelsBelow top
+      → CoveredBy b (recordRead b v r) s → namesIndex b s ≡ true → usedAt b (namedBy b s) ≡ 0 → (is : List ℤ) (x : ℤ)
       → numberOf (valueRead f k n r is x) ≡ 17
   -- 18: "dimension index or element out of range, or wrong number of indices"
-  pub wrong : (r : ℤ) → recordThere f v r ≡ true → (s : Slot) → s ∈ lowestEntries f vxrs → CoveredBy f (recordRead f v r) s → (is : List ℤ) (x : ℤ)
-      → (numberOf (valueRead f k n r is x) ≡ 18) ↔ (questionRight f (kindAmong 3 8 k) v is x ≡ false)
+  pub wrong : (r : ℤ) → recordThere b v r ≡ true → (s : Slot) → s ∈ lowestEntries b vxrs → CoveredBy b (recordRead b v r) s → (is : List ℤ) (x : ℤ)
+      → (numberOf (valueRead f k n r is x) ≡ 18) ↔ (questionRight b (kindAmong 3 8 k) v is x ≡ false)
   -- 19: "float in encoding 3, 14 or 15"
-  pub float : (r : ℤ) → recordThere f v r ≡ true → (s : Slot) → s ∈ lowestEntries f vxrs → CoveredBy f (recordRead f v r) s → (is : List ℤ) (x : ℤ)
-      → (numberOf (valueRead f k n r is x) ≡ 19) ↔ ((questionRight f (kindAmong 3 8 k) v is x && vaxFloat f (v + 12)) ≡ true)
+  pub float : (r : ℤ) → recordThere b v r ≡ true → (s : Slot) → s ∈ lowestEntries b vxrs → CoveredBy b (recordRead b v r) s → (is : List ℤ) (x : ℤ)
+      → (numberOf (valueRead f k n r is x) ≡ 19) ↔ ((questionRight b (kindAmong 3 8 k) v is x && vaxFloat b (v + 12)) ≡ true)
   -- 16 and 17 of the number of levels
-  pub noLevels : (r : ℤ) → (fieldNumber (variableLevels f k n r) ≡ 16) ↔ (recordThere f v r ≡ false)
-  pub gapLevels : (r : ℤ) → recordThere f v r ≡ true → (fieldNumber (variableLevels f k n r) ≡ 17) ↔ NoneCovers f vxrs (recordRead f v r)
+  pub noLevels : (r : ℤ) → (fieldNumber (variableLevels f k n r) ≡ 16) ↔ (recordThere b v r ≡ false)
+  pub gapLevels : (r : ℤ) → recordThere b v r ≡ true → (fieldNumber (variableLevels f k n r) ≡ 17) ↔ NoneCovers b vxrs (recordRead b v r)
 
--- the index of the VDR at v, of kind k and number n
-pub record CoversOnce (f : List ℕ) (k n : ℤ) (v : ℕ) : Type 0 where
+-- its index, in those bytes
+pub record CoversOnce (f b : List ℕ) (k n : ℤ) (v : ℕ) : Type 0 where
   -- its top chain, which keeps the rules of acceptance
   pub vxrs : List ℕ
-  pub index : IndexRight f (kindAmong 3 8 k) v vxrs
+  pub index : IndexRight b (kindAmong 3 8 k) v vxrs
   -- no two of its lowest entries cover the same record number
-  pub once : (r : ℕ) (s t : Slot) → s ∈ lowestEntries f vxrs → t ∈ lowestEntries f vxrs → CoveredBy f r s → CoveredBy f r t → s ≡ t
-  pub numbers : NumbersExact f k n v vxrs
+  pub once : (r : ℕ) (s t : Slot) → s ∈ lowestEntries b vxrs → t ∈ lowestEntries b vxrs → CoveredBy b r s → CoveredBy b r t → s ≡ t
+  pub numbers : NumbersExact f b k n v vxrs
 
 abbrev pub CoveredOnce : Type 0
-CoveredOnce = (f : List ℕ) → PlainAccepts f → (k n : ℤ) (v left : ℕ) → variableWay f k n ≡ Found v left → CoversOnce f k n v
+CoveredOnce = (f : List ℕ) → PlainAccepts f → (k n : ℤ) (v left : ℕ) → variableWay f k n ≡ Found v left → CoversOnce f (bodyOf f) k n v
 
 -- 15: "no such variable or attribute"
 pub record NoSuch (f : List ℕ) : Type 0 where
-  pub value : (k n r : ℤ) (is : List ℤ) (x : ℤ) → (numberOf (valueRead f k n r is x) ≡ 15) ↔ (variableThere f k n ≡ false)
-  pub entry : (b k n x : ℤ) → (numberOf (entryRead f b k n x) ≡ 15) ↔ (attributeThere f b k ≡ false)
-  pub pad : (k n x : ℤ) → (numberOf (padRead f k n x) ≡ 15) ↔ (variableThere f k n ≡ false)
-  pub levels : (k n r : ℤ) → (fieldNumber (variableLevels f k n r) ≡ 15) ↔ (variableThere f k n ≡ false)
+  pub value : (k n r : ℤ) (is : List ℤ) (x : ℤ) → (numberOf (valueRead f k n r is x) ≡ 15) ↔ (variableThere (bodyOf f) k n ≡ false)
+  pub entry : (b k n x : ℤ) → (numberOf (entryRead f b k n x) ≡ 15) ↔ (attributeThere (bodyOf f) b k ≡ false)
+  pub pad : (k n x : ℤ) → (numberOf (padRead f k n x) ≡ 15) ↔ (variableThere (bodyOf f) k n ≡ false)
+  pub levels : (k n r : ℤ) → (fieldNumber (variableLevels f k n r) ≡ 15) ↔ (variableThere (bodyOf f) k n ≡ false)
 
 abbrev pub Fifteen : Type 0
 Fifteen = (f : List ℕ) → PlainAccepts f → NoSuch f
@@ -280,18 +284,18 @@ pub record NoEntry (f : List ℕ) (a t : ℕ) (n : ℤ) : Type 0 where
 abbrev pub NoEntryNumber : Type 0
 NoEntryNumber = (f : List ℕ) → PlainAccepts f → (b k n x : ℤ)
     → (numberOf (entryRead f b k n x) ≡ 16)
-    ↔ ((attributeThere f b k ≡ true) × (a : ℕ) × Met f 4 (headPlace f 4) (natOr 0 b) a × NoEntry f a (kindAmong 5 9 k) n)
+    ↔ ((attributeThere (bodyOf f) b k ≡ true) × (a : ℕ) × Met (bodyOf f) 4 (headPlace (bodyOf f) 4) (natOr 0 b) a × NoEntry (bodyOf f) a (kindAmong 5 9 k) n)
 
 -- of every file: 18 and 19 of an entry that was found at e, and of the pad value of a VDR that was found at v
 pub record ElementsExact (f : List ℕ) : Type 0 where
   pub entryWrong : (b k n x : ℤ) (e left : ℕ) → entryWay f b k (Number n) ≡ Found e left
-      → (numberOf (entryRead f b k n x) ≡ 18) ↔ (elementThere f (e + 24) x ≡ false)
+      → (numberOf (entryRead f b k n x) ≡ 18) ↔ (elementThere (bodyOf f) (e + 24) x ≡ false)
   pub entryFloat : (b k n x : ℤ) (e left : ℕ) → entryWay f b k (Number n) ≡ Found e left
-      → (numberOf (entryRead f b k n x) ≡ 19) ↔ ((elementThere f (e + 24) x && vaxFloat f (e + 16)) ≡ true)
+      → (numberOf (entryRead f b k n x) ≡ 19) ↔ ((elementThere (bodyOf f) (e + 24) x && vaxFloat (bodyOf f) (e + 16)) ≡ true)
   -- "pad value as elements (18 if there is none)"
-  pub padWrong : (k n x : ℤ) (v left : ℕ) → variableWay f k n ≡ Found v left → (numberOf (padRead f k n x) ≡ 18) ↔ (padRight f v x ≡ false)
+  pub padWrong : (k n x : ℤ) (v left : ℕ) → variableWay f k n ≡ Found v left → (numberOf (padRead f k n x) ≡ 18) ↔ (padRight (bodyOf f) v x ≡ false)
   pub padFloat : (k n x : ℤ) (v left : ℕ) → variableWay f k n ≡ Found v left
-      → (numberOf (padRead f k n x) ≡ 19) ↔ ((padRight f v x && vaxFloat f (v + 12)) ≡ true)
+      → (numberOf (padRead f k n x) ≡ 19) ↔ ((padRight (bodyOf f) v x && vaxFloat (bodyOf f) (v + 12)) ≡ true)
 
 abbrev pub ElementsRefused : Type 0
 ElementsRefused = (f : List ℕ) → ElementsExact f
@@ -384,10 +388,32 @@ ShownOrRefused Shown Why (Is x) = Shown x
 ShownOrRefused Shown Why (NoField v) = Why v
 
 pub record ReadsRight (f : List ℕ) : Type 0 where
-  pub value : (k n r : ℤ) (is : List ℤ) (x : ℤ) → GivenOrRefused (ValueShown f k n r is x) (ValueRefused f k n r is x) (valueRead f k n r is x)
-  pub entry : (b k n x : ℤ) → GivenOrRefused (EntryShown f b k n x) (EntryRefused f b k n x) (entryRead f b k n x)
-  pub pad : (k n x : ℤ) → GivenOrRefused (PadShown f k n x) (PadRefused f k n x) (padRead f k n x)
-  pub levels : (k n r : ℤ) → ShownOrRefused (LevelsShown f k n r) (LevelsRefused f k n r) (variableLevels f k n r)
+  pub value : (k n r : ℤ) (is : List ℤ) (x : ℤ) → GivenOrRefused (ValueShown (bodyOf f) k n r is x) (ValueRefused (bodyOf f) k n r is x) (valueRead f k n r is x)
+  pub entry : (b k n x : ℤ) → GivenOrRefused (EntryShown (bodyOf f) b k n x) (EntryRefused (bodyOf f) b k n x) (entryRead f b k n x)
+  pub pad : (k n x : ℤ) → GivenOrRefused (PadShown (bodyOf f) k n x) (PadRefused (bodyOf f) k n x) (padRead f k n x)
+  pub levels : (k n r : ℤ) → ShownOrRefused (LevelsShown (bodyOf f) k n r) (LevelsRefused (bodyOf f) k n r) (variableLevels f k n r)
 
 abbrev pub Demand2Values : Type 0
 Demand2Values = (f : List ℕ) → PlainAccepts f → ReadsRight f
+
+-- ---- PADDING UNREAD: "Bytes and marks from eof on are neither judged nor written", and no answer is taken from them
+
+-- every call answers the same of the files f and g
+pub record SameAnswers (f g : List ℕ) : Type 0 where
+  pub value : (k n r : ℤ) (is : List ℤ) (x : ℤ) → valueRead f k n r is x ≡ valueRead g k n r is x
+  pub entry : (b k : ℤ) (w : Wanted) (x : ℤ) → entryValue f b k w x ≡ entryValue g b k w x
+  pub pad : (k n x : ℤ) → padRead f k n x ≡ padRead g k n x
+  pub ofVariable : (k n : ℤ) (p : ℕ) → variableField f k n p ≡ variableField g k n p
+  pub ofAttribute : (n : ℤ) (p : ℕ) → attributeField f n p ≡ attributeField g n p
+  pub ofEntry : (b k : ℤ) (w : Wanted) (p : ℕ) → entryField f b k w p ≡ entryField g b k w p
+  pub ofDimension : (d : ℤ) → dimensionSize f d ≡ dimensionSize g d
+  pub ofSize : (k n d : ℤ) → variableSize f k n d ≡ variableSize g k n d
+  pub ofVariance : (k n d : ℤ) → variableVariance f k n d ≡ variableVariance g k n d
+  pub ofLevels : (k n r : ℤ) → variableLevels f k n r ≡ variableLevels g k n r
+  pub variableNamed : (k n : ℤ) → variableName f k n ≡ variableName g k n
+  pub attributeNamed : (n : ℤ) → attributeName f n ≡ attributeName g n
+  pub ofFile : (what : ℕ) → fileField f what ≡ fileField g what
+
+-- behind the bytes b, whose eof is their number, stand p or as many others q, up to 511
+abbrev pub PaddingUnread : Type 0
+PaddingUnread = (b p q : List ℕ) → Unpadded b → length p ≡ length q → length p ≤ 511 → SameAnswers (b ++ p) (b ++ q)

@@ -163,7 +163,7 @@ pub extern "C" fn tlz_read_pad(
 }
 
 // What the file says of itself: 0 majority, 1 encoding, 2 to 4 the counts of rVariables, zVariables and attributes, 5 the number of
-// dimensions of the rVariables.
+// dimensions of the rVariables, 6 the bytes of padding behind its end.
 #[no_mangle]
 pub extern "C" fn tlz_read_file(file: &[u8], what: u64, field: &mut i32) -> i32
     ensures { λ q. ⌜ shownField q (now (field .exit)) ≡ fieldShown (fileField (now (file .entry)) what) (now (field .entry)) ⌝ }

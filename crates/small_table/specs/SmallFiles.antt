@@ -1,4 +1,5 @@
--- The small files of document 01 and some with lower index records, and their plain runs, in one table. Assumes nothing.
+-- The small files of document 01, some with lower index records and some that are padded, and their plain runs, in one table.
+-- Assumes nothing.
 use mathlib.Core.Path.{_≡_, refl}
 use mathlib.Core.Bool.{Bool, true, false, _&&_}
 use mathlib.Core.List.{List, [], _∷_, _++_}
@@ -11,7 +12,7 @@ use Rattle.format.specs.Fields.{endOf, fieldAt, eqZ, isAt, atLeast, atMost, inO
 use Rattle.format.specs.Types.{typeOf}
 use Rattle.format.specs.Encodings.{encodingOf}
 use Rattle.records.specs.Rules.{reachOf, judged}
-use Rattle.records.specs.Opening.{tooLong, magicsRight, whollyCompressed, cdrRight, singleFile, gdrAt, gdrFields, gdrRight, opening}
+use Rattle.records.specs.Opening.{tooLong, magicsRight, whollyCompressed, cdrRight, singleFile, gdrAt, eofOf, eofRight, gdrFields, gdrRight, opening, fileEnd, bodyOf}
 use Rattle.records.specs.Tiles.{typeKnown, tileFields, tileRight, typeUncarried, tile}
 use Rattle.records.specs.Attributes.{adrRight, adrRule, elementSize, aedrRight, aedrRule}
 use Rattle.records.specs.Index.{vxrRight, vxrRule, rises, closes, rangeNumber, entryOf, vvrRule}
@@ -30,7 +31,7 @@ use Rattle.answers.specs.Answers.{elementThere, elementRead, inRecord, inVariab
 use Rattle.walk.specs.Walk.{typeNumber, followed, gdrNamed, fieldNumber, tallied, varsTally, varNumber, chainTally, attrNumber, valuesNumber, lowerNumber, entriesTally, numNumber, entryNumber, oneMore, unusedNumber, turnBy}
 use Rattle.walk.specs.Levels.{isNone, mostOf, roomBelow}
 use Rattle.marks.specs.Marks.{cleared, marked, startAt, unclaimedAt, followedAt, leftFrom, leftOf}
-use Rattle.checker.specs.Step.{Run, answerOf, openNumber, linkNumber, turned, stepBy, runOf, plainRun}
+use Rattle.checker.specs.Step.{Run, answerOf, openNumber, swept, linkNumber, turned, stepBy, runOf, plainRun}
 
 -- ---- files
 -- numbers as control fields, one after the other
@@ -119,6 +120,10 @@ fileI = fileOf 551 372 1 0 (variable 15 (replicate 7 0))
 unfoldable pub deep : ℕ → List ℕ
 deep n = fileOf (518 + 32 * n) 372 1 0 (variableBy (levels n 504) 14 (0 ∷ 0 ∷ 1 ∷ 0 ∷ 2 ∷ 0 ∷ []))
 
+-- request #101: H with n bytes behind its eof
+unfoldable pub padded : ℕ → List ℕ
+padded n = fileH ++ replicate n 9
+
 -- "in H, bytes FF FE at 546", in an encoding
 unfoldable pub fileJ : ℕ → List ℕ
 fileJ encoding = fileBy encoding 3 550 372 1 0 (variable 14 (0 ∷ 0 ∷ 255 ∷ 254 ∷ 0 ∷ 0 ∷ []))
@@ -169,7 +174,7 @@ allOf [] = true
 allOf (b ∷ bs) = b && allOf bs
 
 -- a row for each file, with the marks at record starts; then what is read of J (both encodings), K, L (by row and by column) and M, and
--- through two, eight and nine levels
+-- through two, eight and nine levels, and of H with padding
 unfoldable pub rows : List Bool
 rows =
     checks fileA (pos 0) 8 ((0, 7) ∷ (8, 1) ∷ (312, 2) ∷ [])
@@ -185,6 +190,11 @@ rows =
     ∷ checks (deep 2) (pos 0) 18 ((8, 1) ∷ (312, 2) ∷ (372, 2) ∷ (504, 2) ∷ (536, 2) ∷ (568, 2) ∷ [])
     ∷ checks (deep 8) (pos 0) 36 ((504, 2) ∷ (728, 2) ∷ (760, 2) ∷ [])
     ∷ checks (deep 9) (pos 23) 26 ((504, 2) ∷ (728, 2) ∷ (760, 1) ∷ (792, 1) ∷ [])
+    -- padding of 1, 140 and 511 bytes, whose marks stay, and of 512
+    ∷ checks (padded 1) (pos 0) 15 ((312, 2) ∷ (536, 2) ∷ (549, 0) ∷ (550, 7) ∷ [])
+    ∷ checks (padded 140) (pos 0) 15 ((312, 2) ∷ (536, 2) ∷ (549, 0) ∷ (550, 7) ∷ (689, 7) ∷ [])
+    ∷ checks (padded 511) (pos 0) 15 ((312, 2) ∷ (536, 2) ∷ (549, 0) ∷ (550, 7) ∷ (1060, 7) ∷ [])
+    ∷ checks (padded 512) (pos 6) 1 ((8, 7) ∷ (549, 7) ∷ (550, 7) ∷ [])
     ∷ gives (negsuc 256) 546 (reads (fileJ 6) 1 [])
     ∷ gives (negsuc 1) 546 (reads (fileJ 1) 1 [])
     ∷ refuses 16 (reads fileH 3 [])
@@ -194,20 +204,22 @@ rows =
     ∷ gives (pos 1) 578 (reads (deep 2) 1 [])
     ∷ gives (pos 2) 772 (reads (deep 8) 2 [])
     ∷ refuses 20 (reads (deep 9) 2 [])
+    ∷ gives (pos 0) 546 (reads (padded 511) 1 [])
+    ∷ refuses 20 (reads (padded 512) 1 [])
     ∷ []
 
 -- THE TABLE
 pub small-files : allOf rows ≡ true
 unfolding bigAt endOf fieldAt isAt atLeast atMost inOrder sameAt eachWithin natAt afterAt linkAt bitAt typeOf encodingOf
-    reachOf judged tooLong magicsRight whollyCompressed cdrRight singleFile gdrAt gdrFields gdrRight opening typeKnown
+    reachOf judged tooLong magicsRight whollyCompressed cdrRight singleFile gdrAt eofOf eofRight gdrFields gdrRight opening fileEnd bodyOf typeKnown
     tileFields tileRight typeUncarried tile adrRight adrRule elementSize aedrRight aedrRule vxrRight vxrRule rises closes rangeNumber
     entryOf vvrRule uirRule capped carriedOf vdrFields countPlace countRight layoutAt layoutOf valueBytes padBytes
     sizeExact dimensionsRight factorOf spread recordBytes dimensioned variableOf typeNumber followed gdrNamed fieldNumber tallied varsTally
     varNumber chainTally attrNumber valuesNumber lowerNumber entriesTally numNumber entryNumber oneMore unusedNumber isNone mostOf roomBelow turnBy cleared marked startAt unclaimedAt
-    followedAt leftFrom leftOf openNumber linkNumber turned stepBy runOf littleAt placeAfter elementPlace indicesRight
+    followedAt leftFrom leftOf openNumber swept linkNumber turned stepBy runOf littleAt placeAfter elementPlace indicesRight
     rowFits placed placeOf rawAt valueOf bitsOf isVax isNothing decodedOf opened allowance landsOn vdrKept ruleKept meets
     lastLink sought placeWay variableWay recordThere recordRead lookedUp scanned indexMet lastIndex indexed lowerMet lowered valuesMet
-    recordWay elementThere elementRead inRecord inVariable valueRead wordsOf fileBy fileOf indexTo variableBy variable levels deep plane fileA fileB
+    recordWay elementThere elementRead inRecord inVariable valueRead wordsOf fileBy fileOf indexTo variableBy variable levels deep padded plane fileA fileB
     fileC fileD fileE fileF fileG fileH fileI fileJ fileL fileM marksAre ends checks isSigned gives refuses reads allOf
     rows
 small-files = refl

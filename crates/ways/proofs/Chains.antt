@@ -10,6 +10,7 @@ use borrow.Author.Tests.{eqb-true}
 use Rattle.format.specs.Fields.{linkAt}
 use Rattle.records.specs.Index.{usedAt, indexAt, noLimit, entryOf, vvrRule}
 use Rattle.records.specs.Tree.{levelsBelow}
+use Rattle.records.proofs.Bodies.{both}
 use Rattle.records.specs.declared.index.Entry.{Entry}
 use Rattle.ways.specs.Lists.{landsOn}
 use Rattle.ways.specs.Indexes.{entryCovers, scanned, indexMet, lowerMet, lowerScan, afterLower, lowered, lowestOf, afterScan, lastIndex, indexed, valuesMet, recordPlace, valuesOf, looked, recordThere, recordRead, lookedUp, recordWay, levelsFrom, levelsTold, levelsOf, levelsLooked, levelsWay}
@@ -22,7 +23,6 @@ use Rattle.ways.specs.declared.indexes.Values.{Values}
 use Rattle.ways.specs.declared.indexes.Values.the-variants.{Record, Refused}
 use Rattle.ways.specs.declared.indexes.Levels.{Levels}
 use Rattle.ways.specs.declared.indexes.Levels.the-variants.{Are, Unknown}
-use Rattle.ways.proofs.Kept.{both}
 use Rattle.ways.proofs.Sought.{nth}
 
 -- the entry e of the VXR x is the one at the place i or behind it, of n, keeps its rule, ends at most or below and covers r

@@ -7,8 +7,11 @@ use borrow.Author.Needs.{needs}
 use Rattle.answers.proofs.read_entry.Statement.{statement}
 use Rattle.answers.proofs.read_entry.Tie as tie
 
+body-requires : tie.Need-body-requires
+body-requires c κs = search needs
+
 to-entry-requires : tie.Need-to-entry-requires
-to-entry-requires c κs = search needs
+to-entry-requires c κs = c .body .ensures
 
 enum-known-way : tie.Need-enum-known-way
 enum-known-way c = search needs
@@ -30,7 +33,9 @@ add-element-3 c = search needs
 
 element-requires : tie.Need-element-requires
 element-requires c κs =
-    let i = in-entry (c .before .before .before .before .before .args .f .now) _ _ _ _ _ (sym (c .before .before .before .to-entry .ensures) ∙ c .before .way .given .1) in
+    let a = c .before .before .before .before .before .before in
+    let b = c .before .before .before .before .body in
+    let i = in-entry (a .args .f .now) (b .result .now) (b .ensures) _ _ _ _ _ (sym (c .before .before .before .to-entry .ensures) ∙ c .before .way .given .1) in
     (i .short, omega (arith, i .long), omega (arith, i .bytes), omega (arith, i .bytes), omega (arith, i .short, i .bytes))
 
 enum-known-way-2 : tie.Need-enum-known-way-2
@@ -38,13 +43,14 @@ enum-known-way-2 c = search needs
 
 returns : tie.Need-returns
 returns c =
-    let a = c .before .before .before .before .before .before in
+    let a = c .before .before .before .before .before .before .before in
+    let b = c .before .before .before .before .before .body in
     let e = rw (toZ-ofZ {w = w64} (a .fits .attribute), toZ-ofZ {w = w64} (a .fits .kind)) at (sym (c .before .before .before .before .to-entry .ensures) ∙ c .before .before .way .given .1) in
-    c .element .ensures ∙ rw (toZ-ofZ {w = w64} (a .fits .x)) (sym (entry-found (a .args .f .now) (a .args .attribute) (a .args .kind) (a .args .w) (a .args .x) _ _ e))
+    c .element .ensures ∙ rw (toZ-ofZ {w = w64} (a .fits .x)) (sym (entry-found (a .args .f .now) (b .result .now) (b .ensures) (a .args .attribute) (a .args .kind) (a .args .w) (a .args .x) _ _ e))
 
 returns-2 : tie.Need-returns-2
 returns-2 c =
-    let a = c .before .before .before .before .before in
+    let a = c .before .before .before .before .before .before in
     let e = rw (toZ-ofZ {w = w64} (a .fits .attribute), toZ-ofZ {w = w64} (a .fits .kind)) at (sym (c .before .before .before .to-entry .ensures) ∙ c .before .way2 .given .1) in
     sym (entry-stopped (a .args .f .now) (a .args .attribute) (a .args .kind) (a .args .w) (a .args .x) _ e)
 
@@ -52,6 +58,7 @@ pub read-entry-spec : {M : Type 1} → statement M
 read-entry-spec =
     tie.close
     (tie.spec
+    body-requires
     to-entry-requires
     enum-known-way
     cast-e

@@ -1,10 +1,10 @@
+use Rattle.ways.proofs.Opening.{opened-part}
 use Rattle.descriptors.specs.Descriptors.{dimensionSize}
 use Rattle.records.specs.Opening.{gdrAt}
 use borrow.Author.Tests.{not-true, not-false}
 use mir.Facts.{toZ-ofZ}
 use mir.Syntax.{w64}
 use native.Mathlib.Omega.{arith}
-use mathlib.Core.Path.{_∙_}
 use borrow.Author.Needs.{needs}
 use Rattle.descriptors.proofs.dimension_size.Statement.{statement}
 use Rattle.descriptors.proofs.dimension_size.Tie as tie
@@ -16,8 +16,13 @@ returns : tie.Need-returns
 unfolding dimensionSize
 returns c = simp (not-true (c .before .opens .result) (c .if1 .taken), ← c .before .opens .ensures .0)
 
+body-requires : tie.Need-body-requires
+body-requires c κs = search needs
+
 link-at-requires : tie.Need-link-at-requires
-link-at-requires c κs = let o = c .before .opens .ensures .1 (not-false _ (c .if1 .left)) in omega (arith, o .long)
+link-at-requires c κs =
+    let o = opened-part (c .before .before .before .before .args .f .now) (c .body .result .now) (c .body .ensures) (c .before .before .opens .ensures .1 (not-false _ (c .before .if1 .left))) in
+    omega (arith, o .long)
 
 cast-g : tie.Need-cast-g
 cast-g c = search needs
@@ -30,15 +35,19 @@ add-nat-at c = search needs
 
 nat-at-requires : tie.Need-nat-at-requires
 unfolding gdrAt
-nat-at-requires c κs = let o = c .before .before .opens .ensures .1 (not-false _ (c .before .if1 .left)) in omega (arith, o .gdr, c .link-at .ensures .0)
+nat-at-requires c κs =
+    let o = opened-part (c .before .before .before .before .before .args .f .now) (c .before .body .result .now) (c .before .body .ensures) (c .before .before .before .opens .ensures .1 (not-false _ (c .before .before .if1 .left))) in
+    omega (arith, o .gdr, c .link-at .ensures .0)
 
 row-field-requires : tie.Need-row-field-requires
 unfolding gdrAt
-row-field-requires c κs = let o = c .before .before .before .opens .ensures .1 (not-false _ (c .before .before .if1 .left)) in omega (arith, o .gdr, c .before .link-at .ensures .0, rw (c .before .link-at .ensures .0) at (c .nat-at .ensures .0))
+row-field-requires c κs =
+    let o = opened-part (c .before .before .before .before .before .before .args .f .now) (c .before .before .body .result .now) (c .before .before .body .ensures) (c .before .before .before .before .opens .ensures .1 (not-false _ (c .before .before .before .if1 .left))) in
+    omega (arith, o .gdr, c .before .link-at .ensures .0, rw (c .before .link-at .ensures .0) at (c .nat-at .ensures .0))
 
 returns-2 : tie.Need-returns-2
 unfolding dimensionSize gdrAt
-returns-2 c = simp (c .row-field .ensures, c .before .nat-at .ensures .0, c .before .before .link-at .ensures .0, not-false (c .before .before .before .before .opens .result) (c .before .before .before .if1 .left), ← c .before .before .before .before .opens .ensures .0) (rw (toZ-ofZ {w = w64} (c .before .before .before .before .before .before .fits .d)))
+returns-2 c = simp (c .row-field .ensures, c .before .nat-at .ensures .0, c .before .before .link-at .ensures .0, c .before .before .before .body .ensures, not-false (c .before .before .before .before .before .opens .result) (c .before .before .before .before .if1 .left), ← c .before .before .before .before .before .opens .ensures .0) (rw (toZ-ofZ {w = w64} (c .before .before .before .before .before .before .before .fits .d)))
 
 pub dimension-size-spec : {M : Type 1} → statement M
 dimension-size-spec =
@@ -46,6 +55,7 @@ dimension-size-spec =
     (tie.spec
     opens-requires
     returns
+    body-requires
     link-at-requires
     cast-g
     add-row-field

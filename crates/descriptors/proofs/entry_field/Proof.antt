@@ -7,19 +7,22 @@ use borrow.Author.Needs.{needs}
 use Rattle.descriptors.proofs.entry_field.Statement.{statement}
 use Rattle.descriptors.proofs.entry_field.Tie as tie
 
+body-requires : tie.Need-body-requires
+body-requires c κs = search needs
+
 kind-among-requires : tie.Need-kind-among-requires
 kind-among-requires c κs = search needs
 
 to-entry-requires : tie.Need-to-entry-requires
-to-entry-requires c κs = search needs
+to-entry-requires c κs = c .before .body .ensures
 
 field-on-requires : tie.Need-field-on-requires
-field-on-requires c κs = rw (c .before .kind-among .ensures .0, c .to-entry .ensures) (entry-holds (c .before .before .before .args .f .now) _ _ _)
+field-on-requires c κs = rw (c .before .kind-among .ensures .0, c .to-entry .ensures) (entry-holds (c .before .before .before .before .args .f .now) (c .before .before .body .result .now) (c .before .before .body .ensures) _ _ _)
 
 returns : tie.Need-returns
 unfolding entryField
-returns c = c .field-on .ensures ∙ rw (c .before .before .kind-among .ensures .0, c .before .to-entry .ensures, toZ-ofZ {w = w64} (c .before .before .before .before .fits .attribute), toZ-ofZ {w = w64} (c .before .before .before .before .fits .kind))
+returns c = c .field-on .ensures ∙ rw (c .before .before .before .body .ensures, c .before .before .kind-among .ensures .0, c .before .to-entry .ensures, toZ-ofZ {w = w64} (c .before .before .before .before .before .fits .attribute), toZ-ofZ {w = w64} (c .before .before .before .before .before .fits .kind))
 
 pub entry-field-spec : {M : Type 1} → statement M
 entry-field-spec =
-    tie.close (tie.spec kind-among-requires to-entry-requires field-on-requires returns)
+    tie.close (tie.spec body-requires kind-among-requires to-entry-requires field-on-requires returns)

@@ -1,6 +1,14 @@
 use Rattle.descriptors.specs.Descriptors.{fileField}
-use borrow.Author.Tests.{not-true, not-false}
-use mathlib.Core.Path.{_∙_}
+use Rattle.ways.proofs.Opening.{opened-part}
+use native.Mathlib.Omega.{arith}
+use borrow.Author.Tests.{eq-eqb, ne-eqb, not-true, not-false}
+use mir.Facts.{toZ-pos}
+use mir.Syntax.{w32}
+use lib.ListN.{length}
+use mathlib.Core.Path.{_≡_, ap, _∙_}
+use Rattle.records.specs.Opening.{fileEnd}
+use Rattle.records.proofs.Bodies.{body-length}
+use Prim.Native.Nat.{_-_, _<_}
 use borrow.Author.Needs.{needs}
 use Rattle.descriptors.proofs.file_field.Statement.{statement}
 use Rattle.descriptors.proofs.file_field.Tie as tie
@@ -12,12 +20,47 @@ returns : tie.Need-returns
 unfolding fileField
 returns c = simp (not-true (c .before .opens .result) (c .if1 .taken), ← c .before .opens .ensures .0)
 
-said-of-requires : tie.Need-said-of-requires
-said-of-requires c κs = c .before .opens .ensures .1 (not-false _ (c .if1 .left))
+body-requires : tie.Need-body-requires
+body-requires c κs = search needs
+
+sub-t8 : tie.Need-sub-t8
+sub-t8 c =
+    let o = opened-part (c .before .before .before .before .before .args .f .now) (c .before .body .result .now) (c .before .body .ensures) (c .before .before .before .opens .ensures .1 (not-false _ (c .before .before .if1 .left))) in
+    omega (arith, o .part)
+
+cast-t9 : tie.Need-cast-t9
+cast-t9 c =
+    let o = opened-part (c .before .before .before .before .before .args .f .now) (c .before .body .result .now) (c .before .body .ensures) (c .before .before .before .opens .ensures .1 (not-false _ (c .before .before .if1 .left))) in
+    omega (arith, o .part, o .short)
 
 returns-2 : tie.Need-returns-2
 unfolding fileField
-returns-2 c = simp (c .said-of .ensures, not-false (c .before .before .opens .result) (c .before .if1 .left), ← c .before .before .opens .ensures .0)
+returns-2 c =
+    let f = c .before .before .before .before .before .args .f .now in
+    let b = c .before .body .result .now in
+    let o = opened-part (c .before .before .before .before .before .args .f .now) (c .before .body .result .now) (c .before .body .ensures) (c .before .before .before .opens .ensures .1 (not-false _ (c .before .before .if1 .left))) in
+    let e : length b ≡ fileEnd f = ap length (c .before .body .ensures) ∙ body-length f in
+    let small : length f - length b < 2147483648 = omega (arith, o .short, o .part) in
+    rw (← c .before .before .before .opens .ensures .0, not-false (c .before .before .before .opens .result) (c .before .before .if1 .left), eq-eqb _ _ (c .if2 .taken), toZ-pos w32 small, e)
+
+said-of-requires : tie.Need-said-of-requires
+said-of-requires c κs =
+    let o = opened-part (c .before .before .before .before .before .args .f .now) (c .before .body .result .now) (c .before .body .ensures) (c .before .before .before .opens .ensures .1 (not-false _ (c .before .before .if1 .left))) in
+    omega (arith, o .gdr)
+
+returns-3 : tie.Need-returns-3
+unfolding fileField
+returns-3 c = simp (c .said-of .ensures, ne-eqb _ _ (c .before .if2 .left), not-false (c .before .before .before .before .opens .result) (c .before .before .before .if1 .left), ← c .before .before .before .before .opens .ensures .0, c .before .before .body .ensures)
 
 pub file-field-spec : {M : Type 1} → statement M
-file-field-spec = tie.close (tie.spec opens-requires returns said-of-requires returns-2)
+file-field-spec =
+    tie.close
+    (tie.spec
+    opens-requires
+    returns
+    body-requires
+    sub-t8
+    cast-t9
+    returns-2
+    said-of-requires
+    returns-3)

@@ -12,35 +12,35 @@ cast-g : tie.Need-cast-g
 cast-g c = search needs
 
 returns : tie.Need-returns
-returns c = (simp (eq-eqb _ _ (c .if1 .taken)), omega (arith, c .before .before .before .pre .long))
+returns c = (simp (eq-eqb _ _ (c .if1 .taken)), omega (arith, c .before .before .before .pre))
 
 add-result : tie.Need-add-result
 add-result c = search needs
 
 returns-2 : tie.Need-returns-2
 unfolding gdrAt
-returns-2 c = (simp (eq-eqb _ _ (c .if2 .taken), ne-eqb _ _ (c .before .if1 .left), c .before .before .link-at .ensures .0), omega (arith, c .before .before .before .before .pre .gdr, c .before .before .link-at .ensures .0))
+returns-2 c = (simp (eq-eqb _ _ (c .if2 .taken), ne-eqb _ _ (c .before .if1 .left), c .before .before .link-at .ensures .0), omega (arith, c .before .before .before .before .pre, c .before .before .link-at .ensures .0))
 
 add-result-2 : tie.Need-add-result-2
 add-result-2 c = search needs
 
 returns-3 : tie.Need-returns-3
 unfolding gdrAt
-returns-3 c = (simp (eq-eqb _ _ (c .if3 .taken), ne-eqb _ _ (c .before .if2 .left), ne-eqb _ _ (c .before .before .if1 .left), c .before .before .before .link-at .ensures .0), omega (arith, c .before .before .before .before .before .pre .gdr, c .before .before .before .link-at .ensures .0))
+returns-3 c = (simp (eq-eqb _ _ (c .if3 .taken), ne-eqb _ _ (c .before .if2 .left), ne-eqb _ _ (c .before .before .if1 .left), c .before .before .before .link-at .ensures .0), omega (arith, c .before .before .before .before .before .pre, c .before .before .before .link-at .ensures .0))
 
 add-result-3 : tie.Need-add-result-3
 add-result-3 c = search needs
 
 returns-4 : tie.Need-returns-4
 unfolding gdrAt
-returns-4 c = (simp (eq-eqb _ _ (c .if4 .taken), ne-eqb _ _ (c .before .if3 .left), ne-eqb _ _ (c .before .before .if2 .left), ne-eqb _ _ (c .before .before .before .if1 .left), c .before .before .before .before .link-at .ensures .0), omega (arith, c .before .before .before .before .before .before .pre .gdr, c .before .before .before .before .link-at .ensures .0))
+returns-4 c = (simp (eq-eqb _ _ (c .if4 .taken), ne-eqb _ _ (c .before .if3 .left), ne-eqb _ _ (c .before .before .if2 .left), ne-eqb _ _ (c .before .before .before .if1 .left), c .before .before .before .before .link-at .ensures .0), omega (arith, c .before .before .before .before .before .before .pre, c .before .before .before .before .link-at .ensures .0))
 
 add-result-4 : tie.Need-add-result-4
 add-result-4 c = search needs
 
 returns-5 : tie.Need-returns-5
 unfolding gdrAt
-returns-5 c = (simp (ne-eqb _ _ (c .if4 .left), ne-eqb _ _ (c .before .if3 .left), ne-eqb _ _ (c .before .before .if2 .left), ne-eqb _ _ (c .before .before .before .if1 .left), c .before .before .before .before .link-at .ensures .0), omega (arith, c .before .before .before .before .before .before .pre .gdr, c .before .before .before .before .link-at .ensures .0))
+returns-5 c = (simp (ne-eqb _ _ (c .if4 .left), ne-eqb _ _ (c .before .if3 .left), ne-eqb _ _ (c .before .before .if2 .left), ne-eqb _ _ (c .before .before .before .if1 .left), c .before .before .before .before .link-at .ensures .0), omega (arith, c .before .before .before .before .before .before .pre, c .before .before .before .before .link-at .ensures .0))
 
 pub said-place-spec : {M : Type 1} → statement M
 said-place-spec =

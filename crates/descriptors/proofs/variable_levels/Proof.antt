@@ -8,8 +8,11 @@ use Rattle.descriptors.proofs.Inside.{found-inside}
 use Rattle.descriptors.proofs.variable_levels.Statement.{statement}
 use Rattle.descriptors.proofs.variable_levels.Tie as tie
 
+body-requires : tie.Need-body-requires
+body-requires c κs = search needs
+
 to-variable-requires : tie.Need-to-variable-requires
-to-variable-requires c κs = search needs
+to-variable-requires c κs = c .body .ensures
 
 enum-known-way : tie.Need-enum-known-way
 enum-known-way c = search needs
@@ -17,7 +20,7 @@ enum-known-way c = search needs
 to-levels-requires : tie.Need-to-levels-requires
 to-levels-requires c κs =
     let e = sym (c .before .before .before .to-variable .ensures) ∙ c .before .way .given .1 in
-    omega (arith, found-inside (c .before .before .before .before .before .args .f .now) _ _ _ _ e)
+    omega (arith, found-inside (c .before .before .before .before .before .before .args .f .now) (c .before .before .before .before .body .result .now) (c .before .before .before .before .body .ensures) _ _ _ _ e)
 
 levels-field-requires : tie.Need-levels-field-requires
 levels-field-requires c κs = c .to-levels .ensures .1
@@ -28,14 +31,14 @@ enum-known-way-2 c = search needs
 returns : tie.Need-returns
 unfolding variableLevels
 returns c =
-    let a = c .before .before .before .before .before .before .before .fits in
+    let a = c .before .before .before .before .before .before .before .before .fits in
     let e = sym (c .before .before .before .before .before .to-variable .ensures) ∙ c .before .before .before .way .given .1 in
-    rw (c .levels-field .ensures, c .before .to-levels .ensures .0, ← toZ-ofZ {w = w64} (a .kind), ← toZ-ofZ {w = w64} (a .number), e, toZ-ofZ {w = w64} (a .r))
+    rw (c .levels-field .ensures, c .before .to-levels .ensures .0, c .before .before .before .before .before .before .body .ensures, ← toZ-ofZ {w = w64} (a .kind), ← toZ-ofZ {w = w64} (a .number), e, toZ-ofZ {w = w64} (a .r))
 
 returns-2 : tie.Need-returns-2
 unfolding variableLevels
 returns-2 c =
-    let a = c .before .before .before .before .before .fits in
+    let a = c .before .before .before .before .before .before .fits in
     let e = sym (c .before .before .before .to-variable .ensures) ∙ c .before .way2 .given .1 in
     rw (← toZ-ofZ {w = w64} (a .kind), ← toZ-ofZ {w = w64} (a .number), e)
 
@@ -43,6 +46,7 @@ pub variable-levels-spec : {M : Type 1} → statement M
 variable-levels-spec =
     tie.close
     (tie.spec
+    body-requires
     to-variable-requires
     enum-known-way
     to-levels-requires

@@ -9,8 +9,11 @@ use borrow.Author.Needs.{needs}
 use Rattle.descriptors.proofs.variable_size.Statement.{statement}
 use Rattle.descriptors.proofs.variable_size.Tie as tie
 
+body-requires : tie.Need-body-requires
+body-requires c κs = search needs
+
 dimensions-of-requires : tie.Need-dimensions-of-requires
-dimensions-of-requires c κs = search needs
+dimensions-of-requires c κs = c .body .ensures
 
 enum-known-dimensions : tie.Need-enum-known-dimensions
 enum-known-dimensions c = search needs
@@ -19,10 +22,10 @@ kind-among-requires : tie.Need-kind-among-requires
 kind-among-requires c κs = search needs
 
 cast-row-field : tie.Need-cast-row-field
-cast-row-field c = let h = subst (Lie (c .before .before .before .before .before .before .before .before .args .f .now)) (c .before .before .before .before .dimensions .given .1) (c .before .before .before .before .before .before .dimensions-of .ensures .1) in omega (arith, h .0, h .2)
+cast-row-field c = let h = subst (Lie (c .before .before .before .before .before .before .before .body .result .now)) (c .before .before .before .before .dimensions .given .1) (c .before .before .before .before .before .before .dimensions-of .ensures .1) in omega (arith, h .0, h .2)
 
 row-field-requires : tie.Need-row-field-requires
-row-field-requires c κs = subst (Lie (c .before .before .before .before .before .before .before .before .args .f .now)) (c .before .before .before .before .dimensions .given .1) (c .before .before .before .before .before .before .dimensions-of .ensures .1) .0
+row-field-requires c κs = subst (Lie (c .before .before .before .before .before .before .before .body .result .now)) (c .before .before .before .before .dimensions .given .1) (c .before .before .before .before .before .before .dimensions-of .ensures .1) .0
 
 enum-known-dimensions-2 : tie.Need-enum-known-dimensions-2
 enum-known-dimensions-2 c = search needs
@@ -30,15 +33,15 @@ enum-known-dimensions-2 c = search needs
 returns : tie.Need-returns
 unfolding variableSize
 returns c =
-    let a = c .before .before .before .before .before .before .before .before .before in
+    let a = c .before .before .before .before .before .before .before .before .before .before in
     let e = rw (toZ-ofZ {w = w64} (a .fits .kind), toZ-ofZ {w = w64} (a .fits .number)) at (sym (c .before .before .before .before .before .before .before .dimensions-of .ensures .0) ∙ c .before .before .before .before .before .dimensions .given .1) in
     let k = rw (toZ-ofZ {w = w64} (a .fits .kind)) at (c .before .before .before .kind-among .ensures .0) in
-    c .row-field .ensures ∙ rw (e, rw k at (eq-eqb _ _ (c .before .before .if1 .taken)), toZ-ofZ {w = w64} (a .fits .d))
+    c .row-field .ensures ∙ rw (c .before .before .before .before .before .before .before .before .body .ensures, e, rw k at (eq-eqb _ _ (c .before .before .if1 .taken)), toZ-ofZ {w = w64} (a .fits .d))
 
 returns-2 : tie.Need-returns-2
 unfolding variableSize
 returns-2 c =
-    let a = c .before .before .before .before .before .before .before in
+    let a = c .before .before .before .before .before .before .before .before in
     let e = rw (toZ-ofZ {w = w64} (a .fits .kind), toZ-ofZ {w = w64} (a .fits .number)) at (sym (c .before .before .before .before .before .dimensions-of .ensures .0) ∙ c .before .before .before .dimensions .given .1) in
     let k = rw (toZ-ofZ {w = w64} (a .fits .kind)) at (c .before .kind-among .ensures .0) in
     rw (e, rw k at (ne-eqb _ _ (c .if1 .left)))
@@ -46,7 +49,7 @@ returns-2 c =
 returns-3 : tie.Need-returns-3
 unfolding variableSize
 returns-3 c =
-    let a = c .before .before .before .before .before in
+    let a = c .before .before .before .before .before .before in
     let e = rw (toZ-ofZ {w = w64} (a .fits .kind), toZ-ofZ {w = w64} (a .fits .number)) at (sym (c .before .before .before .dimensions-of .ensures .0) ∙ c .before .dimensions2 .given .1) in
     rw e
 
@@ -54,6 +57,7 @@ pub variable-size-spec : {M : Type 1} → statement M
 variable-size-spec =
     tie.close
     (tie.spec
+    body-requires
     dimensions-of-requires
     enum-known-dimensions
     kind-among-requires

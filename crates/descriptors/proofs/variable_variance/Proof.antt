@@ -8,17 +8,20 @@ use borrow.Author.Needs.{needs}
 use Rattle.descriptors.proofs.variable_variance.Statement.{statement}
 use Rattle.descriptors.proofs.variable_variance.Tie as tie
 
+body-requires : tie.Need-body-requires
+body-requires c κs = search needs
+
 dimensions-of-requires : tie.Need-dimensions-of-requires
-dimensions-of-requires c κs = search needs
+dimensions-of-requires c κs = c .body .ensures
 
 enum-known-dimensions : tie.Need-enum-known-dimensions
 enum-known-dimensions c = search needs
 
 cast-row-field : tie.Need-cast-row-field
-cast-row-field c = let h = subst (Lie (c .before .before .before .before .before .before .args .f .now)) (c .before .before .dimensions .given .1) (c .before .before .before .before .dimensions-of .ensures .1) in omega (arith, h .1, h .2)
+cast-row-field c = let h = subst (Lie (c .before .before .before .before .before .body .result .now)) (c .before .before .dimensions .given .1) (c .before .before .before .before .dimensions-of .ensures .1) in omega (arith, h .1, h .2)
 
 row-field-requires : tie.Need-row-field-requires
-row-field-requires c κs = subst (Lie (c .before .before .before .before .before .before .args .f .now)) (c .before .before .dimensions .given .1) (c .before .before .before .before .dimensions-of .ensures .1) .1
+row-field-requires c κs = subst (Lie (c .before .before .before .before .before .body .result .now)) (c .before .before .dimensions .given .1) (c .before .before .before .before .dimensions-of .ensures .1) .1
 
 enum-known-dimensions-2 : tie.Need-enum-known-dimensions-2
 enum-known-dimensions-2 c = search needs
@@ -26,14 +29,14 @@ enum-known-dimensions-2 c = search needs
 returns : tie.Need-returns
 unfolding variableVariance
 returns c =
-    let a = c .before .before .before .before .before .before .before in
+    let a = c .before .before .before .before .before .before .before .before in
     let e = rw (toZ-ofZ {w = w64} (a .fits .kind), toZ-ofZ {w = w64} (a .fits .number)) at (sym (c .before .before .before .before .before .dimensions-of .ensures .0) ∙ c .before .before .before .dimensions .given .1) in
-    c .row-field .ensures ∙ rw (e, toZ-ofZ {w = w64} (a .fits .d))
+    c .row-field .ensures ∙ rw (c .before .before .before .before .before .before .body .ensures, e, toZ-ofZ {w = w64} (a .fits .d))
 
 returns-2 : tie.Need-returns-2
 unfolding variableVariance
 returns-2 c =
-    let a = c .before .before .before .before .before in
+    let a = c .before .before .before .before .before .before in
     let e = rw (toZ-ofZ {w = w64} (a .fits .kind), toZ-ofZ {w = w64} (a .fits .number)) at (sym (c .before .before .before .dimensions-of .ensures .0) ∙ c .before .dimensions2 .given .1) in
     rw e
 
@@ -41,6 +44,7 @@ pub variable-variance-spec : {M : Type 1} → statement M
 variable-variance-spec =
     tie.close
     (tie.spec
+    body-requires
     dimensions-of-requires
     enum-known-dimensions
     cast-row-field

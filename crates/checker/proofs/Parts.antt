@@ -1,0 +1,39 @@
+-- Steps over what lies before the end of a file. Assumes nothing.
+use mathlib.Core.Path.{_≡_, ap, _∙_}
+use mathlib.Core.List.{List}
+use Prim.Native.Nat.{ℕ, _≤_}
+use native.Mathlib.Omega.{arith}
+use lib.ListN.{length, take}
+use Rattle.records.specs.Opening.{fileEnd, bodyOf}
+use Rattle.records.proofs.Bodies.{body-le}
+use Rattle.walk.specs.Levels.{levelsAfter}
+use Rattle.walk.specs.Walk.{turnOf}
+use Rattle.walk.specs.declared.places.Levels.{Levels}
+use Rattle.walk.specs.declared.places.Turn as T
+use Rattle.walk.specs.declared.places.Walk as W
+use Rattle.checker.specs.declared.state.Stage.the-variants.{Walking}
+use Rattle.checker.specs.declared.state.Went.{Went}
+use Rattle.checker.specs.Step.{conf, turned, stepBy}
+use Rattle.checker.specs.Ready.{Lent, wentTo}
+
+-- what lies before the end
+pub body-is : (f : List ℕ) (e : ℕ) → e ≡ fileEnd f → take e f ≡ bodyOf f
+unfolding bodyOf
+body-is f e h = ap (λ (k : ℕ). take k f) h
+
+-- what a step of the walk comes to, with its levels
+pub walked : (f m : List ℕ) (n : ℕ) (w : W.Walk) (up : Levels) (b : List ℕ)
+    → b ≡ bodyOf f
+    → (t : T.Turn) (r : Went) (m′ : List ℕ)
+    → t ≡ turnOf b up w
+    → ((k : ℕ) (s : Levels) → conf (wentTo k (levelsAfter s t) r) m′ ≡ turned b m k s t)
+    → conf (wentTo n (levelsAfter up t) r) m′ ≡ stepBy f m n (Walking w up)
+unfolding stepBy
+walked f m n w up b h t r m′ is settles =
+    settles n up ∙ ap (turned b m n up) is ∙ ap (λ (x : List ℕ). turned x m n up (turnOf x up w)) h
+
+-- what lies before the end is lent too
+pub lent-body : (f m b : List ℕ) → b ≡ bodyOf f → Lent f m → Lent b m
+lent-body f m b is h =
+    let less : length b ≤ length f = rw is (body-le f) in
+    record { marks = omega (arith, h .marks); short = omega (arith, h .short) }
