@@ -32,7 +32,7 @@ abbrev pub numberOf : Read → ℕ
 numberOf (Value a) = 0
 numberOf (Refused v) = v
 
--- 19: "float in encoding 3, 14 or 15"; an element that is not in the file would be 20
+-- 19: "float in encoding 3, 14 or 15"; an element that is not before the file's end would be 20
 abbrev pub answered : Decoded → Read
 answered (Given a) = Value a
 answered Vax = Refused 19

@@ -4,7 +4,7 @@ use mathlib.Core.List.{List}
 use lib.ListN.{length}
 use Rattle.variables.specs.declared.vdr.Variable.{Variable}
 
--- a file whose length an offset can say, and a record in it whose first n bytes it holds
+-- bytes f, no more than an offset can say, and a record whose first n bytes they hold
 pub record Inside (f : List ℕ) (o n : ℕ) : Type 0 where
   pub short : length f < 2147483648
   pub long : 32 < length f

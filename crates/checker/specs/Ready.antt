@@ -1,4 +1,5 @@
--- What a step may count on: that the marks are no fewer than the bytes, that its numbers are in their ranges, and that a verdict is one. Assumes nothing.
+-- What a step may count on: that the marks are no fewer than the bytes, that its numbers are in their ranges, and that a verdict is
+-- one. Assumes nothing.
 use Prim.Native.Nat.{ℕ, _≤_}
 use mathlib.Core.List.{List}
 use lib.ListN.{length}

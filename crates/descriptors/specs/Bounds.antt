@@ -15,12 +15,12 @@ use Rattle.descriptors.specs.declared.Dimensions.the-variants.{Are, Unkn
 abbrev pub fieldBytes : ℕ → ℕ
 fieldBytes t = cond (eqb t 4) 116 (cond (isEntryKind t) 48 (cond (eqb t 8) 132 128))
 
--- the first n bytes of a record that was found lie in the file
+-- the first n bytes of a record that was found lie in the bytes f
 abbrev pub Holds : List ℕ → ℕ → Way → Type 0
 Holds f n (Found o left) = o + n ≤ length f
 Holds f n (Stopped v) = Unit {0}
 
--- the sizes and variances of dimensions lie in a file whose length an offset can say
+-- the sizes and variances of dimensions lie in the bytes f, which are no more than an offset can say
 abbrev pub Lie : List ℕ → Dimensions → Type 0
 Lie f (Are l) = (l .sizes + 4 * l .count ≤ length f) × (l .variances + 4 * l .count ≤ length f) × (length f < 2147483648)
 Lie f (Unknown v) = Unit {0}

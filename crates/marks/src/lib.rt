@@ -60,7 +60,7 @@ fn is_unclaimed(f: &[u8], m: &[u8], o: usize) -> bool
     (m[o] != 2) & (o != 8) & !fields::is(f, o + 4, -1)
 }
 
-// The record at an offset has 8 bytes or more and ends in the file.
+// The record at an offset has 8 bytes or more and ends at the file's end at the latest.
 fn is_followed(f: &[u8], o: usize) -> bool
     requires { ⌜ o + 8 ≤ length (now f) ⌝ }
     ensures { λ r. ⌜ (r ≡ followedAt (now (f .entry)) o) × (r ≡ true → o + sizeAt (now (f .entry)) o ≤ length (now (f .entry))) ⌝ }

@@ -33,7 +33,7 @@ lastPlace x n i = firstPlace x i + 4 * n
 abbrev pub offsetPlace : ℕ → ℕ → ℕ → ℕ
 offsetPlace x n i = lastPlace x n i + 4 * n
 
--- size and type at o lie in the file, and the type is an index record's
+-- size and type at o lie before the file's end, and the type is an index record's
 abbrev pub indexAt : List ℕ → ℕ → Bool
 indexAt f o = leb (o + 8) (endOf f) && typedAt f o (pos 6)
 
@@ -49,8 +49,8 @@ closes f first last most = inOrder f first last && leb (natAt f last) most
 abbrev pub noLimit : ℕ
 noLimit = 2147483647
 
--- the range and the Offset of an entry whose First stands in the file: 12 unless it rises; 20 if Last passes the file's end; 12 unless it
--- closes; 20 if Offset passes the file's end
+-- the range and the Offset of an entry whose First stands before the file's end: 12 unless it rises; 20 if Last passes the end; 12 unless
+-- it closes; 20 if Offset passes the end
 unfoldable pub rangeNumber : List ℕ → ℕ → ℕ → ℕ → ℕ → ℕ → ℕ
 rangeNumber f first last offset floor most =
     cond (rises f first floor)

@@ -73,11 +73,11 @@ fn same_run(a: Run, b: Run) -> bool {
 
 // A file checked both ways, each with marks that are first all 7.
 fn checked(file: &[u8], records: usize) {
-    let mut m = [7u8; 806];
+    let mut m = [7u8; 1062];
     let one = runs::in_one(file, &mut m);
     ending(one);
     marks(&m, records);
-    let mut n = [7u8; 806];
+    let mut n = [7u8; 1062];
     let many = runs::in_many(file, &mut n);
     if same_run(one, many) & same_marks(&m, &n) {
         io::write_all(1, b", same in grants of 1\n");

@@ -1,5 +1,5 @@
-// The small files: A to I, and H with two levels and with nine, checked in one grant of steps and in grants of one step; what is read
-// of J to M.
+// The small files: A to I, H with two levels and with nine, and H with padding, checked in one grant of steps and in grants of one
+// step; what is read of J to M.
 mod line;
 mod parts;
 mod reads;
@@ -36,6 +36,14 @@ fn variable(name: &[u8], levels: u32, vvr: u32, length: u32) {
     let mut f = [0u8; 806];
     parts::opening(&mut f, length, 372, 1, 0);
     parts::variable(&mut f, levels, vvr);
+    line::shown(name, &f, length, 5);
+}
+
+// H, whose eof is 550, with padding up to a length.
+fn padded(name: &[u8], length: u32) {
+    let mut f = [0u8; 1062];
+    parts::opening(&mut f, 550, 372, 1, 0);
+    parts::variable(&mut f, 1, 14);
     line::shown(name, &f, length, 5);
 }
 
@@ -86,6 +94,8 @@ fn main() {
     variable(b"I", 1, 15, 551);
     variable(b"H, two levels", 2, 14, 582);
     variable(b"H, nine levels", 9, 14, 806);
+    padded(b"H, padded by 511 bytes", 1061);
+    padded(b"H, padded by 512 bytes", 1062);
     decoded(b"J", 6, 0xff, 0xfe, 1);
     decoded(b"J, encoding 1", 1, 0xff, 0xfe, 1);
     decoded(b"K", 6, 0, 0, 3);

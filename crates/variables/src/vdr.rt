@@ -26,7 +26,7 @@ pub struct Variable {
     pub bytes: u64,
 }
 
-// 14 for a VDR of compressed values whose flags lie in it and in the file, else 0.
+// 14 for a VDR of compressed values whose flags lie in it and before the file's end, else 0.
 pub fn carried(f: &[u8], at: u32) -> u32
     ensures { λ r. ⌜ r ≡ carriedOf (now (f .entry)) at ⌝ }
 {

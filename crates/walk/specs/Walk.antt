@@ -44,7 +44,7 @@ followed f p zero taken = cond (ltb (endOf f) (p + 4)) (End 20) (cond (eqb (link
 unfoldable pub leadsTo : List ℕ → ℕ → L.Link
 leadsTo f p = cond (ltb (endOf f) (p + 4)) Past (cond (eqb (linkAt f p) 0) Zero (To (linkAt f p)))
 
--- the CDR's link to the GDR lies in the file; so it does in every file that an opening noted
+-- the CDR's link to the GDR lies before the file's end; so it does in every file that an opening noted
 unfoldable pub gdrNamed : List ℕ → Bool
 gdrNamed f = leb 20 (endOf f)
 
