@@ -115,6 +115,7 @@ fn file_field(file: &[u8], what: u64) -> Result<Given, u32> {
         3 => Some(counts.z_variables),
         4 => Some(counts.attributes),
         5 => i64::try_from(read::r_dimensions(file)?.len()).ok(),
+        6 => Some(read::padding(file)?),
         _ => None,
     })
 }

@@ -74,10 +74,12 @@ pub struct Checks {
 }
 
 /// All lists of checks.
-pub const CHECKS: [Checks; 3] = [
+pub const CHECKS: [Checks; 5] = [
     Checks { folder: "", list: "checks.txt", first_mark: 0xAA, lines: 830 },
     Checks { folder: "levels", list: "checks.txt", first_mark: 0xAA, lines: 400 },
     Checks { folder: "levels", list: "checks01.txt", first_mark: 1, lines: 400 },
+    Checks { folder: "padded", list: "checks.txt", first_mark: 0xAA, lines: 400 },
+    Checks { folder: "padded", list: "checks01.txt", first_mark: 1, lines: 400 },
 ];
 
 /// A line of a list of checks.
@@ -127,7 +129,7 @@ impl Checks {
 }
 
 /// The folders with a list of reads, `reads.txt`, and how many lines it has.
-pub const READS: [(&str, usize); 2] = [("", 4623), ("levels", 10000)];
+pub const READS: [(&str, usize); 3] = [("", 4623), ("levels", 10000), ("padded", 10000)];
 
 /// A line of a list of reads.
 #[derive(Clone, Debug, PartialEq, Eq)]

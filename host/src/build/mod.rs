@@ -1,4 +1,4 @@
-//! Builds good files of every kind of record, from a model and in any order of records.
+//! Builds good files of every kind of record, from a model and in any order of records, padded or not.
 
 pub mod model;
 pub mod random;
@@ -9,14 +9,22 @@ use model::{Attribute, Entry, File, Index, IndexEntry, Variable};
 use random::Random;
 use records::{Made, Records};
 
-/// The file's bytes, records in the order CDR, GDR, variables, attributes, unused records.
+/// The file's bytes, records in the order CDR, GDR, variables, attributes, unused records, then the padding.
 pub fn in_order(file: &File) -> Vec<u8> {
-    records_of(file).file(None)
+    bytes(file, None)
 }
 
-/// The file's bytes, records behind the CDR in any order.
+/// The file's bytes, records behind the CDR in any order, then the padding.
 pub fn shuffled(file: &File, random: &mut Random) -> Vec<u8> {
-    records_of(file).file(Some(random))
+    bytes(file, Some(random))
+}
+
+/// All records and the padding.
+fn bytes(file: &File, shuffle: Option<&mut Random>) -> Vec<u8> {
+    let mut records = records_of(file);
+    let mut bytes = records.file(shuffle);
+    bytes.extend(records.padding(file.padding));
+    bytes
 }
 
 /// Any good file: its model and its bytes.

@@ -3,6 +3,9 @@
 use super::random::Random;
 use crate::second::tables::{DataType, Encoding, Form, DATA_TYPES, ENCODINGS, GREATEST};
 
+/// The most bytes that a good file has behind eof.
+pub const MOST_PADDING: usize = 511;
+
 /// A good file: its descriptors, variables, attributes and unused records.
 #[derive(Clone, Debug)]
 pub struct File {
@@ -22,7 +25,9 @@ pub struct File {
     pub listed_unused: Vec<usize>,
     /// Sizes of the unused records on no list, each 8 or more.
     pub unlisted_unused: Vec<usize>,
-    /// Seed of the bytes in fields that are not read; 0 for zero bytes.
+    /// Bytes of padding behind eof, at most 511.
+    pub padding: usize,
+    /// Seed of the bytes that are not read, in fields and in the padding; 0 for zero bytes.
     pub noise: u64,
 }
 
@@ -210,6 +215,7 @@ impl File {
             attributes: Vec::new(),
             listed_unused: Vec::new(),
             unlisted_unused: Vec::new(),
+            padding: 0,
             noise: 0,
         }
     }
@@ -233,6 +239,7 @@ impl File {
         }
         file.listed_unused = any_unused(random, 16);
         file.unlisted_unused = any_unused(random, 8);
+        file.padding = any_padding(random);
         file
     }
 
@@ -248,6 +255,16 @@ impl File {
     /// rMaxRec: the greatest MaxRec of the rVariables, or -1.
     pub fn r_max_rec(&self) -> i64 {
         self.r_variables.iter().map(|variable| variable.max_rec).max().unwrap_or(-1)
+    }
+}
+
+/// Bytes of padding: mostly none, often the fewest or the most.
+fn any_padding(random: &mut Random) -> usize {
+    match random.below(10) {
+        0..=5 => 0,
+        6 => 1,
+        7 => MOST_PADDING,
+        _ => 1 + random.place(MOST_PADDING),
     }
 }
 

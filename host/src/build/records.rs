@@ -94,6 +94,18 @@ impl Records {
         file
     }
 
+    /// So many bytes for the padding: zeros without noise; with it any bytes, or copies of records whose links are zero.
+    pub fn padding(&mut self, count: usize) -> Vec<u8> {
+        let Some(random) = &mut self.noise else {
+            return vec![0; count];
+        };
+        if random.once_in(2) {
+            return (0..count).map(|_| random.byte()).collect();
+        }
+        let copies = self.drafts.iter().cycle().skip(random.place(self.drafts.len()));
+        copies.flat_map(|draft| &draft.bytes).copied().take(count).collect()
+    }
+
     fn fill_links(&self, file: &mut [u8], offsets: &[usize]) {
         for (draft, offset) in self.drafts.iter().zip(offsets) {
             for (at, to) in &draft.links {

@@ -167,8 +167,8 @@ fn step(file: &[u8], marks: &mut [u8], state: &State) -> Result<State, End> {
     let now = Point::load(state).ok_or(End::OutOfRange)?;
     let next = match now.phase {
         Phase::Fresh => open(file, marks),
-        Phase::Sweep => sweep(file, marks, now.link),
-        Phase::Walk(link) => walk::step(file, marks, link, &now),
+        Phase::Sweep => sweep(rules::body(file), marks, &now),
+        Phase::Walk(link) => walk::step(rules::body(file), marks, link, &now),
     };
     next.map(|next| next.save())
 }
@@ -185,20 +185,20 @@ fn open(file: &[u8], marks: &[u8]) -> Result<Point, End> {
     Ok(Point::new(length(file), Phase::Sweep, 0, FIRST_RECORD))
 }
 
-/// One step of the sweep: 7, then 14 for types 10 to 13, then the record's marks.
-fn sweep(file: &[u8], marks: &mut [u8], offset: i64) -> Result<Point, End> {
-    let record = Record::at(file, offset).filter(Record::is_inside).ok_or(End::Verdict(7))?;
+/// One step of the sweep over the body of a file: 7, then 14 for types 10 to 13, then the record's marks.
+fn sweep(body: &[u8], marks: &mut [u8], now: &Point) -> Result<Point, End> {
+    let record = Record::at(body, now.link).filter(Record::is_inside).ok_or(End::Verdict(7))?;
     match record.record_type {
         Some(-1 | 1..=9) => {}
         Some(10..=13) => return Err(End::Verdict(14)),
         _ => return Err(End::Verdict(7)),
     }
-    let end = offset.saturating_add(record.size);
-    set_marks(marks, offset, end);
-    if end == length(file) {
-        return Ok(Point::new(end, Phase::Walk(Link::Gdr), 0, 0));
+    let end = record.offset.saturating_add(record.size);
+    set_marks(marks, record.offset, end);
+    if end == length(body) {
+        return Ok(Point::new(now.length, Phase::Walk(Link::Gdr), 0, 0));
     }
-    Ok(Point::new(length(file), Phase::Sweep, 0, end))
+    Ok(Point::new(now.length, Phase::Sweep, 0, end))
 }
 
 /// Mark 1 at the record's start, 0 at its other bytes.

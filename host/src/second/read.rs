@@ -108,6 +108,11 @@ pub fn r_dimensions(file: &[u8]) -> Result<Vec<i64>, u32> {
     Ok(Way::open(file)?.header.sizes)
 }
 
+/// How many bytes of padding the file has, 0 to 511.
+pub fn padding(file: &[u8]) -> Result<i64, u32> {
+    Ok(Way::open(file)?.padding())
+}
+
 /// Size of one dimension of the rVariables; 18 if it is not there.
 pub fn r_dimension_size(file: &[u8], dimension: i64) -> Result<i64, u32> {
     nth(&r_dimensions(file)?, dimension)

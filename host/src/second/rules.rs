@@ -115,6 +115,12 @@ const PLAIN: i64 = 0x0000_FFFF;
 const COMPRESSED: i64 = 0xCCCC_0001_u32 as i32 as i64;
 const CDR_OFFSET: i64 = 8;
 const CDR_SIZE: i64 = 304;
+/// File offset of the CDR's link to the GDR.
+pub(crate) const GDR_LINK: i64 = CDR_OFFSET + 8;
+/// What a negative link stands for: an offset where no record starts.
+const NO_START: i64 = 1;
+/// The GDR's eof.
+const GDR_EOF: i64 = 20;
 /// The GDR's dimension count of the rVariables, and where their sizes begin.
 const GDR_DIMENSIONS: i64 = 36;
 const GDR_SIZES: i64 = 60;
@@ -161,9 +167,38 @@ fn cdr(file: &[u8]) -> Option<(i64, Encoding)> {
     met.then_some((flags, encoding))
 }
 
+/// How far eof may lie below the file's length.
+pub const MOST_PADDING: i64 = 511;
+
+/// eof is one that a file of this length may have.
+fn is_in_window(eof: i64, file: &[u8]) -> bool {
+    (length(file) - MOST_PADDING..=length(file)).contains(&eof)
+}
+
+/// The offset that a link leads to: a negative one stands for 1, where no record starts.
+pub(crate) fn target(link: i64) -> i64 {
+    if link < 0 {
+        NO_START
+    } else {
+        link
+    }
+}
+
+/// The end of any file: eof, if the GDR's first 60 bytes lie below it and it lies in the window; else the file's length.
+fn end(file: &[u8]) -> i64 {
+    let gdr = field(file, GDR_LINK).map(target);
+    let eof = gdr.and_then(|gdr| field(file, gdr + GDR_EOF).filter(|eof| gdr + GDR_SIZES <= *eof));
+    eof.filter(|eof| is_in_window(*eof, file)).unwrap_or(length(file))
+}
+
+/// A file's bytes before its end: all that is looked at after the opening.
+pub fn body(file: &[u8]) -> &[u8] {
+    usize::try_from(end(file)).ok().and_then(|end| file.get(..end)).unwrap_or(file)
+}
+
 /// The header, if the GDR meets its rule.
 fn gdr(file: &[u8], row_majority: bool, encoding: Encoding) -> Option<Header> {
-    let offset = field(file, CDR_OFFSET + 8)?;
+    let offset = field(file, GDR_LINK)?;
     let record = Record::at(file, offset)?;
     let number = |at: i64| record.field(at).ok();
     let dimensions = number(GDR_DIMENSIONS).filter(|count| DIMENSIONS.contains(count))?;
@@ -177,14 +212,15 @@ fn gdr(file: &[u8], row_majority: bool, encoding: Encoding) -> Option<Header> {
         sizes: row(file, offset + GDR_SIZES, dimensions, "sizes").ok()?,
     };
     let counts = [header.r_variables, header.z_variables, header.attributes];
+    let eof = number(GDR_EOF)?;
     let met = offset >= CDR_OFFSET + CDR_SIZE
         && record.record_type == Some(record_type::GDR)
-        && record.is_inside()
         && record.size == GDR_SIZES + 4 * dimensions
         && header.sizes.iter().all(|size| *size >= 1)
         && counts.iter().all(|count| *count >= 0)
         && number(32)? >= -1
-        && number(20)? == length(file);
+        && is_in_window(eof, file)
+        && offset + record.size <= eof;
     met.then_some(header)
 }
 

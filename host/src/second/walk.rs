@@ -2,25 +2,21 @@
 
 use super::bytes::{field, length};
 use super::check::{End, ACCEPTED, TOO_DEEP};
-use super::rules::{self, Bounds, Index, IndexEntry, Record};
+use super::rules::{self, Bounds, Index, IndexEntry, Record, GDR_LINK};
 use super::state::{Level, Link, Phase, Point};
 use super::tables::{
     entry_kind, record_type, variable_kind, EntryKind, VariableKind, GR_ENTRIES, R_VARIABLES,
     Z_ENTRIES, Z_VARIABLES,
 };
 
-/// File offset of the CDR's link to the GDR.
-const GDR_LINK: i64 = 16;
 /// File offset of the CDR, which is the first record.
 const CDR: i64 = 8;
-/// What a negative link stands for: an offset where no record starts.
-const NO_START: i64 = 1;
 /// The count of entries at which counting stops.
 const MOST_ENTRIES: i64 = 2_147_483_648;
 
-/// Takes one link: the point after it, or how it finishes the check.
-pub(super) fn step(file: &[u8], marks: &mut [u8], link: Link, now: &Point) -> Result<Point, End> {
-    let (claimed, next) = Step { file, marks, now }.take(link)?;
+/// Takes one link in the body of a file: the point after it, or how it finishes the check.
+pub(super) fn step(body: &[u8], marks: &mut [u8], link: Link, now: &Point) -> Result<Point, End> {
+    let (claimed, next) = Step { file: body, marks, now }.take(link)?;
     let claimed = claimed.and_then(|offset| usize::try_from(offset).ok());
     if let Some(mark) = claimed.and_then(|at| marks.get_mut(at)) {
         *mark = 2;
@@ -31,7 +27,7 @@ pub(super) fn step(file: &[u8], marks: &mut [u8], link: Link, now: &Point) -> Re
 /// What a step leads to: the offset of the record it claims, if it does, and the point after it.
 type Taken = (Option<i64>, Point);
 
-/// A step of the walk: the file and the marks that it is lent, and where it stands.
+/// A step of the walk: the file up to its end, the marks that it is lent, and where it stands.
 struct Step<'a> {
     file: &'a [u8],
     marks: &'a [u8],
@@ -72,8 +68,7 @@ impl<'a> Step<'a> {
 
     /// File offset of the GDR: where the CDR's link says.
     fn gdr(&self) -> Result<i64, End> {
-        let link = self.needed(GDR_LINK, "CDR's link")?;
-        Ok(if link < 0 { NO_START } else { link })
+        Ok(rules::target(self.needed(GDR_LINK, "CDR's link")?))
     }
 
     /// The kind of the variables whose list or index is walked.

@@ -45,7 +45,10 @@ pub enum Wanted {
 
 /// The way so far.
 pub struct Way<'a> {
+    /// The file up to its end.
     file: &'a [u8],
+    /// The length of the whole file.
+    length: i64,
     /// What CDR and GDR say.
     pub header: Header,
     met: i64,
@@ -58,12 +61,17 @@ impl<'a> Way<'a> {
             return Err(BROKEN);
         }
         let header = rules::opening(file).map_err(|_| BROKEN)?;
-        Ok(Way { file, header, met: 2 })
+        Ok(Way { file: rules::body(file), length: length(file), header, met: 2 })
     }
 
     /// One record more may be met: not more than length/8 of them.
     fn may_meet(&self) -> bool {
-        (self.met + 1).saturating_mul(8) <= length(self.file)
+        (self.met + 1).saturating_mul(8) <= self.length
+    }
+
+    /// Bytes from the file's end on.
+    pub fn padding(&self) -> i64 {
+        self.length - length(self.file)
     }
 
     /// Meets the record a link leads to: at 8 or above, of the right type, inside the file.
