@@ -1,9 +1,12 @@
-//! Damages good files: control fields, links, indexes of several levels, length.
+//! Damages good files: control fields, links, indexes of several levels, length, eof and padding.
 
 use crate::build::random::Random;
 use crate::build::records::put;
 use crate::second::bytes::field;
-use crate::second::rules::Record;
+use crate::second::rules::{body, Record, MOST_PADDING};
+
+/// File offset of the CDR's link to the GDR.
+const GDR_LINK: usize = 16;
 
 /// One damage to a file.
 #[derive(Clone, Debug, PartialEq, Eq)]
@@ -44,9 +47,18 @@ pub struct Found {
 
 /// The records of a good file in file order.
 pub fn records(file: &[u8]) -> Vec<Found> {
+    records_from(body(file), 8)
+}
+
+/// What looks like records in the padding, from the file's end on.
+pub fn images(file: &[u8]) -> Vec<Found> {
+    records_from(file, body(file).len() as i64)
+}
+
+/// The records that stand one behind the other from an offset on.
+fn records_from(bytes: &[u8], mut offset: i64) -> Vec<Found> {
     let mut found = Vec::new();
-    let mut offset = 8;
-    while let Some(record) = Record::at(file, offset).filter(Record::is_inside) {
+    while let Some(record) = Record::at(bytes, offset).filter(Record::is_inside) {
         found.push(Found {
             offset: usize::try_from(offset).unwrap_or(0),
             size: usize::try_from(record.size).unwrap_or(0),
@@ -84,7 +96,7 @@ pub fn control_fields(file: &[u8], record: &Found) -> Vec<usize> {
 /// Bytes of a VDR's pad value: what its dimensions leave.
 fn pad_bytes(file: &[u8], vdr: &Found) -> usize {
     let own = number(file, vdr.offset + 128);
-    let gdr = number(file, 16);
+    let gdr = number(file, GDR_LINK);
     let dimensions = number(file, usize::try_from(gdr).unwrap_or(0) + 36);
     let fixed = if vdr.record_type == 8 { 132 + 8 * own } else { 128 + 4 * dimensions };
     vdr.size.saturating_sub(usize::try_from(fixed).unwrap_or(0))
@@ -130,7 +142,7 @@ pub fn links(file: &[u8]) -> Vec<usize> {
 /// File offsets of the UIRs on a good file's list.
 fn listed_unused(file: &[u8]) -> Vec<usize> {
     let mut listed = Vec::new();
-    let mut link = number(file, usize::try_from(number(file, 16)).unwrap_or(0) + 44);
+    let mut link = number(file, usize::try_from(number(file, GDR_LINK)).unwrap_or(0) + 44);
     while let Ok(offset) = usize::try_from(link) {
         if offset == 0 || listed.contains(&offset) {
             break;
@@ -204,16 +216,17 @@ pub fn length_damages(file: &[u8]) -> Vec<Damage> {
     let cuts = starts.chain(round).filter(|length| *length < file.len());
     let cut = |length: usize| [false, true].map(|eof| Damage::Cut { length, eof });
     let grow = |by: usize| [false, true].map(|eof| Damage::Grow { by, eof });
-    cuts.flat_map(cut).chain([1, 4, 7, 8, 9, 16].into_iter().flat_map(grow)).collect()
+    cuts.flat_map(cut).chain([1, 4, 7, 8, 9, 16, 511, 512].into_iter().flat_map(grow)).collect()
 }
 
 /// Magics, CDR and GDR at values that the opening tells apart.
 pub fn opening_damages(file: &[u8]) -> Vec<Damage> {
-    let gdr = usize::try_from(number(file, 16)).unwrap_or(312);
+    let gdr = usize::try_from(number(file, GDR_LINK)).unwrap_or(312);
     let magics = [(4, 0xCCCC_0001), (4, 0x0000_FFFE), (0, 0xCDF2_6001), (0, 0)];
     let cdr = [(8, 305), (12, 3), (20, 3), (28, 8), (28, 10), (32, 0), (32, 1), (32, 7), (16, 311)];
     let gdr_fields = [20, 24, 28, 32, 36, 40].map(|at| (gdr + at, -2));
-    let all = magics.into_iter().chain(cdr).chain(gdr_fields);
+    let eofs = eof_values(file).into_iter().map(|eof| (eof_place(file), eof));
+    let all = magics.into_iter().chain(cdr).chain(gdr_fields).chain(eofs);
     all.map(|(offset, value)| to_value(offset, value)).collect()
 }
 
@@ -340,12 +353,53 @@ fn naming_damages(file: &[u8], entry: &Used, others: &[i64]) -> Vec<Damage> {
     exchanged.chain(others.iter().map(|other| to_value(entry.at[2], *other))).collect()
 }
 
+/// File offset of the GDR's eof, where the CDR's link says.
+pub fn eof_place(file: &[u8]) -> usize {
+    usize::try_from(number(file, GDR_LINK)).unwrap_or(1).saturating_add(20)
+}
+
+/// Values of eof that the rules tell apart: about the edges of the window, about the GDR's end, about every record's.
+pub fn eof_values(file: &[u8]) -> Vec<i64> {
+    let (length, gdr) = (file.len() as i64, number(file, GDR_LINK));
+    let window = [length - MOST_PADDING - 1, length - MOST_PADDING, length, length + 1];
+    let ends = records(file).into_iter().map(|record| (record.offset + record.size) as i64);
+    let about = ends.flat_map(|end| [end - 1, end, end + 1]);
+    let of_gdr = [gdr + 59, gdr + 60, gdr + 61, gdr + 99, gdr + 100];
+    let far = [i64::from(i32::MIN), -1, 0, 1, length + MOST_PADDING, i64::from(i32::MAX)];
+    window.into_iter().chain(about).chain(of_gdr).chain(far).collect()
+}
+
+/// Places from the file's end on, those of what looks like a record among them.
+pub fn padding_places(file: &[u8]) -> Vec<i64> {
+    let (end, length) = (body(file).len() as i64, file.len() as i64);
+    let images = images(file).into_iter().map(|image| image.offset as i64);
+    images.chain([end, end + 1, length - 8, length - 1, length].map(|at| at.max(end))).collect()
+}
+
+/// eof about all that it is compared with; links into the padding; a last record that runs into it; other bytes in it;
+/// gaps up to the greatest and past it.
+pub fn padding_damages(file: &[u8]) -> Vec<Damage> {
+    let (end, length) = (body(file).len(), file.len());
+    let mut damages = every_value(vec![eof_place(file)], &eof_values(file));
+    damages.extend(every_value(links(file), &padding_places(file)));
+    if let Some(last) = records(file).last() {
+        let ends = [end - 1, end + 1, end + 8, length, length + 1];
+        damages.extend(ends.map(|to| to_value(last.offset, to as i64 - last.offset as i64)));
+    }
+    damages.extend((end..length).map(|offset| to_value(offset, -1)));
+    let gaps = [510, 511, 512, 513, 1024].into_iter();
+    let grown = gaps.filter_map(|gap| (end + gap).checked_sub(length));
+    damages.extend(grown.map(|by| Damage::Grow { by, eof: false }));
+    damages
+}
+
 /// Damages of all kinds.
 pub fn all_damages(file: &[u8]) -> Vec<Damage> {
     let mut all = edge_damages(file);
     all.extend(link_damages(file));
     all.extend(tree_damages(file));
     all.extend(length_damages(file));
+    all.extend(padding_damages(file));
     all
 }
 
@@ -375,7 +429,7 @@ pub fn damaged(file: &[u8], damage: &Damage) -> Vec<u8> {
 /// Sets the GDR's eof to the length, if asked for and if there is one.
 fn agree(file: &mut [u8], eof: bool) {
     let length = i64::try_from(file.len()).unwrap_or(0);
-    if let (true, Ok(gdr)) = (eof, usize::try_from(number(file, 16))) {
-        put(file, gdr.saturating_add(20), length);
+    if eof {
+        put(file, eof_place(file), length);
     }
 }

@@ -3,16 +3,20 @@
 //! A round builds a good file and damages it or not. Both check it, in one grant and in grants at random. Then both go on
 //! from points of the check with marks made up, from states made up, and after bytes of the file have been changed. At
 //! every stop they must agree in the answer, the steps, all 33 numbers of the state and every mark, and one grant must
-//! leave what several do. Then both readers are asked: they must answer the same, and never 20 on an accepted file.
+//! leave what several do. Then both readers are asked: they must answer the same, and never 20 on an accepted file. On
+//! a padded file all this must be the same with other bytes and other marks in the padding, which must stay.
 
 use crate::build;
 use crate::build::model::{File, Index};
 use crate::build::random::Random;
 use crate::damage::{self, Damage};
 use crate::made_up::{Point, Source, BEYOND};
+use crate::padding;
 use crate::pair::{to_the_end, Compared, Pair};
 use crate::questions::{self, Given, Question};
-use crate::second::check::{self, RUNNING};
+use crate::second::check::{self, FRESH, RUNNING};
+use crate::second::read;
+use crate::second::rules::{body, MOST_PADDING};
 use std::collections::BTreeMap;
 use std::fmt;
 
@@ -27,6 +31,8 @@ pub struct Covered {
     pub records: BTreeMap<i64, u64>,
     /// Indexes of variables of the files before they were damaged, by how many levels they have.
     pub levels: BTreeMap<usize, u64>,
+    /// Files by their bytes of padding.
+    pub padding: BTreeMap<&'static str, u64>,
     /// Verdicts of whole checks.
     pub verdicts: BTreeMap<i32, u64>,
     /// All grants to both checkers.
@@ -43,6 +49,8 @@ pub struct Covered {
     pub changes: BTreeMap<&'static str, u64>,
     /// What these answered.
     pub changed_answers: BTreeMap<i32, u64>,
+    /// Checks repeated with other padding, by verdict.
+    pub other_padding: BTreeMap<i32, u64>,
     /// Questions to both readers, by call.
     pub questions: BTreeMap<&'static str, u64>,
     /// How many levels were answered to the call for them.
@@ -56,6 +64,7 @@ impl fmt::Display for Covered {
         writeln!(out, "files             {}: {}", self.files, list(&self.kinds))?;
         writeln!(out, "records by type   {}", list(&self.records))?;
         writeln!(out, "indexes by levels {}", list(&self.levels))?;
+        writeln!(out, "padded files      {}: {}", self.padded(), list(&self.padding))?;
         writeln!(out, "verdicts          {}", list(&self.verdicts))?;
         writeln!(out, "grants            {}", self.compared.grants)?;
         writeln!(out, "steps by phase    {}", list(&self.compared.steps))?;
@@ -67,6 +76,7 @@ impl fmt::Display for Covered {
         writeln!(out, "changes           {}", list(&self.changes))?;
         writeln!(out, "their answers     {}", list(&self.changed_answers))?;
         writeln!(out, "20 by what        {}", list(&self.bad_steps()))?;
+        writeln!(out, "other padding     {}", list(&self.other_padding))?;
         writeln!(out, "questions         {}", list(&self.questions))?;
         writeln!(out, "levels answered   {}", list(&self.levels_answered))?;
         write!(out, "reader's answers  {}", list(&self.answers))
@@ -74,6 +84,11 @@ impl fmt::Display for Covered {
 }
 
 impl Covered {
+    /// Files with padding.
+    fn padded(&self) -> u64 {
+        PADDED.iter().filter_map(|kind| self.padding.get(kind)).sum()
+    }
+
     /// Steps that gave 20, by what was wrong.
     fn bad_steps(&self) -> BTreeMap<&'static str, u64> {
         let mut found = BTreeMap::new();
@@ -108,6 +123,7 @@ pub fn round(seed: u64, covered: &mut Covered) -> Result<(), Difference> {
     let mut random = Random::seeded(seed);
     let file = any_file(&mut random, covered);
     covered.files += 1;
+    count(&mut covered.padding, padding_kind(&file));
     let source = Source::new(&file);
     unchanged(&source, &mut random, covered).map_err(|what| Difference { file, what })?;
     with_changes(&source, &mut random, covered)
@@ -121,15 +137,31 @@ fn unchanged(source: &Source, random: &mut Random, covered: &mut Covered) -> Res
     in_grants(file, steps, random, covered)?;
     with_marks(source, random, covered)?;
     with_states(source, random, covered)?;
+    with_other_padding(source, random, covered)?;
     with_questions(file, random, covered)
+}
+
+/// Bytes of padding of a file that has some.
+const PADDED: [&str; 3] = ["1", "2 to 510", "511"];
+
+/// A file by its bytes of padding.
+fn padding_kind(file: &[u8]) -> &'static str {
+    match read::padding(file) {
+        Ok(0) => "none",
+        Ok(1) => PADDED[0],
+        Ok(MOST_PADDING) => PADDED[2],
+        Ok(_) => PADDED[1],
+        Err(_) => "not opened",
+    }
 }
 
 /// A built file, left as it is or damaged.
 fn any_file(random: &mut Random, covered: &mut Covered) -> Vec<u8> {
-    let (kind, levels) = (random.below(9), 2 + random.place(7));
+    let (kind, levels) = (random.below(10), 2 + random.place(7));
     let (model, file) = match kind {
         7 => build::with_levels(random.number(), levels),
         8 => build::with_levels(random.number(), 9),
+        9 => build::with_padding(random.number(), random.between(1, MOST_PADDING) as usize),
         _ => build::any(random.number()),
     };
     count_file(&model, &file, covered);
@@ -142,7 +174,8 @@ fn any_file(random: &mut Random, covered: &mut Covered) -> Vec<u8> {
         5 => ("one field of the opening", damaged_by(file, damage::opening_damages, random)),
         6 => ("several damages", several(file, random)),
         7 => ("one field of a tree", damaged_by(file, damage::tree_damages, random)),
-        _ => ("nine levels", file),
+        8 => ("nine levels", file),
+        _ => ("eof or padding", damaged_by(file, damage::padding_damages, random)),
     };
     count(&mut covered.kinds, kind);
     file
@@ -284,6 +317,32 @@ fn with_states(source: &Source, random: &mut Random, covered: &mut Covered) -> R
     Ok(())
 }
 
+/// The same with other bytes and marks in the padding, from fresh, from a point of the check and from a state made up; and
+/// the readers' answers.
+fn with_other_padding(
+    source: &Source,
+    random: &mut Random,
+    covered: &mut Covered,
+) -> Result<(), String> {
+    let (file, end) = (source.file(), body(source.file()).len());
+    if end == file.len() {
+        return Ok(());
+    }
+    let other = padding::other_behind(end, file, random);
+    let (state, real) = source.any_point(random);
+    let marks = source.any_marks(real, random);
+    let other_marks = padding::other_behind(end, &marks, random);
+    for state in [FRESH, *state, source.near(state, random), source.in_range(random)] {
+        let both = [marks.as_slice(), &other_marks];
+        let same = padding::same_check([file, &other], &state, both, &mut covered.compared);
+        count(&mut covered.other_padding, same?.0);
+    }
+    for _ in 0..10 {
+        padding::same_answer([file, &other], &questions::any(file, random))?.ok();
+    }
+    Ok(())
+}
+
 /// Both go on after the file was changed at a point of its check.
 fn with_changes(
     source: &Source,
@@ -292,9 +351,10 @@ fn with_changes(
 ) -> Result<(), Difference> {
     for _ in 0..8 {
         let point = source.any_point(random);
-        let (kind, (file, (state, real))) = match random.below(3) {
+        let (kind, (file, (state, real))) = match random.below(4) {
             0 => ("a record at the end", source.moved_to_the_end(point, random)),
             1 => ("a shorter file", source.cut(point, random)),
+            2 => ("another eof", (source.with_other_eof(random), point.clone())),
             _ => ("fields or bytes", (source.changed(random), point.clone())),
         };
         count(&mut covered.changes, kind);
@@ -336,5 +396,7 @@ mod tests {
         assert!(one.questions.len() == questions::CALLS && one.answers.len() == 7, "{one}");
         assert!(one.levels.len() == 10 && one.compared.levels.len() == 8, "{one}");
         assert!(one.levels_answered.len() >= 5, "{one}");
+        assert!(one.padding.len() == 5 && one.padded() > 60, "{one}");
+        assert!(one.other_padding.len() > 8 && one.changes.len() == 4, "{one}");
     }
 }

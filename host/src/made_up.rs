@@ -5,6 +5,7 @@ use crate::build::records::put;
 use crate::damage::{self, Found};
 use crate::second::bytes::field;
 use crate::second::check::{Check, State, RUNNING, STATE_LENGTH};
+use crate::second::rules::body;
 use crate::second::state::{self, FIRST_LEVEL, LEVEL_LENGTH, LEVEL_RANGES, MOST_LEVELS};
 use crate::second::state::{GREATEST_COUNT, GREATEST_LINK, GREATEST_OFFSET};
 
@@ -25,7 +26,7 @@ const SHORTEST: usize = 372;
 /// File offset of the CDR's link to the GDR.
 const GDR_LINK: usize = 16;
 
-/// How near to the file's end a number is that may put a record's fields past it.
+/// How near to a file's end a number is that may put a record's fields past it.
 const NEAR_THE_END: usize = 140;
 
 /// A point of a check: state and marks.
@@ -46,10 +47,16 @@ pub fn points(file: &[u8]) -> Vec<Point> {
 #[derive(Clone, Debug)]
 pub struct Source {
     file: Vec<u8>,
+    /// Where the file ends and its padding begins.
+    end: usize,
     points: Vec<Point>,
     records: Vec<Found>,
     fields: Vec<usize>,
     links: Vec<usize>,
+    /// Places in the padding.
+    padding: Vec<i64>,
+    /// Values that eof may get.
+    eofs: Vec<i64>,
     edges: Vec<u32>,
 }
 
@@ -59,9 +66,12 @@ impl Source {
         let records = damage::records(file);
         Source {
             file: file.to_vec(),
+            end: body(file).len(),
             points: points(file),
             fields: records.iter().flat_map(|of| damage::control_fields(file, of)).collect(),
             links: damage::links(file),
+            padding: damage::padding_places(file),
+            eofs: damage::eof_values(file),
             edges: edges(),
             records,
         }
@@ -89,15 +99,17 @@ impl Source {
 
     /// A place so near to the file's end that a record's fields may pass it.
     fn near_the_end(&self, random: &mut Random) -> usize {
-        self.file.len().saturating_sub(random.place(NEAR_THE_END))
+        self.end.saturating_sub(random.place(NEAR_THE_END))
     }
 
-    /// An edge, a place about the file's end, a record's start or one behind it, a field's value, any number.
+    /// An edge, a place about the file's end or in the padding, a record's start or one behind it, a field's value, any
+    /// number.
     pub fn any_number(&self, random: &mut Random) -> u32 {
-        let number = match random.below(12) {
+        let number = match random.below(13) {
             0 | 1 => random.one_of(&self.edges).copied().map_or(0, i64::from),
-            2 => self.file.len() as i64 + random.between(-8, 8),
+            2 => self.end as i64 + random.between(-8, 8),
             3 => self.near_the_end(random) as i64,
+            12 => random.one_of(&self.padding).copied().unwrap_or(0) + random.between(-1, 1),
             4..=6 => self.any_start(random) as i64,
             7 => self.any_start(random) as i64 + random.below(65),
             8 => random.one_of(&self.fields).map_or(0, |at| self.value(*at)),
@@ -238,7 +250,8 @@ impl Source {
             1 => marks.iter_mut().for_each(|mark| *mark = random.byte() % 4),
             2 | 3 => {
                 for _ in 0..random.between(1, 6) {
-                    let places = [self.any_start(random), self.near_the_end(random)];
+                    let padding = random.one_of(&self.padding).map_or(0, |at| *at as usize);
+                    let places = [self.any_start(random), self.near_the_end(random), padding];
                     let mark = random.byte() % 4;
                     random.one_of(&places).into_iter().for_each(|at| set(&mut marks, *at, mark));
                 }
@@ -266,8 +279,11 @@ impl Source {
         file
     }
 
-    /// A field and another value for it: the CDR's link, a record's size, any link or any field.
+    /// A field and another value for it: eof, the CDR's link, a record's size, any link or any field.
     fn any_change(&self, random: &mut Random) -> (usize, i64) {
+        if random.once_in(12) {
+            return (damage::eof_place(&self.file), self.any_eof(random));
+        }
         let at = match random.below(12) {
             0 => GDR_LINK,
             1 => self.any_start(random),
@@ -284,16 +300,33 @@ impl Source {
         (at, value)
     }
 
-    /// The file and a point of its check as if a record stood at the file's end and not all of it in the file: its
-    /// first bytes stand there too, and what led to the record leads there.
+    /// Another eof: one that the rules tell from others, or one that may cut a record's fields off.
+    fn any_eof(&self, random: &mut Random) -> i64 {
+        match random.below(3) {
+            0 => self.near_the_end(random) as i64,
+            1 => self.file.len() as i64 - random.below(600),
+            _ => random.one_of(&self.eofs).copied().unwrap_or(0),
+        }
+    }
+
+    /// The file with another eof, and now and then another change.
+    pub fn with_other_eof(&self, random: &mut Random) -> Vec<u8> {
+        let mut file = if random.once_in(4) { self.changed(random) } else { self.file.clone() };
+        put(&mut file, damage::eof_place(&self.file), self.any_eof(random));
+        file
+    }
+
+    /// The file and a point of its check as if a record stood at the file's end and not all of it before the end: its
+    /// first bytes stand there too, as many as the padding has room for, and what led to the record leads there.
     pub fn moved_to_the_end(&self, point: &Point, random: &mut Random) -> (Vec<u8>, Point) {
         let (mut file, (mut state, mut marks)) = (self.file.clone(), point.clone());
         let Some(record) = random.one_of(&self.records) else {
             return (file, (state, marks));
         };
         let bytes = 1 + random.place(record.size.min(NEAR_THE_END));
-        let to = file.len() - bytes;
-        file.copy_within(record.offset..record.offset + bytes, to);
+        let to = self.end - bytes;
+        let copied = record.size.min(file.len() - to);
+        file.copy_within(record.offset..record.offset + copied, to);
         if random.once_in(3) {
             put(&mut file, to, any_size(random));
         }
@@ -315,7 +348,8 @@ impl Source {
     /// The file, changed or not, and a point of its check, as if the file ended earlier.
     pub fn cut(&self, point: &Point, random: &mut Random) -> (Vec<u8>, Point) {
         let file = if random.once_in(2) { self.file.clone() } else { self.changed(random) };
-        let most = file.len().saturating_sub(SHORTEST).min(2 * NEAR_THE_END);
+        let padding = file.len() - self.end;
+        let most = file.len().saturating_sub(SHORTEST).min(padding + 2 * NEAR_THE_END);
         shortened(&file, point, file.len() - random.place(most + 1))
     }
 }

@@ -3,6 +3,7 @@
 
 use crate::bindings::check_grant;
 use crate::second::check::{watched_grant, End, State, FRESH, RUNNING};
+use crate::second::rules::body;
 use crate::second::state::level_count;
 use std::collections::BTreeMap;
 
@@ -132,7 +133,8 @@ impl Pair {
 }
 
 /// Both from a state to the end of its check, in one grant and again in parts of these sizes: the answer, if they agree
-/// at every stop, the parts leave what one grant leaves, and no mark before the first record or behind the file changes.
+/// at every stop, the parts leave what one grant leaves, and no mark before the first record or from the file's end on
+/// changes.
 pub fn to_the_end(
     file: &[u8],
     state: &[u32],
@@ -151,14 +153,15 @@ pub fn to_the_end(
         made += more;
     }
     let same = (answered, made) == (answer, steps) && parts.state == whole.state;
+    let end = body(file).len();
     let outside = |marks: &[u8]| -> Vec<u8> {
-        marks.iter().take(8).chain(marks.iter().skip(file.len())).copied().collect()
+        marks.iter().take(8).chain(marks.iter().skip(end)).copied().collect()
     };
     if answer == RUNNING || !same || parts.marks != whole.marks {
         return Err(format!("{state:?}: {answer} in {steps}, in parts {answered} in {made}"));
     }
     if outside(&whole.marks) != outside(marks) {
-        return Err(format!("{state:?}: marks outside the file were written"));
+        return Err(format!("{state:?}: marks outside the file's records were written"));
     }
     Ok(answer)
 }

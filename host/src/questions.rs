@@ -43,6 +43,9 @@ pub enum Question {
     EntryValueAt(i64, i64, u64, i64),
 }
 
+/// What is asked of a file for its bytes of padding.
+pub const PADDING: u64 = 6;
+
 /// What is given: a value's kind, bits and offset, a field, or a name's offset and length.
 #[derive(Clone, Copy, Debug, PartialEq, Eq)]
 pub enum Given {
@@ -115,7 +118,7 @@ fn file_field(file: &[u8], what: u64) -> Result<Given, u32> {
         3 => Some(counts.z_variables),
         4 => Some(counts.attributes),
         5 => i64::try_from(read::r_dimensions(file)?.len()).ok(),
-        6 => Some(read::padding(file)?),
+        PADDING => Some(read::padding(file)?),
         _ => None,
     })
 }
@@ -353,7 +356,7 @@ fn of_attribute(file: &[u8], random: &mut Random) -> Question {
 pub fn any(file: &[u8], random: &mut Random) -> Question {
     match random.below(12) {
         0 => Question::File(random.number() % 8),
-        1 => Question::File(small(random, 5) as u64),
+        1 => Question::File(small(random, 6) as u64),
         2 => Question::Dimension(small(random, 3)),
         3..=7 => of_variable(file, random),
         _ => of_attribute(file, random),

@@ -1,6 +1,6 @@
 //! The project's sample files and the lines that say what is expected of them.
 
-use crate::questions::{Answer, Given, Question};
+use crate::questions::{Answer, Given, Question, PADDING};
 use std::collections::HashMap;
 use std::path::{Path, PathBuf};
 
@@ -157,17 +157,18 @@ pub fn read_line(line: &str) -> Option<ReadLine> {
         }
         ("pad", [kind, number, element]) => Question::Pad(*kind, *number, *element),
         ("levels", [kind, number, record]) => Question::Levels(*kind, *number, *record),
+        ("padding", []) => Question::File(PADDING),
         _ => return None,
     };
     Some(ReadLine { name, question, answer: read_answer(answer)? })
 }
 
-/// `refused N`, `value KIND NUMBER OFFSET`, or `levels N`.
+/// `refused N`, `value KIND NUMBER OFFSET`, `levels N`, or `padding N`.
 fn read_answer(answer: &str) -> Option<Answer> {
     let words: Vec<&str> = answer.split_whitespace().collect();
     match words.as_slice() {
         ["refused", number] => Some(Err(number.parse().ok()?)),
-        ["levels", number] => Some(Ok(Given::Field(number.parse().ok()?))),
+        ["levels" | "padding", number] => Some(Ok(Given::Field(number.parse().ok()?))),
         ["value", kind, number, offset] => {
             let kinds = ["signed", "unsigned", "single", "double", "character"];
             let kind = kinds.iter().position(|name| name == kind)?;

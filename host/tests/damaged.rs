@@ -3,9 +3,10 @@
 
 use tlepozaluh_host::build;
 use tlepozaluh_host::build::random::Random;
-use tlepozaluh_host::damage::{self, Damage};
+use tlepozaluh_host::damage::{self, Damage, Found};
 use tlepozaluh_host::second::check::run;
 use tlepozaluh_host::second::read;
+use tlepozaluh_host::second::rules::body;
 
 const GREATEST: i64 = 2_147_483_647;
 
@@ -33,6 +34,7 @@ fn ask_entries(file: &[u8], refusals: &mut Vec<u32>) {
     refusals.extend(read::encoding(file).err());
     refusals.extend(read::counts(file).err());
     refusals.extend(read::r_dimensions(file).err());
+    refusals.extend(read::padding(file).err());
     for attribute in 0..3 {
         refusals.extend(read::attribute(file, attribute).err());
         for kind in [5, 9] {
@@ -91,27 +93,63 @@ fn every_control_field_to_every_record() {
     assert!(expected.iter().all(|verdict| verdicts[*verdict] > 0), "{verdicts:?}");
 }
 
-/// Only unlisted unused records at the file's end may be cut away, if eof agrees.
+/// What one of two files alone has of records is unused.
+fn differ_in_unused(file: &[u8], other: &[u8]) -> bool {
+    let (records, others) = (damage::records(file), damage::records(other));
+    let alone = |of: &[Found], in_other: &[Found]| -> Vec<Found> {
+        of.iter().filter(|record| !in_other.contains(record)).copied().collect()
+    };
+    let all = [alone(&records, &others), alone(&others, &records)].concat();
+    !all.is_empty() && all.iter().all(|record| record.record_type == -1)
+}
+
+/// Padding may be cut away and added, up to 511 bytes of it, if eof stays. If eof is made to agree, unlisted unused records
+/// at the end may be cut away, and what was padding may be such records.
 #[test]
 fn every_length() {
-    let mut cut_away = 0;
+    let (mut padded, mut cut_away) = (0, 0);
     for seed in 0..300 {
         let (_, file) = build::any(seed);
-        let records = damage::records(&file);
+        let end = body(&file).len();
         for damage in damage::length_damages(&file) {
             let damaged = damage::damaged(&file, &damage);
-            if tried(&damaged, &|| format!("seed {seed}: {damage:?}")) != 0 {
-                continue;
+            let accepted = tried(&damaged, &|| format!("seed {seed}: {damage:?}")) == 0;
+            if let Damage::Cut { eof: false, .. } | Damage::Grow { eof: false, .. } = damage {
+                let good = (end..=end + 511).contains(&damaged.len());
+                assert_eq!(accepted, good, "seed {seed}: {damage:?}");
+                padded += u64::from(good);
+            } else if accepted && body(&damaged) != body(&file) {
+                assert!(differ_in_unused(&file, &damaged), "seed {seed}: {damage:?}");
+                cut_away += 1;
             }
-            let Damage::Cut { length, eof: true } = damage else {
-                panic!("seed {seed}: {damage:?} is accepted");
-            };
-            let mut behind = records.iter().filter(|record| record.offset + record.size > length);
-            assert!(behind.all(|record| record.record_type == -1), "seed {seed}: {damage:?}");
-            cut_away += 1;
         }
     }
-    assert!(cut_away > 0);
+    assert!(padded > 1000 && cut_away > 0, "{padded} {cut_away}");
+}
+
+/// A link into the padding is refused, other bytes there are not; eof may be moved only over unused records.
+#[test]
+fn every_padding() {
+    let mut verdicts = [0; 24];
+    for seed in 0..60 {
+        let (_, file) = build::with_padding(seed, 1 + 17 * seed as usize % 511);
+        let end = body(&file).len();
+        for damage in damage::padding_damages(&file) {
+            let damaged = damage::damaged(&file, &damage);
+            let verdict = tried(&damaged, &|| format!("seed {seed}: {damage:?}"));
+            verdicts[verdict as usize] += 1;
+            let good = match damage {
+                Damage::Field { offset, .. } if offset >= end => true,
+                Damage::Grow { .. } => damaged.len() <= end + 511,
+                _ if damaged == file => true,
+                _ if body(&damaged).len() == end => false,
+                _ => verdict == 0 && differ_in_unused(&file, &damaged),
+            };
+            assert_eq!(verdict == 0, good, "seed {seed}: {damage:?}");
+        }
+    }
+    let expected = [0, 6, 7, 8, 11];
+    assert!(expected.iter().all(|verdict| verdicts[*verdict] > 0), "{verdicts:?}");
 }
 
 /// A link that leads elsewhere than before is always refused.

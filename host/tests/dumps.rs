@@ -76,11 +76,14 @@ E z 2000000000 attr=0 type=2 elems=1 @764 1
 END
 ";
 
-/// Names of the sample files, without `.cdf`.
+/// Names of the sample files that JCDF has read, without `.cdf`; the others have a dump of ours.
 fn names() -> Vec<String> {
     let entries = std::fs::read_dir(samples::directory()).expect("samples/");
     let paths = entries.map(|entry| entry.expect("samples/").path());
-    let is_cdf = |path: &Path| path.extension().is_some_and(|extension| extension == "cdf");
+    let is_cdf = |path: &Path| {
+        let ours = path.with_extension("dump").exists();
+        !ours && path.extension().is_some_and(|extension| extension == "cdf")
+    };
     let stem = |path: &Path| path.file_stem().map(|stem| stem.to_string_lossy().into_owned());
     let mut names: Vec<String> =
         paths.filter(|path| is_cdf(path)).filter_map(|path| stem(&path)).collect();

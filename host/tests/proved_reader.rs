@@ -41,11 +41,11 @@ impl Tally {
     }
 }
 
-/// Sample files, rings, files of several levels and the files of both archives, by name.
+/// Sample files, rings, files of several levels, padded files and the files of all archives, by name.
 fn sample_files() -> Vec<(String, Vec<u8>)> {
     let mut found = Vec::new();
     let directory = samples::directory();
-    for folder in ["", "rings", "levels"].map(|folder| directory.join(folder)) {
+    for folder in ["", "rings", "levels", "padded"].map(|folder| directory.join(folder)) {
         for entry in std::fs::read_dir(folder).expect("samples") {
             let path = entry.expect("samples").path();
             if path.extension().is_some_and(|extension| extension == "cdf") {
@@ -55,7 +55,7 @@ fn sample_files() -> Vec<(String, Vec<u8>)> {
         }
     }
     found.sort();
-    for folder in ["", "levels"] {
+    for folder in ["", "levels", "padded"] {
         let archive = std::fs::read(directory.join(folder).join("checks.tar")).expect("checks.tar");
         let members = samples::members(&archive).expect("an archive");
         found.extend(members.into_iter().map(|member| (member.name, member.bytes)));
@@ -63,11 +63,11 @@ fn sample_files() -> Vec<(String, Vec<u8>)> {
     found
 }
 
-/// Every number of every call at its edges, on every sample, every ring and every file of both archives.
+/// Every number of every call at its edges, on every sample, every ring and every file of all archives.
 #[test]
 fn every_edge_on_every_sample() {
     let files = sample_files();
-    assert_eq!(files.len(), 43 + 11 + 4 + 830 + 400);
+    assert_eq!(files.len(), 46 + 11 + 4 + 2 + 830 + 400 + 400);
     let all = questions::edges();
     let mut tally = Tally::default();
     for (name, file) in &files {
@@ -78,7 +78,7 @@ fn every_edge_on_every_sample() {
     assert!(tally.asked > 1_000_000 && tally.is_whole(), "{:?} {:?}", tally.numbers, tally.given);
 }
 
-/// Questions at random on every sample, ring and file of both archives.
+/// Questions at random on every sample, ring and file of all archives.
 #[test]
 fn any_question_on_every_sample() {
     let mut random = Random::seeded(11);
@@ -299,7 +299,7 @@ fn the_fields_that_are_shown() {
     assert_eq!(shown(&|at| Question::Variable(3, 0, at)), [12, 16, 28, 32, 48, 52]);
     assert_eq!(shown(&|at| Question::Variable(8, 0, at)), [12, 16, 28, 32, 48, 52, 128]);
     assert_eq!(shown(&|at| Question::Attribute(0, at)), [16, 20, 24, 28, 40, 44]);
-    assert_eq!(shown(&|at| Question::File(at)), [0, 1, 2, 3, 4, 5]);
+    assert_eq!(shown(&|at| Question::File(at)), [0, 1, 2, 3, 4, 5, 6]);
     let at_place = |at| Question::EntryAt(0, 5, 0, at);
     assert_eq!(shown(&at_place), [12, 16, 20, 24]);
 }

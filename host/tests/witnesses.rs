@@ -581,3 +581,155 @@ fn max_rec_in_a_gap_below() {
         assert_eq!(whole, Ok(answer), "MaxRec {max_rec}");
     }
 }
+
+/// File H with so many bytes behind eof, which would be one unused record before it.
+fn padded_h(padding: usize) -> Vec<u8> {
+    let mut file = file_h();
+    file.resize(550 + padding, 0);
+    changed(&file, &[(550, padding as i64), (554, -1)])
+}
+
+/// The marks of file H after the sweep, and of 140 bytes behind it as if they were swept too.
+fn padded_marks() -> Vec<u8> {
+    let mut marks = swept(&padded_h(140));
+    marks[550] = 1;
+    marks
+}
+
+/// The sweep of a file of 690 bytes, at an offset.
+fn sweep_at(offset: u32) -> Numbers {
+    [0, 690, 1, 0, offset, 0, 0, 0, 0, 0, 0, 0]
+}
+
+/// The walk of a file of 690 bytes at its first link.
+const START: Numbers = [0, 690, 2, 0, 0, 0, 0, 0, 0, 0, 0, 0];
+
+/// The sweep ends at eof, and a record that passes eof is 7, also one that ends at the length.
+#[test]
+fn the_sweep_of_a_padded_file() {
+    let (file, marks) = (padded_h(140), padded_marks());
+    goes_on(&file, &marks, sweep_at(504), sweep_at(536), None);
+    goes_on(&file, &marks, sweep_at(536), START, None);
+    for offset in [543, 549, 550, 551, 682, 690] {
+        refuses(&file, &marks, sweep_at(offset), 7);
+    }
+    for size in [15, 22, 154, 155] {
+        refuses(&changed(&file, &[(536, size)]), &marks, sweep_at(536), 7);
+    }
+}
+
+/// Where eof is out of the window, or below the GDR's first 60 bytes, the end is the length; else it is eof, also if it is
+/// not the one that the sweep has found.
+#[test]
+fn an_eof_changed_between_grants() {
+    let (file, marks) = (padded_h(140), padded_marks());
+    for eof in [i64::from(i32::MIN), -1, 0, 178, 179, 371, 690, 691, i64::from(i32::MAX)] {
+        let other = changed(&file, &[(332, eof)]);
+        goes_on(&other, &marks, sweep_at(536), sweep_at(550), None);
+        goes_on(&other, &marks, sweep_at(550), START, None);
+        refuses(&other, &marks, sweep_at(690), 7);
+    }
+    for (eof, first, last) in [(372, 372, 504), (504, 504, 536), (549, 536, 536)] {
+        let other = changed(&file, &[(332, eof)]);
+        refuses(&other, &marks, sweep_at(first), 7);
+        refuses(&other, &marks, sweep_at(last), 7);
+    }
+    let longer = changed(&file, &[(332, 689)]);
+    goes_on(&longer, &marks, sweep_at(536), sweep_at(550), None);
+    refuses(&longer, &marks, sweep_at(550), 7);
+}
+
+/// The window has 512 places: an eof of length - 511 is the end, one of length - 512 is not.
+#[test]
+fn the_edge_of_the_window() {
+    let state = |length: u32| [0, length, 1, 0, 550, 0, 0, 0, 0, 0, 0, 0];
+    refuses(&padded_h(511), &[0; 1061], state(1061), 7);
+    let mut marks = vec![0; 1062];
+    marks[550] = 1;
+    let start = [0, 1062, 2, 0, 0, 0, 0, 0, 0, 0, 0, 0];
+    goes_on(&padded_h(512), &marks, state(1062), start, None);
+}
+
+/// A link from eof on is 8 whatever its mark is; one before it, to a size and type that pass eof, is 20.
+#[test]
+fn a_link_into_the_padding() {
+    let mut marks = vec![1; 690];
+    let unused = [0, 690, 8, 0, 356, 0, 0, 0, 0, 0, 0, 0];
+    let to = |link: i64, eof: i64| changed(&padded_h(140), &[(356, link), (332, eof)]);
+    for mark in [0, 1, 2, 0xAA] {
+        marks[550..].fill(mark);
+        for link in [550, 551, 682, 689, 690] {
+            refuses(&to(link, 550), &marks, unused, 8);
+        }
+    }
+    for link in [543, 549] {
+        refuses(&to(link, 550), &marks, unused, 20);
+    }
+    marks[550] = 1;
+    let next = [0, 690, 8, 0, 558, 0, 0, 0, 550, 0, 0, 0];
+    goes_on(&to(550, 690), &marks, unused, next, Some(550));
+    goes_on(&to(550, 371), &marks, unused, next, Some(550));
+    refuses(&to(550, 558), &marks, unused, 20);
+    goes_on(&to(550, 566), &marks, unused, next, Some(550));
+}
+
+/// The opening asks for the GDR's whole size before eof, the end for its first 60 bytes alone.
+#[test]
+fn a_gdr_that_passes_eof() {
+    let mut file = base();
+    file.r_sizes = vec![2, 3];
+    file.unlisted_unused = vec![20];
+    let file = in_order(&file);
+    let mut marks = vec![0; 400];
+    (marks[8], marks[312], marks[380]) = (1, 2, 1);
+    let unused = [0, 400, 8, 0, 356, 0, 0, 0, 0, 0, 0, 0];
+    for (eof, last) in [(400, 0), (380, 0), (379, 20), (372, 20), (371, 0), (-1, 0)] {
+        let other = changed(&file, &[(332, eof)]);
+        refuses(&other, &marks, unused, last);
+        let opened = Pair::fresh(&marks).grant(&other, 1, &mut Compared::default());
+        assert_eq!(opened, Ok(if eof >= 380 { (-1, 1) } else { (6, 1) }), "{eof}");
+    }
+}
+
+/// A negative CDR's link is read as 1 where the end is looked for: eof is then the field at 21.
+#[test]
+fn the_end_by_a_negative_link() {
+    let (file, marks) = (padded_h(140), padded_marks());
+    let release = |eof: i64| (24, (eof - 512) << 24);
+    let with = |version: i64, eof: i64| changed(&file, &[(16, -1), (20, version), release(eof)]);
+    goes_on(&with(2, 550), &marks, sweep_at(536), START, None);
+    refuses(&with(2, 549), &marks, sweep_at(536), 7);
+    refuses(&with(2, 550), &marks, sweep_at(550), 7);
+    goes_on(&with(0, 550), &marks, sweep_at(536), sweep_at(550), None);
+    refuses(&changed(&with(2, 550), &[(16, i64::from(i32::MIN))]), &marks, sweep_at(550), 7);
+}
+
+/// A record that no link claims is 13 before eof, and is not looked for from eof on.
+#[test]
+fn an_unclaimed_record_in_the_padding() {
+    let mut file = in_order(&base());
+    file.resize(380, 0);
+    let file = changed(&file, &[(372, 8), (376, 7)]);
+    let mut marks = vec![1; 380];
+    marks[312] = 2;
+    let unused = [0, 380, 8, 0, 356, 0, 0, 0, 0, 0, 0, 0];
+    refuses(&file, &marks, unused, 0);
+    refuses(&changed(&file, &[(332, 380)]), &marks, unused, 13);
+    refuses(&changed(&file, &[(332, 376)]), &marks, unused, 20);
+}
+
+/// Marks and the noted length go by the file's length, not by its end.
+#[test]
+fn lengths_of_a_padded_file() {
+    let file = padded_h(140);
+    for (marks, answer) in [(550, (2, 1)), (689, (2, 1)), (690, (-1, 1)), (700, (-1, 1))] {
+        let granted = Pair::fresh(&vec![0; marks]).grant(&file, 1, &mut Compared::default());
+        assert_eq!(granted, Ok(answer), "{marks} marks");
+    }
+    for (noted, marks, answer) in [(550, 690, (21, 0)), (690, 689, (21, 0)), (690, 690, (-1, 1))] {
+        let mut numbers = sweep_at(8);
+        numbers[1] = noted;
+        let mut pair = Pair::new(&state(numbers, &[]), &vec![0; marks]);
+        assert_eq!(pair.grant(&file, 1, &mut Compared::default()), Ok(answer), "{noted} {marks}");
+    }
+}

@@ -35,6 +35,14 @@ pub fn any(seed: u64) -> (File, Vec<u8>) {
     (file, bytes)
 }
 
+/// Any file with so many bytes behind eof: good, if there are no more than 511.
+pub fn with_padding(seed: u64, padding: usize) -> (File, Vec<u8>) {
+    let mut random = Random::seeded(seed);
+    let file = File { padding, ..File::any(&mut random) };
+    let bytes = shuffled(&file, &mut random);
+    (file, bytes)
+}
+
 /// Any file with a zVariable whose index has so many levels: good, if there are no more than eight.
 pub fn with_levels(seed: u64, levels: usize) -> (File, Vec<u8>) {
     let mut random = Random::seeded(seed);

@@ -1,10 +1,8 @@
 //! What a good file holds, before it is bytes.
 
 use super::random::Random;
+use crate::second::rules::MOST_PADDING;
 use crate::second::tables::{DataType, Encoding, Form, DATA_TYPES, ENCODINGS, GREATEST};
-
-/// The most bytes that a good file has behind eof.
-pub const MOST_PADDING: usize = 511;
 
 /// A good file: its descriptors, variables, attributes and unused records.
 #[derive(Clone, Debug)]
@@ -260,12 +258,13 @@ impl File {
 
 /// Bytes of padding: mostly none, often the fewest or the most.
 fn any_padding(random: &mut Random) -> usize {
-    match random.below(10) {
+    let bytes = match random.below(10) {
         0..=5 => 0,
         6 => 1,
         7 => MOST_PADDING,
-        _ => 1 + random.place(MOST_PADDING),
-    }
+        _ => random.between(1, MOST_PADDING),
+    };
+    usize::try_from(bytes).unwrap_or(0)
 }
 
 fn any_unused(random: &mut Random, least: i64) -> Vec<usize> {

@@ -20,6 +20,7 @@ pub fn dump(file: &[u8]) -> Result<String, u32> {
         counts.z_variables,
         counts.attributes,
     );
+    text += &padding_note(read::padding(file)?);
     for (kind, count) in [(3, counts.r_variables), (8, counts.z_variables)] {
         for number in 0..count {
             text += &variable_lines(file, kind, number)?;
@@ -29,6 +30,14 @@ pub fn dump(file: &[u8]) -> Result<String, u32> {
         text += &attribute_lines(file, number)?;
     }
     Ok(text + "END\n")
+}
+
+/// A note of the bytes of padding, if there are any.
+pub(crate) fn padding_note(bytes: i64) -> String {
+    if bytes == 0 {
+        return String::new();
+    }
+    format!("# padding={bytes}\n")
 }
 
 /// Numbers with commas, `-` for none.
