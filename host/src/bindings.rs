@@ -314,6 +314,9 @@ pub fn read_pad(file: &[u8], kind: i64, number: i64, element: i64) -> Result<Val
     value(|k, b, o| unsafe { c::tlz_read_pad(f, n, kind, number, element, k, b, o) })
 }
 
+/// What `read_file` is asked for the bytes of padding, `TLZ_FILE_PADDING`.
+pub const FILE_PADDING: u64 = 6;
+
 /// What the file says of itself.
 pub fn read_file(file: &[u8], what: u64) -> Result<i32, i32> {
     field(|to| unsafe { c::tlz_read_file(file.as_ptr(), file.len(), what, to) })

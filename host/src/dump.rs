@@ -2,8 +2,7 @@
 //!
 //! One thing cannot be asked for: the offset of a float that is refused with 19, shown as `@?`.
 
-use crate::bindings::{self, Name, Value};
-use crate::questions::PADDING;
+use crate::bindings::{self, Name, Value, FILE_PADDING};
 use crate::second::dump::MOST_VALUES;
 use crate::second::dump::{advance, bits_token, letter, name_letter, numbers, padding_note};
 use crate::second::tables::{data_type, Form};
@@ -26,7 +25,7 @@ pub fn dump(file: &[u8]) -> Result<String, i32> {
         said(3)?,
         said(4)?,
     );
-    text += &padding_note(i64::from(said(PADDING)?));
+    text += &padding_note(i64::from(said(FILE_PADDING)?));
     for (kind, count) in [(3, said(2)?), (8, said(3)?)] {
         for number in 0..i64::from(count) {
             text += &Variable::of(file, kind, number, &sizes)?.lines()?;

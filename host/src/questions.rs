@@ -1,6 +1,6 @@
 //! Questions to a reader, of every call: put to the proved reader and to the second one, and answered in one form.
 
-use crate::bindings;
+use crate::bindings::{self, FILE_PADDING};
 use crate::build::random::Random;
 use crate::damage;
 use crate::second::bytes::field;
@@ -42,9 +42,6 @@ pub enum Question {
     /// attribute, kind, place, element.
     EntryValueAt(i64, i64, u64, i64),
 }
-
-/// What is asked of a file for its bytes of padding.
-pub const PADDING: u64 = 6;
 
 /// What is given: a value's kind, bits and offset, a field, or a name's offset and length.
 #[derive(Clone, Copy, Debug, PartialEq, Eq)]
@@ -118,7 +115,7 @@ fn file_field(file: &[u8], what: u64) -> Result<Given, u32> {
         3 => Some(counts.z_variables),
         4 => Some(counts.attributes),
         5 => i64::try_from(read::r_dimensions(file)?.len()).ok(),
-        PADDING => Some(read::padding(file)?),
+        FILE_PADDING => Some(read::padding(file)?),
         _ => None,
     })
 }

@@ -1,6 +1,7 @@
 //! The project's sample files and the lines that say what is expected of them.
 
-use crate::questions::{Answer, Given, Question, PADDING};
+use crate::bindings::FILE_PADDING;
+use crate::questions::{Answer, Given, Question};
 use std::collections::HashMap;
 use std::path::{Path, PathBuf};
 
@@ -157,7 +158,7 @@ pub fn read_line(line: &str) -> Option<ReadLine> {
         }
         ("pad", [kind, number, element]) => Question::Pad(*kind, *number, *element),
         ("levels", [kind, number, record]) => Question::Levels(*kind, *number, *record),
-        ("padding", []) => Question::File(PADDING),
+        ("padding", []) => Question::File(FILE_PADDING),
         _ => return None,
     };
     Some(ReadLine { name, question, answer: read_answer(answer)? })

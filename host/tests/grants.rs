@@ -4,6 +4,7 @@ use tlepozaluh_host::build;
 use tlepozaluh_host::build::random::Random;
 use tlepozaluh_host::second::check::{grant, run, Check, Granted, State, RUNNING};
 use tlepozaluh_host::second::check::{FRESH, STATE_LENGTH};
+use tlepozaluh_host::second::rules::body;
 use tlepozaluh_host::second::state::{finished, is_in_range};
 
 fn granted(verdict: i32, steps: u64) -> Granted {
@@ -94,7 +95,8 @@ fn marks_outside_the_records_are_never_written() {
         let (_, file) = build::any(seed);
         let mut marks = vec![0x55; file.len() + 20];
         assert_eq!(run(&file, &mut marks).verdict, 0, "seed {seed}");
-        assert!(marks[..8].iter().chain(&marks[file.len()..]).all(|mark| *mark == 0x55));
+        let end = body(&file).len();
+        assert!(marks[..8].iter().chain(&marks[end..]).all(|mark| *mark == 0x55));
     }
 }
 

@@ -1,5 +1,6 @@
 //! Padded files, by both implementations: the padding cannot matter, and a padded file is what it is without padding.
 
+use tlepozaluh_host::bindings::FILE_PADDING;
 use tlepozaluh_host::build;
 use tlepozaluh_host::build::model::File;
 use tlepozaluh_host::build::random::Random;
@@ -8,7 +9,7 @@ use tlepozaluh_host::damage;
 use tlepozaluh_host::made_up::Source;
 use tlepozaluh_host::padding::{other_behind, same_answer, same_check};
 use tlepozaluh_host::pair::{Compared, Pair};
-use tlepozaluh_host::questions::{self, agreed, Given, Question, PADDING};
+use tlepozaluh_host::questions::{self, agreed, Given, Question};
 use tlepozaluh_host::samples;
 use tlepozaluh_host::second::check::FRESH;
 use tlepozaluh_host::second::rules::body;
@@ -31,7 +32,8 @@ fn checked(file: &[u8]) -> (i32, u64) {
 
 /// The bytes of padding that both readers tell, or their refusal.
 fn told(file: &[u8]) -> Result<i64, i32> {
-    let answer = agreed(file, &Question::File(PADDING)).unwrap_or_else(|wrong| panic!("{wrong}"));
+    let answer =
+        agreed(file, &Question::File(FILE_PADDING)).unwrap_or_else(|wrong| panic!("{wrong}"));
     answer.map(|given| match given {
         Given::Field(bytes) => bytes,
         other => panic!("{other:?}"),
@@ -164,7 +166,7 @@ fn a_padded_file_is_read_as_the_unpadded_one() {
         for _ in 0..40 {
             let question = questions::any(&padded, &mut random);
             let answer = agreed(&padded, &question).unwrap_or_else(|wrong| panic!("{wrong}"));
-            if question != Question::File(PADDING) {
+            if question != Question::File(FILE_PADDING) {
                 assert_eq!(agreed(file, &question), Ok(answer), "seed {seed}: {question}");
                 answers[answer.err().unwrap_or(0) as usize] += 1;
             }

@@ -8,6 +8,7 @@ use tlepozaluh_host::build::records::put;
 use tlepozaluh_host::damage::{self, Damage};
 use tlepozaluh_host::made_up::{shortened, Point, Source, BEYOND};
 use tlepozaluh_host::pair::{to_the_end, BadStep, Compared, Pair};
+use tlepozaluh_host::second::rules::body;
 use tlepozaluh_host::second::tables::{data_type, encoding, DataType};
 
 /// The length of the shortest file that can be accepted.
@@ -193,6 +194,30 @@ fn fields_between_grants() {
     assert!(compared.grants > 250_000, "{compared:?}");
 }
 
+/// Another eof, at any point and with any marks: in the window or not, before the GDR's end, within a record.
+#[test]
+fn another_eof_between_grants() {
+    let mut random = Random::seeded(44);
+    let mut compared = Compared::default();
+    let (mut moved, mut none) = (0, 0);
+    for seed in 0..400 {
+        let (_, file) = build::any(seed);
+        let source = Source::new(&file);
+        for _ in 0..80 {
+            let (state, real) = source.any_point(&mut random);
+            let point = (*state, source.any_marks(real, &mut random));
+            let changed = source.with_other_eof(&mut random);
+            let (before, after) = (body(&file).len(), body(&changed).len());
+            moved += u64::from(after != before && after != file.len());
+            none += u64::from(after == file.len());
+            agreed(&changed, &point, &mut compared, &|| format!("seed {seed}"));
+        }
+    }
+    assert_eq!(compared.missing(&ENDS), [], "{compared:?}");
+    assert!(moved > 5000 && none > 5000, "{moved} {none}");
+    assert!(compared.grants > 250_000, "{compared:?}");
+}
+
 /// Fields and tree damages of files of many levels, at every point of their checks.
 #[test]
 fn trees_between_grants() {
@@ -286,6 +311,31 @@ fn files_cut_at_every_byte() {
     }
     let met: Vec<BadStep> = compared.bad_steps.keys().copied().collect();
     assert_eq!(met, PAST_THE_END);
+    assert!(compared.grants > 250_000, "{compared:?}");
+}
+
+/// The same files with eof at every such byte, and all bytes left behind it. What is needed of the GDR is past the end of
+/// none of them: its first 60 bytes lie before eof, or the end is the length.
+#[test]
+fn bodies_cut_at_every_byte() {
+    let mut compared = Compared::default();
+    for seed in 0..150 {
+        let file = small_file(seed);
+        let source = Source::new(&file);
+        for eof in SHORTEST.max(file.len().saturating_sub(150))..file.len() {
+            let offset = damage::eof_place(&file);
+            let changed = damage::damaged(&file, &Damage::Field { offset, value: eof as i64 });
+            let what = || format!("seed {seed}, eof {eof}");
+            for point in source.points() {
+                agreed_step(&changed, point, &mut compared, &what);
+            }
+        }
+    }
+    let met: Vec<BadStep> = compared.bad_steps.keys().copied().collect();
+    let of_gdr = ["count of variables", "dimension count", "rMaxRec", "NumAttr"];
+    let others = |(phase, _, what): &&BadStep| *phase > 2 && !of_gdr.contains(what);
+    let expected = PAST_THE_END.iter().filter(others);
+    assert_eq!(met, expected.copied().collect::<Vec<_>>());
     assert!(compared.grants > 250_000, "{compared:?}");
 }
 
