@@ -51,7 +51,7 @@ pub fn records(file: &[u8]) -> Vec<Found> {
 }
 
 /// What looks like records in the padding, from the file's end on.
-pub fn images(file: &[u8]) -> Vec<Found> {
+fn images(file: &[u8]) -> Vec<Found> {
     records_from(file, body(file).len() as i64)
 }
 
@@ -386,7 +386,7 @@ pub fn padding_damages(file: &[u8]) -> Vec<Damage> {
         let ends = [end - 1, end + 1, end + 8, length, length + 1];
         damages.extend(ends.map(|to| to_value(last.offset, to as i64 - last.offset as i64)));
     }
-    damages.extend((end..length).map(|offset| to_value(offset, -1)));
+    damages.extend((end..length).step_by(29).map(|offset| to_value(offset, -1)));
     let gaps = [510, 511, 512, 513, 1024].into_iter();
     let grown = gaps.filter_map(|gap| (end + gap).checked_sub(length));
     damages.extend(grown.map(|by| Damage::Grow { by, eof: false }));

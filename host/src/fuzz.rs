@@ -338,7 +338,8 @@ fn with_other_padding(
         count(&mut covered.other_padding, same?.0);
     }
     for _ in 0..10 {
-        padding::same_answer([file, &other], &questions::any(file, random))?.ok();
+        let question = questions::any(file, random);
+        padding::same_answer([file, &other], &question).map(drop)?;
     }
     Ok(())
 }

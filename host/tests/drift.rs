@@ -3,7 +3,7 @@
 
 use std::fs::{read_dir, read_to_string};
 use std::path::{Path, PathBuf};
-use tlepozaluh_host::bindings::{check_begin, STATE_LENGTH};
+use tlepozaluh_host::bindings::{check_begin, FILE_PADDING, STATE_LENGTH};
 use tlepozaluh_host::bindings::{read_attribute, read_entry_at, read_file, read_variable};
 use tlepozaluh_host::calls::{self, Call};
 use tlepozaluh_host::samples;
@@ -251,7 +251,7 @@ fn every_constant_of_the_reader() {
     let mut defined = calls::defined_numbers(&header());
     assert!(defined.contains(&("TLZ_BAD_WAY".to_string(), 20)));
     defined.retain(|(name, _)| is_readers(name));
-    for (name, number) in KINDS {
+    for (name, number) in KINDS.into_iter().chain([("TLZ_FILE_PADDING", FILE_PADDING as i64)]) {
         assert!(defined.contains(&(name.to_string(), number)), "{name}");
     }
     let described = text("docs/INTERFACE.md");

@@ -44,9 +44,16 @@ fn agreed_step_by_step(file: &[u8], what: &dyn Fn() -> String) -> i32 {
 
 /// Tries each damage on files of these seeds, every tenth step by step; counts the verdicts.
 fn agreed_on(seeds: std::ops::Range<u64>, damages: impl Fn(&[u8]) -> Vec<Damage>) -> [u64; 24] {
+    agreed_of(seeds.map(|seed| (seed, build::any(seed).1)), damages)
+}
+
+/// The same on these files, each with its seed.
+fn agreed_of(
+    files: impl Iterator<Item = (u64, Vec<u8>)>,
+    damages: impl Fn(&[u8]) -> Vec<Damage>,
+) -> [u64; 24] {
     let mut verdicts = [0; 24];
-    for seed in seeds {
-        let (_, file) = build::any(seed);
+    for (seed, file) in files {
         for (place, damage) in damages(&file).iter().enumerate() {
             let damaged = damage::damaged(&file, damage);
             let what = || format!("seed {seed}: {damage:?}");
@@ -94,25 +101,25 @@ fn every_link_every_ring_every_length() {
     }
 }
 
+/// Every damage of eof and padding, on files of few and many bytes of it.
+#[test]
+fn every_damage_of_padding() {
+    let of = |seed: u64| (seed, build::with_padding(seed, 1 + 37 * seed as usize % 511).1);
+    let verdicts = agreed_of((0..60).map(of), damage::padding_damages);
+    let expected = [0, 6, 7, 8, 11];
+    assert!(expected.iter().all(|verdict| verdicts[*verdict] > 100), "{verdicts:?}");
+}
+
 /// Every damage of an index of several levels, of each number of them, and nine levels.
 #[test]
 fn every_damage_of_a_tree() {
-    let mut verdicts = [0; 24];
-    for seed in 0..160 {
-        let (_, file) = build::with_levels(seed, 2 + seed as usize % 8);
+    let of = |seed: u64| (seed, build::with_levels(seed, 2 + seed as usize % 8).1);
+    for (seed, file) in (0..160).map(of) {
         let what = || format!("seed {seed}");
         let whole = agreed_step_by_step(&file, &what);
         assert_eq!(whole, if seed % 8 == 7 { 23 } else { 0 }, "{}", what());
-        for (place, damage) in damage::tree_damages(&file).iter().enumerate() {
-            let damaged = damage::damaged(&file, damage);
-            let what = || format!("seed {seed}: {damage:?}");
-            let verdict = agreed(&damaged, &what);
-            if place % 10 == 0 {
-                assert_eq!(agreed_step_by_step(&damaged, &what), verdict, "{}", what());
-            }
-            verdicts[verdict as usize] += 1;
-        }
     }
+    let verdicts = agreed_of((0..160).map(of), damage::tree_damages);
     let expected = [0, 8, 9, 10, 11, 12, 13, 23];
     assert!(expected.iter().all(|verdict| verdicts[*verdict] > 100), "{verdicts:?}");
 }
