@@ -8,6 +8,7 @@ use tlepozaluh_host::build::model::{Values, Variable};
 use tlepozaluh_host::build::records::put;
 use tlepozaluh_host::pair::{Compared, Pair};
 use tlepozaluh_host::second::check::{self, Check};
+use tlepozaluh_host::second::rules::body;
 use tlepozaluh_host::second::tables::{data_type, encoding, DataType};
 
 const OFFSET: u32 = 2_147_483_647;
@@ -702,6 +703,56 @@ fn the_end_by_a_negative_link() {
     refuses(&with(2, 550), &marks, sweep_at(550), 7);
     goes_on(&with(0, 550), &marks, sweep_at(536), sweep_at(550), None);
     refuses(&changed(&with(2, 550), &[(16, i64::from(i32::MIN))]), &marks, sweep_at(550), 7);
+}
+
+/// In a good CDR the field at 21 is 512, version 2 and the release's first byte: with a negative link a file of 513 to 1023
+/// bytes ends there, a longer or shorter one at its length.
+#[test]
+fn a_negative_link_in_a_good_cdr() {
+    for (length, ends_early) in [(520, true), (600, true), (1023, true), (1024, false)] {
+        let mut file = base();
+        file.unlisted_unused = vec![132, 8, length - 512];
+        let good = in_order(&file);
+        let other = changed(&good, &[(16, -1)]);
+        let marks = swept(&good);
+        let sweep = |at: u32| [0, length as u32, 1, 0, at, 0, 0, 0, 0, 0, 0, 0];
+        let start = [0, length as u32, 2, 0, 0, 0, 0, 0, 0, 0, 0, 0];
+        goes_on(&good, &marks, sweep(504), sweep(512), None);
+        goes_on(&good, &marks, sweep(512), start, None);
+        if ends_early {
+            goes_on(&other, &marks, sweep(504), start, None);
+            refuses(&other, &marks, sweep(512), 7);
+        } else {
+            goes_on(&other, &marks, sweep(504), sweep(512), None);
+            goes_on(&other, &marks, sweep(512), start, None);
+        }
+        refuses(&other, &marks, start, 8);
+    }
+    let mut file = base();
+    file.unlisted_unused = vec![139];
+    let (good, sweep) = (in_order(&file), [0, 511, 1, 0, 372, 0, 0, 0, 0, 0, 0, 0]);
+    let start = [0, 511, 2, 0, 0, 0, 0, 0, 0, 0, 0, 0];
+    goes_on(&changed(&good, &[(16, -1)]), &swept(&good), sweep, start, None);
+}
+
+/// The window of a short file reaches below 0. An eof of 10 is no end, as the GDR is not before it: two files that differ
+/// from 10 on alone, in the CDR, are refused with other numbers.
+#[test]
+fn an_eof_before_the_cdr() {
+    let mut file = base();
+    file.unlisted_unused = vec![28];
+    let file = changed(&in_order(&file), &[(332, 10)]);
+    let other = changed(&file, &[(20, 3)]);
+    assert_eq!((file.len(), &file[..10]), (400, &other[..10]));
+    for (file, number) in [(&file, 6), (&other, 5)] {
+        refuses(file, &[1; 400], [0; 12], number);
+        assert_eq!(body(file).len(), 400);
+    }
+    let state = [0, 400, 1, 0, 372, 0, 0, 0, 0, 0, 0, 0];
+    let start = [0, 400, 2, 0, 0, 0, 0, 0, 0, 0, 0, 0];
+    let mut marks = vec![0; 400];
+    marks[372] = 1;
+    goes_on(&file, &marks, state, start, None);
 }
 
 /// A record that no link claims is 13 before eof, and is not looked for from eof on.
