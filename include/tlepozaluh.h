@@ -6,6 +6,9 @@
  * call, from the file's bytes alone; it needs no check before it. The library allocates nothing, keeps nothing between
  * calls and opens no file. Calls on different buffers may run at the same time.
  *
+ * A file may be padded: its end is where its GDR says (eof), up to 511 bytes below its length. Bytes from the end on are not
+ * judged, and marks from the end on are not written.
+ *
  * Link with libtlepozaluh.a, or with libtlepozaluh_read.a for the reader alone. docs/INTERFACE.md has worked programs,
  * docs/STATE.md describes the saved state.
  */
@@ -36,9 +39,12 @@ extern "C" {
 #define TLZ_NOT_CDF 3              /* shorter than 372 bytes, or the magic numbers are not those of a CDF 2.6 or 2.7 */
 #define TLZ_COMPRESSED_FILE 4      /* the second magic number says that the whole file is compressed */
 #define TLZ_BAD_CDR 5              /* the CDF descriptor record breaks its rule */
-#define TLZ_BAD_GDR 6              /* the global descriptor record breaks its rule */
-#define TLZ_NOT_TILED 7            /* records do not follow one another to the end: too few bytes, a wrong size or type */
-#define TLZ_BAD_LINK 8             /* a link leads to no record start, or to a record of the wrong type */
+#define TLZ_BAD_GDR 6              /* the global descriptor record breaks its rule, also by an eof that is past the length, */
+                                   /* more than 511 bytes below it, or before the record's own end */
+#define TLZ_NOT_TILED 7            /* records do not follow one another to the file's end (eof): too few bytes, a wrong size */
+                                   /* or type */
+#define TLZ_BAD_LINK 8             /* a link leads to no record start (there is none from eof on), or to a record of the */
+                                   /* wrong type */
 #define TLZ_CLAIMED_TWICE 9        /* two links lead to one record; rings are found so */
 #define TLZ_BAD_RECORD 10          /* a record's fields or size break its rule */
 #define TLZ_BAD_LIST 11            /* a list's count, numbering, maximum, tail or back link disagrees, or a lower index */
@@ -51,8 +57,8 @@ extern "C" {
 #define TLZ_RECORD_IN_GAP 17       /* reader: the record number lies in a gap of the index */
 #define TLZ_OUT_OF_RANGE 18        /* reader: an index or element out of range, or a wrong number of indices */
 #define TLZ_FLOAT_NOT_CARRIED 19   /* reader: a floating-point value in encoding 3, 14 or 15 */
-#define TLZ_BAD_STATE 20           /* the state is not TLZ_STATE_LEN numbers, a number is out of its range, or the file */
-                                   /* ends before a field that the walk needs; from the reader TLZ_BAD_WAY */
+#define TLZ_BAD_STATE 20           /* the state is not TLZ_STATE_LEN numbers, a number is out of its range, or a field that */
+                                   /* the walk needs passes the file's end; from the reader TLZ_BAD_WAY */
 #define TLZ_OTHER_FILE 21          /* the file's length is not the one noted at opening, or the marks are now shorter */
 #define TLZ_TOO_DEEP 23            /* an index has more than eight levels of records */
 
@@ -81,7 +87,7 @@ int32_t tlz_check_begin(uint32_t *state, size_t state_len);
  *   file, file_len     the file's bytes, only read. All grants of a check are lent the same bytes.
  *   marks, marks_len   a byte for each byte of the file, at least file_len of them; they need no clearing before a check.
  *                      They belong to the check: between grants the caller keeps them as they are, beside the state. Marks
- *                      0 to 7 and those beyond the file are never written.
+ *                      0 to 7 and those from the file's end on are never written, whatever the state.
  *   state, state_len   the state, made fresh by tlz_check_begin or kept from an earlier grant; TLZ_STATE_LEN numbers
  *   grant              the most steps to make
  *   steps              set to the steps made, in every case: 0 to grant
@@ -145,9 +151,9 @@ int32_t tlz_check_grant(const uint8_t *file, size_t file_len, uint8_t *marks, si
  *                           than file_len / 8 records were met, as in a ring
  *
  * Only what lies on the way is judged: CDR and GDR, a list from its head to what is asked for, an index to the entry that
- * covers the record, and down through the lower index records to the one that names its values. The rest of the file may be
- * damaged. Every call ends, on every file; nothing outside the file is read and nothing is written but the caller's numbers.
- * Each call goes the whole way again.
+ * covers the record, and down through the lower index records to the one that names its values; each of them ends at the
+ * file's end at the latest. The rest of the file may be damaged. Every call ends, on every file; nothing outside the file is
+ * read and nothing is written but the caller's numbers. Each call goes the whole way again.
  *
  * Variables and attributes are asked for by their place in their list, from 0, which is their number in an accepted file;
  * entries by their number, or by their place. Arguments have 64 bits so that none is cut before it is judged.
@@ -213,6 +219,7 @@ int32_t tlz_read_pad(const uint8_t *file, size_t file_len, int64_t kind, int64_t
 #define TLZ_FILE_ZVARIABLES 3 /* how many zVariables */
 #define TLZ_FILE_ATTRIBUTES 4 /* how many attributes */
 #define TLZ_FILE_DIMENSIONS 5 /* how many dimensions the rVariables have, 0 to 10 */
+#define TLZ_FILE_PADDING 6    /* how many bytes of padding it has: its length less its end, 0 to 511 */
 
 /* Sets *field to what the file says of itself. The counts are not compared with the lists: that is the check's. */
 int32_t tlz_read_file(const uint8_t *file, size_t file_len, uint64_t what, int32_t *field);
