@@ -26,11 +26,11 @@ static const char help[] =
 
 static const struct program program = { "cdfread", help, READ };
 
-/* A refusal on a line or in an object of its own. */
-static void print_refusal(const struct source *source, int32_t number)
+/* A refusal on a line or in an object of its own, with more members behind it. */
+static void print_refusal(const struct source *source, int32_t number, const char *more)
 {
     if (source->json)
-        printf("{\"refused\": %" PRId32 ", \"words\": \"%s\"}", number, words_of_refusal(number));
+        printf("{\"refused\": %" PRId32 ", \"words\": \"%s\"%s}", number, words_of_refusal(number), more);
     else
         printf("refused %" PRId32 ": %s\n", number, words_of_refusal(number));
 }
@@ -46,7 +46,7 @@ static bool list_variables(struct source *source, int64_t kind, int32_t count, b
         if (source->json)
             printf("%s\n  ", any ? "," : "");
         if (source_refused(source, answer))
-            print_refusal(source, answer);
+            print_refusal(source, answer, "");
         else
             variable_describe(source, &variable);
     }
@@ -62,22 +62,22 @@ static void list_attributes(struct source *source, int32_t count)
             printf("%s\n  ", number > 0 ? "," : "");
         answer = attribute_describe(source, number);
         if (source_refused(source, answer))
-            print_refusal(source, answer);
+            print_refusal(source, answer, "");
     }
 }
 
 /* What a file says of itself. */
 struct said {
-    int32_t majority, encoding, r_variables, z_variables, attributes, dimensions, sizes[MOST_DIMENSIONS];
+    int32_t majority, encoding, r_variables, z_variables, attributes, dimensions, padding, sizes[MOST_DIMENSIONS];
 };
 
 static int32_t read_said(const struct source *source, struct said *said)
 {
-    int32_t *places[] = { &said->majority,    &said->encoding,   &said->r_variables,
-                          &said->z_variables, &said->attributes, &said->dimensions };
+    int32_t *places[] = { &said->majority,   &said->encoding,   &said->r_variables, &said->z_variables,
+                          &said->attributes, &said->dimensions, &said->padding };
     int32_t answer = 0;
 
-    for (uint64_t what = TLZ_FILE_MAJORITY; what <= TLZ_FILE_DIMENSIONS && answer == 0; what++)
+    for (uint64_t what = TLZ_FILE_MAJORITY; what <= TLZ_FILE_PADDING && answer == 0; what++)
         answer = tlz_read_file(source->file, source->length, what, places[what]);
     for (int32_t d = 0; answer == 0 && d < said->dimensions && d < MOST_DIMENSIONS; d++)
         answer = tlz_read_dimension(source->file, source->length, d, &said->sizes[d]);
@@ -97,7 +97,12 @@ static void print_said(const struct source *source, const struct said *said)
            said->attributes);
     for (int32_t d = 0; d < said->dimensions; d++)
         printf("%s%" PRId32, source->json && d > 0 ? ", " : source->json ? "" : " ", said->sizes[d]);
-    printf("%s%s", source->json || said->dimensions > 0 ? "" : " none", source->json ? "],\n" : "\n");
+    if (source->json)
+        printf("], \"padding\": %" PRId32 ",\n", said->padding);
+    else
+        printf("%s\n", said->dimensions > 0 ? "" : " none");
+    if (!source->json && said->padding > 0)
+        printf("padding     %" PRId32 " byte%s\n", said->padding, said->padding == 1 ? "" : "s");
 }
 
 /* The listing of a whole file. */
@@ -108,7 +113,7 @@ static void list_file(struct source *source)
     bool any = false;
 
     if (source_refused(source, answer)) {
-        print_refusal(source, answer);
+        print_refusal(source, answer, ", \"padding\": null");
         printf("%s", source->json ? "\n" : "");
         return;
     }
@@ -138,7 +143,7 @@ static void list_values(struct source *source, int count, char **words)
     int32_t answer = variable_read(source, words[0][0] == 'r' ? TLZ_RVARIABLE : TLZ_ZVARIABLE, number_of(words[1]), &variable);
 
     if (source_refused(source, answer)) {
-        print_refusal(source, answer);
+        print_refusal(source, answer, "");
         printf("%s", source->json ? "\n" : "");
         return;
     }
@@ -180,7 +185,7 @@ int main(int count, char **words)
     else
         list_file(&source);
     if (source.vax && !source.json)
-        print_refusal(&source, TLZ_FLOAT_NOT_CARRIED);
+        print_refusal(&source, TLZ_FLOAT_NOT_CARRIED, "");
     input_free(&input);
     return console_trouble() ? 2 : source.refused != 0 || source.vax || source.cut;
 }

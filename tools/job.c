@@ -24,6 +24,7 @@ void job_wait(struct job *job, const char *path)
 {
     memset(job, 0, sizeof *job);
     job->path = path;
+    job->padding = NO_PADDING;
     set(job, UNFINISHED, TLZ_RUNNING, "not begun");
 }
 
@@ -41,11 +42,20 @@ static void drop(struct job *job)
     job->open = false;
 }
 
-/* Marks and state, fresh or kept; NULL, or why not. */
+/* Where an unfinished check stands, in words. */
+static void say_where(struct job *job)
+{
+    size_t padding = job->padding == NO_PADDING ? 0 : (size_t)job->padding;
+
+    words_of_state(job->state, job->input.length - padding, job->why, sizeof job->why);
+}
+
+/* Padding, marks and state, fresh or kept; NULL, or why not. */
 static const char *prepare(struct job *job, const struct manner *manner)
 {
     size_t length = job->input.length;
 
+    tlz_read_file(job->input.bytes, length, TLZ_FILE_PADDING, &job->padding); /* a refusal leaves it as it is */
     job->marks = calloc(length > 0 ? length : 1, 1);
     if (job->marks == NULL)
         return "out of memory";
@@ -66,7 +76,7 @@ void job_open(struct job *job, const struct manner *manner)
     job->seconds += window_clock() - start;
     if (why == NULL) {
         job->open = true;
-        words_of_state(job->state, job->why, sizeof job->why);
+        say_where(job);
         return;
     }
     job->steps = job->before = 0;
@@ -78,7 +88,7 @@ void job_open(struct job *job, const struct manner *manner)
 static void take(struct job *job, int32_t answer)
 {
     if (answer == TLZ_RUNNING)
-        words_of_state(job->state, job->why, sizeof job->why);
+        say_where(job);
     else if (answer == TLZ_ACCEPTED)
         set(job, ACCEPTED, answer, "");
     else if ((answer > TLZ_ACCEPTED && answer <= TLZ_NOT_CARRIED) || answer == TLZ_TOO_DEEP)

@@ -11,12 +11,14 @@
 /* What came out. Only verdict 0 is ACCEPTED. */
 enum outcome { ACCEPTED, REFUSED, UNFINISHED, UNCHECKED, OUTCOMES };
 
-/* The number of a file that was not checked for a reason that the table does not have. */
-enum { NO_NUMBER = -2, WHY_ROOM = 160 };
+/* The number of a file that was not checked for a reason that the table does not have; the padding of one that was not read or
+ * does not open. */
+enum { NO_NUMBER = -2, NO_PADDING = -1, WHY_ROOM = 160 };
 
 struct job {
     const char *path;
     struct input input;
+    int32_t padding; /* bytes of the file from its end on, or NO_PADDING */
     uint8_t *marks;
     uint32_t state[TLZ_STATE_LEN];
     uint64_t steps;  /* since the check began .. */

@@ -15,7 +15,18 @@ void print_line(const struct job *job, bool marks)
     if (marks)
         printf("marks %016" PRIx64 "  ", job->marks_sum);
     text_name(stdout, job->path);
+    if (job->padding > 0)
+        printf(" (%" PRId32 " byte%s of padding)", job->padding, job->padding == 1 ? "" : "s");
     printf("%s%s\n", job->why[0] == '\0' ? "" : ": ", job->why);
+}
+
+/* A number as a member of a JSON object, or null where it is the one that stands for none. */
+static void print_number(const char *name, int32_t number, int32_t none)
+{
+    if (number == none)
+        printf(", \"%s\": null", name);
+    else
+        printf(", \"%s\": %" PRId32, name, number);
 }
 
 void print_json(const struct job *job, bool marks)
@@ -27,14 +38,12 @@ void print_json(const struct job *job, bool marks)
         printf("\"");
     }
     printf(", \"result\": \"%s\"", job_word(job->outcome));
-    if (job->number == NO_NUMBER)
-        printf(", \"number\": null");
-    else
-        printf(", \"number\": %" PRId32, job->number);
+    print_number("number", job->number, NO_NUMBER);
     printf(", \"words\": ");
     text_json(stdout, job->why);
     printf(", \"steps\": %" PRIu64 ", \"steps_before\": %" PRIu64, job->steps, job->before);
     printf(", \"seconds\": %.6f", job->seconds);
+    print_number("padding", job->padding, NO_PADDING);
     if (marks)
         printf(", \"marks\": \"%016" PRIx64 "\"", job->marks_sum);
     printf("}\n");

@@ -4,7 +4,7 @@
 
 #include "job.h"
 
-/* One line: outcome, number, steps, seconds, name, and in words why it is not accepted. */
+/* One line: outcome, number, steps, seconds, name, padding if there is any, and in words why it is not accepted. */
 void print_line(const struct job *job, bool marks);
 
 /* The same as a JSON object on one line. */

@@ -81,7 +81,7 @@ const char *words_of_encoding(int32_t encoding)
 }
 
 /* Places of a state; a level has three numbers, and its second is 0 where there is none. */
-enum { LENGTH = 1, PHASE = 2, KIND = 3, LINK = 4, COUNT = 5, ENTRY = 9, LEVELS = 12, OF_A_LEVEL = 3 };
+enum { PHASE = 2, KIND = 3, LINK = 4, COUNT = 5, ENTRY = 9, LEVELS = 12, OF_A_LEVEL = 3 };
 
 /* Phases of a check. */
 enum { FRESH, SWEEP, START, VARIABLES, CHAIN, INDEX_ENTRY, ATTRIBUTES, ENTRIES, UNUSED };
@@ -99,7 +99,7 @@ static void words_of_index(const uint32_t *state, const char *variable, char *wo
         snprintf(words, room, "all bytes swept, in the index of %s %" PRIu32 ", level %d", variable, state[COUNT], level);
 }
 
-void words_of_state(const uint32_t *state, char *words, size_t room)
+void words_of_state(const uint32_t *state, size_t body, char *words, size_t room)
 {
     const char *variable = state[KIND] == 3 ? "rVariable" : "zVariable";
     const char *entry = state[KIND] == 5 ? "g/rEntries" : "zEntries";
@@ -109,7 +109,7 @@ void words_of_state(const uint32_t *state, char *words, size_t room)
         snprintf(words, room, "not opened");
         break;
     case SWEEP:
-        snprintf(words, room, "%" PRIu32 " of %" PRIu32 " bytes swept", state[LINK], state[LENGTH]);
+        snprintf(words, room, "%" PRIu32 " of %zu bytes swept", state[LINK], body);
         break;
     case VARIABLES:
         snprintf(words, room, "all bytes swept, %" PRIu32 " %ss claimed", state[COUNT], variable);

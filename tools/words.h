@@ -17,7 +17,7 @@ const char *words_of_type(int32_t type);
 /* An encoding's name, by its number in the file. */
 const char *words_of_encoding(int32_t encoding);
 
-/* Where a check stands, by the numbers of its state (docs/STATE.md). */
-void words_of_state(const uint32_t *state, char *words, size_t room);
+/* Where a check stands, by the numbers of its state (docs/STATE.md); the file's body has so many bytes. */
+void words_of_state(const uint32_t *state, size_t body, char *words, size_t room);
 
 #endif
