@@ -8,11 +8,11 @@
 
 #include <string.h>
 
-/* A swept file: its bytes, its marks and its length. */
+/* A swept file: its bytes, its marks and its end. */
 struct swept {
     const uint8_t *f;
     uint8_t *m;
-    int64_t length;
+    int64_t end;
     uint64_t steps;
 };
 
@@ -20,13 +20,13 @@ struct swept {
 static int32_t sweep(struct swept *s)
 {
     int64_t o = 8;
-    while (o != s->length) {
+    while (o != s->end) {
         s->steps++;
-        if (s->length - o < 8)
+        if (s->end - o < 8)
             return 7;
         int64_t size = field(s->f, o);
         int32_t type = field(s->f, o + 4);
-        if (size < 8 || size > s->length - o || type < -1 || type == 0 || type > 13)
+        if (size < 8 || size > s->end - o || type < -1 || type == 0 || type > 13)
             return 7;
         if (type >= 10)
             return 14;
@@ -40,7 +40,7 @@ static int32_t sweep(struct swept *s)
 /* A link to a record of a type: 8, 9, or 0. */
 static int32_t leads(const struct swept *s, int64_t o, int32_t type)
 {
-    if (o < 8 || o >= s->length || (s->m[o] != 1 && s->m[o] != 2) || field(s->f, o + 4) != type)
+    if (o < 8 || o >= s->end || (s->m[o] != 1 && s->m[o] != 2) || field(s->f, o + 4) != type)
         return 8;
     return s->m[o] == 1 ? 0 : 9;
 }
@@ -102,7 +102,7 @@ static int32_t walk_entries(struct swept *s, int64_t x, int64_t bytes, int32_t m
         int64_t first = field(f, at), last = field(f, at + 4 * l.entries), o = field(f, at + 8 * l.entries);
         if (first < from || last < first || last > l.to)
             return 12;
-        int32_t type = o < 8 || o >= s->length || (s->m[o] != 1 && s->m[o] != 2) ? 0 : field(f, o + 4);
+        int32_t type = o < 8 || o >= s->end || (s->m[o] != 1 && s->m[o] != 2) ? 0 : field(f, o + 4);
         if (type != VVR && type != VXR)
             return 8;
         int32_t number = type == VVR ? claim_values(s, o, 8 + (last - first + 1) * bytes) : claim_lower(s, o, depth + 1);
@@ -257,7 +257,7 @@ static int32_t walk_unused(struct swept *s, int64_t u)
 /* 13 if a record in use was not claimed, else 0. */
 static int32_t unclaimed(const struct swept *s)
 {
-    for (int64_t o = 8; o != s->length; o += field(s->f, o))
+    for (int64_t o = 8; o != s->end; o += field(s->f, o))
         if (o != 8 && s->m[o] != 2 && field(s->f, o + 4) != UIR)
             return 13;
     return 0;
@@ -284,10 +284,12 @@ static int32_t walk(struct swept *s)
 
 int32_t plain_check(const uint8_t *file, size_t file_len, uint8_t *marks, size_t marks_len, uint64_t *steps)
 {
-    struct swept s = { file, marks, (int64_t)file_len, 1 };
+    struct swept s = { file, marks, 0, 1 };
     int32_t number = opening(file, file_len, marks_len);
-    if (number == 0)
+    if (number == 0) {
+        s.end = end_of(file);
         number = sweep(&s);
+    }
     if (number == 0)
         number = walk(&s);
     *steps = s.steps;

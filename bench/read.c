@@ -3,17 +3,17 @@
 
 #include "rules.h"
 
-/* The way so far: the file, and how many more records may be met. */
+/* The way so far: the file, its length, its end once it is opened, and how many more records may be met. */
 struct way {
     const uint8_t *f;
-    int64_t length;
+    int64_t length, end;
     int64_t left;
 };
 
-/* A link lands on a record of a type inside the file, and one more record may be met. */
+/* A link lands on a record of a type before the file's end, and one more record may be met. */
 static int meets(struct way *w, int64_t o, int32_t type)
 {
-    if (w->left == 0 || o < 8 || o + 8 > w->length || field(w->f, o + 4) != type || o + field(w->f, o) > w->length)
+    if (w->left == 0 || o < 8 || o + 8 > w->end || field(w->f, o + 4) != type || o + field(w->f, o) > w->end)
         return 0;
     w->left--;
     return 1;
@@ -53,7 +53,7 @@ struct entry {
 /* An entry names an index record. */
 static int names_index(const struct way *w, int64_t o)
 {
-    return o >= 8 && o + 8 <= w->length && field(w->f, o + 4) == VXR;
+    return o >= 8 && o + 8 <= w->end && field(w->f, o + 4) == VXR;
 }
 
 /* Goes along an index chain to the entry that covers a record, and from there down: 0, 17 or 20. */
@@ -149,6 +149,7 @@ static int32_t to_record(struct way *w, int64_t kind, int64_t number, int64_t *r
 {
     if (opening(w->f, (size_t)w->length, (size_t)w->length) != 0)
         return 20;
+    w->end = end_of(w->f);
     if ((kind != RVDR && kind != ZVDR) || number < 0)
         return 15;
     int32_t answer = to_variable(w, (int32_t)kind, number, &v->vdr, &v->bytes);
@@ -166,7 +167,7 @@ int32_t plain_value(const uint8_t *file, size_t file_len, int64_t kind, int64_t 
                     const int64_t *indices, size_t index_count, int64_t element, uint64_t *value_kind, uint64_t *bits,
                     uint64_t *offset)
 {
-    struct way w = { file, (int64_t)file_len, (int64_t)(file_len / 8) - 2 };
+    struct way w = { file, (int64_t)file_len, 0, (int64_t)(file_len / 8) - 2 };
     struct variable v;
     struct entry e;
     int64_t start = 0;
@@ -188,7 +189,7 @@ int32_t plain_value(const uint8_t *file, size_t file_len, int64_t kind, int64_t 
 
 int32_t plain_levels(const uint8_t *file, size_t file_len, int64_t kind, int64_t number, int64_t record, int32_t *levels)
 {
-    struct way w = { file, (int64_t)file_len, (int64_t)(file_len / 8) - 2 };
+    struct way w = { file, (int64_t)file_len, 0, (int64_t)(file_len / 8) - 2 };
     struct variable v;
     struct entry e;
     int32_t answer = to_record(&w, kind, number, &record, &v, &e);

@@ -9,8 +9,8 @@ enum { CDR = 1, GDR, RVDR, ADR, GR_AEDR, VXR, VVR, ZVDR, Z_AEDR, UIR = -1 };
 
 static const int64_t GREATEST = 2147483647;
 
-/* The most levels of an index, its top chain included. */
-enum { LEVELS = 8 };
+/* The most levels of an index, its top chain included; the most bytes from a file's end to its length. */
+enum { LEVELS = 8, PADDING = 511 };
 
 static inline int32_t field(const uint8_t *f, int64_t o)
 {
@@ -53,11 +53,20 @@ static inline int gdr_right(const uint8_t *f, int64_t length)
     int64_t g = field(f, 16);
     if (g < 312 || g + 60 > length || field(f, g + 4) != GDR)
         return 0;
+    int64_t end = field(f, g + 20);
+    if (end > length || end < length - PADDING)
+        return 0;
     int32_t dimensions = field(f, g + 36);
-    if (dimensions < 0 || dimensions > 10 || field(f, g) != 60 + 4 * dimensions || g + 60 + 4 * dimensions > length)
+    if (dimensions < 0 || dimensions > 10 || field(f, g) != 60 + 4 * dimensions || g + 60 + 4 * dimensions > end)
         return 0;
     int counts = field(f, g + 24) >= 0 && field(f, g + 28) >= 0 && field(f, g + 40) >= 0;
-    return counts && field(f, g + 32) >= -1 && field(f, g + 20) == length && within(f, g + 60, dimensions, 1, INT32_MAX);
+    return counts && field(f, g + 32) >= -1 && within(f, g + 60, dimensions, 1, INT32_MAX);
+}
+
+/* The end of a file that opens: eof. What is behind it is padding. */
+static inline int64_t end_of(const uint8_t *f)
+{
+    return field(f, (int64_t)field(f, 16) + 20);
 }
 
 /* 1, 2, 3, 4, 5, 14, 6 in this order, or 0. */
