@@ -1,14 +1,13 @@
 /*
  * boundary ROUNDS FILE..: calls the library with heap buffers of exactly the lengths that it is told, to be run under a memory
- * checker. Fresh checks get marks that were never written; made-up states get made-up marks. Files are also damaged. Prints how
- * many grants were made; exits with 1 if an answer, the steps or a byte that must not change is wrong.
+ * checker. Fresh checks get marks that were never written; made-up states get made-up marks. Files are also damaged and padded;
+ * their padding was never written. Prints how many grants were made; exits with 1 if an answer, the steps or a byte that must
+ * not change is wrong.
  */
+#include "common.h"
 #include "tlepozaluh.h"
 
 #include <inttypes.h>
-#include <stdio.h>
-#include <stdlib.h>
-#include <string.h>
 
 /* How many bytes of marks are missing: 0, or 1 to see that the memory checker finds that. */
 #ifndef MISSING
@@ -23,40 +22,22 @@ struct lent {
     uint8_t *file, *marks;
     uint32_t *state;
     uint64_t *steps;
-    size_t length, marks_len, state_len;
+    size_t length, end, marks_len, state_len;
 };
 
-static uint64_t grants = 0, wrong = 0, seed = 88172645463325252;
+static uint64_t grants = 0, wrong = 0;
 
-static uint64_t any(uint64_t below)
-{
-    seed ^= seed << 13;
-    seed ^= seed >> 7;
-    seed ^= seed << 17;
-    return (seed >> 11) % below;
-}
-
-static void *exactly(size_t length)
-{
-    void *bytes = malloc(length);
-
-    if (bytes == NULL) {
-        fprintf(stderr, "no memory\n");
-        exit(2);
-    }
-    return bytes;
-}
-
+/* Buffers for a file; what is behind its end is not written. */
 static struct lent lend(const uint8_t *file, size_t length, size_t marks_len, size_t state_len)
 {
     size_t missing = marks_len > 0 ? MISSING : 0;
-    struct lent lent = { .length = length, .marks_len = marks_len, .state_len = state_len };
+    struct lent lent = { .length = length, .end = end_of(file, length), .marks_len = marks_len, .state_len = state_len };
 
     lent.file = exactly(length);
     lent.marks = exactly(marks_len - missing);
     lent.state = exactly(state_len * sizeof *lent.state);
     lent.steps = exactly(sizeof *lent.steps);
-    memcpy(lent.file, file, length);
+    memcpy(lent.file, file, lent.end);
     return lent;
 }
 
@@ -101,7 +82,7 @@ static void fresh_check(const uint8_t *file, size_t length, uint64_t most)
     while (answer == TLZ_RUNNING)
         answer = grant(&lent, 1 + any(most));
     expect(answer != TLZ_OTHER_FILE && answer != TLZ_BAD_STATE, "a fresh check's verdict");
-    expect(memcmp(lent.file, file, length) == 0, "the file was written");
+    expect(memcmp(lent.file, file, lent.end) == 0, "the file was written");
     give_back(&lent);
 }
 
@@ -190,22 +171,24 @@ static void make_up(uint32_t *state, size_t length)
         state[3] = any(2) ? 5 : 9;
 }
 
-/* A made-up state on made-up marks; marks 0 to 7 and those behind the file stay. */
+/* A made-up state on made-up marks; marks 0 to 7 and those from the file's end on stay, starts of records or not. */
 static void made_up(const uint8_t *file, size_t length)
 {
     struct lent lent = lend(file, length, length + 2, TLZ_STATE_LEN);
     int all_starts = any(2) == 0;
+    uint8_t outside = any(2) == 0 ? 1 : 0x55;
     int32_t answer = TLZ_RUNNING;
 
     for (size_t i = 0; i < length + 2; i++)
-        lent.marks[i] = i < 8 || i >= length ? 0x55 : all_starts ? 1 : (uint8_t)any(4);
+        lent.marks[i] = i < 8 || i >= lent.end ? outside : all_starts ? 1 : (uint8_t)any(4);
     make_up(lent.state, length);
     for (size_t most = 2 * length + 100; answer == TLZ_RUNNING && most > 0; most--)
         answer = grant(&lent, 1 + any(9));
     expect(answer != TLZ_RUNNING, "a made-up state goes on for ever");
     for (size_t i = 0; i < 8 && i < length; i++)
-        expect(lent.marks[i] == 0x55, "marks 0 to 7");
-    expect(lent.marks[length] == 0x55 && lent.marks[length + 1] == 0x55, "marks behind the file");
+        expect(lent.marks[i] == outside, "marks 0 to 7");
+    for (size_t i = lent.end; i < length + 2; i++)
+        expect(lent.marks[i] == outside, "marks from the file's end on");
     give_back(&lent);
 }
 
@@ -222,7 +205,7 @@ static void damage(uint8_t *file, size_t length)
 
 static void try_file(const uint8_t *bytes, size_t length, uint64_t rounds)
 {
-    uint8_t *copy = exactly(length);
+    uint8_t *copy = exactly(length + PADDING + 1);
 
     fresh_check(bytes, length, 1);
     fresh_check(bytes, length, 1000000);
@@ -230,10 +213,13 @@ static void try_file(const uint8_t *bytes, size_t length, uint64_t rounds)
     other_lengths(bytes, length);
     for (uint64_t i = 0; i < rounds; i++) {
         memcpy(copy, bytes, length);
-        damage(copy, length);
-        fresh_check(copy, length, 20);
-        made_up(any(2) ? bytes : copy, length);
-        fresh_check(bytes, any(length + 1), 20);
+        size_t padded = pad(copy, length);
+        fresh_check(copy, any(padded + 1), 20);
+        if (any(2) == 0)
+            damage(copy, padded);
+        made_up(copy, padded);
+        damage(copy, padded);
+        fresh_check(copy, padded, 20);
     }
     free(copy);
 }

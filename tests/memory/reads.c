@@ -1,15 +1,13 @@
 /*
  * reads ROUNDS FILE..: asks the reader with heap buffers of exactly the lengths that it is told, to be run under a memory
- * checker. Each file is asked as it is, damaged, and cut at any length; every call, with numbers that are there and that are
- * not. Prints how many questions were put and what came back; exits with 1 if an answer is wrong, a refusal changed a number
- * or a call was never made.
+ * checker. Each file is asked as it is, padded and damaged, and cut at any length; every call, with numbers that are there and
+ * that are not. The padding was never written. Prints how many questions were put and what came back; exits with 1 if an answer
+ * is wrong, a refusal changed a number or a call was never made.
  */
+#include "common.h"
 #include "tlepozaluh.h"
 
 #include <inttypes.h>
-#include <stdio.h>
-#include <stdlib.h>
-#include <string.h>
 
 /* How many bytes of the file are missing: 0, or 1 to see that the memory checker finds that. */
 #ifndef MISSING
@@ -21,32 +19,13 @@ enum { CALLS = 15, ANSWERS = 21, NUMBERS = 3, ROOM = 65536 };
 /* What a call may set, each number an allocation of its own; what they held before. */
 struct lent {
     const uint8_t *file;
-    size_t length;
+    size_t length, end;
     uint64_t *numbers[NUMBERS];
     int32_t *field;
 };
 
 static const uint64_t BEFORE = 0x5aa55aa50ff00ff0;
-static uint64_t calls[CALLS], answers[ANSWERS], wrong = 0, seed = 88172645463325252;
-
-static uint64_t any(uint64_t below)
-{
-    seed ^= seed << 13;
-    seed ^= seed >> 7;
-    seed ^= seed << 17;
-    return (seed >> 11) % below;
-}
-
-static void *exactly(size_t length)
-{
-    void *bytes = malloc(length);
-
-    if (bytes == NULL) {
-        fprintf(stderr, "no memory\n");
-        exit(2);
-    }
-    return bytes;
-}
+static uint64_t calls[CALLS], answers[ANSWERS], wrong = 0;
 
 /* Mostly a small number; else an edge. */
 static int64_t number(int64_t most)
@@ -145,7 +124,7 @@ static int32_t ask(const struct lent *l, uint64_t call)
     if (call < 11 || call == 13)
         return ask_attribute(l, call);
     if (call == 11)
-        return tlz_read_file(l->file, l->length, (uint64_t)number(6), l->field);
+        return tlz_read_file(l->file, l->length, (uint64_t)number(TLZ_FILE_PADDING + 1), l->field);
     return tlz_read_dimension(l->file, l->length, number(3), l->field);
 }
 
@@ -167,22 +146,34 @@ static void judge(const struct lent *l, uint64_t call, int32_t answer)
     expect(answer == 0 || (answer >= TLZ_NO_SUCH_OBJECT && answer <= TLZ_BAD_WAY), "answer", call);
     expect(answer == 0 || same, "a refusal changed a number", call);
     if (answer == 0 && (call == 5 || call == 10))
-        expect(*l->numbers[0] + *l->numbers[1] <= l->length && *l->numbers[1] <= 64, "a name outside the file", call);
+        expect(*l->numbers[0] + *l->numbers[1] <= l->end && *l->numbers[1] <= 64, "a name outside the body", call);
     if (answer == 0 && (call == 0 || call == 1 || call == 6 || call == 13))
-        expect(*l->numbers[0] <= TLZ_CHARACTER && *l->numbers[2] < l->length, "a value", call);
+        expect(*l->numbers[0] <= TLZ_CHARACTER && *l->numbers[2] < l->end, "a value", call);
     if (answer == 0 && call == 14)
         expect(*l->field >= 1 && *l->field <= 8, "levels", call);
     calls[call]++;
     answers[answer >= 0 && answer < ANSWERS ? answer : 1]++;
 }
 
+/* The padding of a file that opens is what is behind its end. */
+static void judge_padding(const struct lent *l)
+{
+    int32_t answer = tlz_read_file(l->file, l->length, TLZ_FILE_MAJORITY, l->field);
+
+    *l->field = (int32_t)BEFORE;
+    expect(tlz_read_file(l->file, l->length, TLZ_FILE_PADDING, l->field) == answer, "the padding's answer", CALLS);
+    expect(*l->field == (answer == 0 ? (int32_t)(l->length - l->end) : (int32_t)BEFORE), "the padding", CALLS);
+}
+
 /* So many questions to a file of this length, which is lent in a buffer of its own. */
 static void question(const uint8_t *bytes, size_t length, uint64_t count)
 {
-    uint8_t *file = exactly(length > MISSING ? length - MISSING : 0);
-    struct lent l = { .file = file, .length = length, .field = exactly(sizeof *l.field) };
+    size_t room = length > MISSING ? length - MISSING : 0, end = end_of(bytes, length), body = end < room ? end : room;
+    uint8_t *file = exactly(room);
+    struct lent l = { .file = file, .length = length, .end = end, .field = exactly(sizeof *l.field) };
 
-    memcpy(file, bytes, length > MISSING ? length - MISSING : 0);
+    memcpy(file, bytes, body);
+    judge_padding(&l);
     for (int i = 0; i < NUMBERS; i++)
         l.numbers[i] = exactly(sizeof **l.numbers);
     for (uint64_t i = 0; i < count; i++) {
@@ -192,7 +183,7 @@ static void question(const uint8_t *bytes, size_t length, uint64_t count)
             *l.numbers[k] = BEFORE;
         judge(&l, call, ask(&l, call));
     }
-    expect(memcmp(file, bytes, length > MISSING ? length - MISSING : 0) == 0, "the file was written", CALLS);
+    expect(memcmp(file, bytes, body) == 0, "the file was written", CALLS);
     for (int i = 0; i < NUMBERS; i++)
         free(l.numbers[i]);
     free(l.field);
@@ -210,27 +201,19 @@ static void damage(uint8_t *file, size_t length)
     }
 }
 
-/* A cut file whose GDR says its length, if the GDR is in it. */
-static void cut(uint8_t *file, size_t length)
-{
-    size_t gdr = length < 372 ? length : ((size_t)file[16] << 24 | (size_t)file[17] << 16 | (size_t)file[18] << 8 | file[19]);
-
-    for (int k = 0; k < 4 && gdr + 24 <= length; k++)
-        file[gdr + 20 + (size_t)k] = (uint8_t)(length >> (24 - 8 * k));
-}
-
 static void try_file(const uint8_t *bytes, size_t length, uint64_t rounds)
 {
-    uint8_t *copy = exactly(length);
+    uint8_t *copy = exactly(length + PADDING + 1);
 
     question(bytes, length, 200);
     for (uint64_t i = 0; i < rounds; i++) {
-        size_t shorter = any(length + 1);
+        size_t shorter = any(length + 1), padded = 0;
         memcpy(copy, bytes, length);
-        damage(copy, length);
-        question(copy, length, 20);
+        padded = pad(copy, length);
+        damage(copy, padded);
+        question(copy, padded, 20);
         memcpy(copy, bytes, length);
-        cut(copy, shorter);
+        set_eof(copy, shorter, shorter - any(shorter < PADDING ? 1 : PADDING));
         question(copy, shorter, 10);
     }
     free(copy);

@@ -1,4 +1,4 @@
-# What the tests of the programs share. Sourced; $tmp is a folder of their own.
+# What the tests of the programs share. Sourced; $tmp is a folder of their own, $samples that of the samples.
 # shellcheck shell=bash disable=SC2154
 passed=0
 failed=0
@@ -35,6 +35,19 @@ empty_err() { [ -z "$err" ]; }
 
 # json FIELD: the field's text in a single JSON line.
 json() { sed -n "s/.*\"$1\": \"\\{0,1\\}\\([^\",}]*\\).*/\\1/p" <<<"$out"; }
+
+# padded N [FILE [CODE]]: a file with so many bytes of this octal code behind its end, as $tmp/padded.cdf.
+padded() {
+    cp "${2:-$samples/02_h_le.cdf}" "$tmp/padded.cdf"
+    head -c "$1" /dev/zero | tr '\000' "\\${3:-007}" >>"$tmp/padded.cdf"
+}
+
+# field FILE OFFSET NUMBER: puts a field of 4 bytes.
+field() {
+    # shellcheck disable=SC2059
+    printf "$(printf '\\x%02x\\x%02x\\x%02x\\x%02x' $(($3 >> 24 & 255)) $(($3 >> 16 & 255)) $(($3 >> 8 & 255)) $(($3 & 255)))" |
+        dd of="$1" bs=1 seek="$2" conv=notrunc status=none
+}
 
 done_with() {
     printf '%d passed, %d failed\n' "$passed" "$failed"
