@@ -151,17 +151,17 @@ static void make_up_levels(uint32_t *state, size_t length)
     }
 }
 
-/* A state of a phase with the numbers that have no meaning there left 0, most of the time. */
-static void make_up(uint32_t *state, size_t length)
+/* A state of a phase with the numbers that have no meaning there left 0, most of the time; many are near `end`. */
+static void make_up(uint32_t *state, size_t length, size_t end)
 {
     static const uint16_t meant[] = { 0, 0x010, 0, 0x070, 0xdf0, 0xfe0, 0x030, 0x6b0, 0x110 };
     uint32_t phase = (uint32_t)any(9);
 
     memset(state, 0, TLZ_STATE_LEN * sizeof *state);
     for (int i = 0; i < PLAIN; i++)
-        state[i] = (meant[phase] >> i & 1) != 0 || any(100) == 0 ? made_up_number(length) : 0;
+        state[i] = (meant[phase] >> i & 1) != 0 || any(100) == 0 ? made_up_number(end) : 0;
     if (phase == 4 || phase == 5 || any(100) == 0)
-        make_up_levels(state, length);
+        make_up_levels(state, end);
     state[1] = phase == 0 ? 0 : (uint32_t)length;
     state[2] = phase;
     state[11] &= 1;
@@ -181,7 +181,7 @@ static void made_up(const uint8_t *file, size_t length)
 
     for (size_t i = 0; i < length + 2; i++)
         lent.marks[i] = i < 8 || i >= lent.end ? outside : all_starts ? 1 : (uint8_t)any(4);
-    make_up(lent.state, length);
+    make_up(lent.state, length, any(2) == 0 ? length : lent.end);
     for (size_t most = 2 * length + 100; answer == TLZ_RUNNING && most > 0; most--)
         answer = grant(&lent, 1 + any(9));
     expect(answer != TLZ_RUNNING, "a made-up state goes on for ever");
