@@ -171,7 +171,15 @@ static void make_up(uint32_t *state, size_t length, size_t end)
         state[3] = any(2) ? 5 : 9;
 }
 
-/* A made-up state on made-up marks; marks 0 to 7 and those from the file's end on stay, starts of records or not. */
+/* Marks 0 to 7 and those from the file's end on are as they were. */
+static void outside_stays(const struct lent *lent, uint8_t outside)
+{
+    for (size_t i = 0; i < lent->marks_len; i++)
+        if (i < 8 || i >= lent->end)
+            expect(lent->marks[i] == outside, i < 8 ? "marks 0 to 7" : "marks from the file's end on");
+}
+
+/* A made-up state on made-up marks; those outside the body look like starts of records, or not. */
 static void made_up(const uint8_t *file, size_t length)
 {
     struct lent lent = lend(file, length, length + 2, TLZ_STATE_LEN);
@@ -185,10 +193,7 @@ static void made_up(const uint8_t *file, size_t length)
     for (size_t most = 2 * length + 100; answer == TLZ_RUNNING && most > 0; most--)
         answer = grant(&lent, 1 + any(9));
     expect(answer != TLZ_RUNNING, "a made-up state goes on for ever");
-    for (size_t i = 0; i < 8 && i < length; i++)
-        expect(lent.marks[i] == outside, "marks 0 to 7");
-    for (size_t i = lent.end; i < length + 2; i++)
-        expect(lent.marks[i] == outside, "marks from the file's end on");
+    outside_stays(&lent, outside);
     give_back(&lent);
 }
 
