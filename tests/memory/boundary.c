@@ -1,8 +1,8 @@
 /*
  * boundary ROUNDS FILE..: calls the library with heap buffers of exactly the lengths that it is told, to be run under a memory
  * checker. Fresh checks get marks that were never written; made-up states get made-up marks. Files are also damaged and padded;
- * padding that may not be looked at was never written. Prints how many grants were made; exits with 1 if an answer, the steps or
- * a byte that must not change is wrong.
+ * their padding was never written. Prints how many grants were made; exits with 1 if an answer, the steps or a byte that must
+ * not change is wrong.
  */
 #include "common.h"
 #include "tlepozaluh.h"
@@ -27,7 +27,7 @@ struct lent {
 
 static uint64_t grants = 0, wrong = 0;
 
-/* Buffers for a file; of its bytes only those that may be looked at are written. */
+/* Buffers for a file; its padding is not written. */
 static struct lent lend(const uint8_t *file, size_t length, size_t marks_len, size_t state_len)
 {
     size_t missing = marks_len > 0 ? MISSING : 0;
@@ -37,7 +37,7 @@ static struct lent lend(const uint8_t *file, size_t length, size_t marks_len, si
     lent.marks = exactly(marks_len - missing);
     lent.state = exactly(state_len * sizeof *lent.state);
     lent.steps = exactly(sizeof *lent.steps);
-    memcpy(lent.file, file, looked_at(file, length));
+    memcpy(lent.file, file, lent.end);
     return lent;
 }
 

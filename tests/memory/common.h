@@ -49,14 +49,6 @@ static size_t end_of(const uint8_t *file, size_t length)
     return eof >= gdr + 60 && eof >= whole - PADDING && eof <= whole ? (size_t)eof : length;
 }
 
-/* Bytes that a call may look at: to the end; all if a GDR of ten dimensions would pass it, as the opening looks at their sizes. */
-static size_t looked_at(const uint8_t *file, size_t length)
-{
-    size_t end = end_of(file, length);
-
-    return end < length && control(file, 16) + 100 <= (int64_t)end ? end : length;
-}
-
 /* A file with a GDR gets this eof. */
 static void set_eof(uint8_t *file, size_t length, size_t eof)
 {

@@ -1,8 +1,8 @@
 /*
  * reads ROUNDS FILE..: asks the reader with heap buffers of exactly the lengths that it is told, to be run under a memory
  * checker. Each file is asked as it is, padded and damaged, and cut at any length; every call, with numbers that are there and
- * that are not. Padding that may not be looked at was never written. Prints how many questions were put and what came back;
- * exits with 1 if an answer is wrong, a refusal changed a number or a call was never made.
+ * that are not. The padding was never written. Prints how many questions were put and what came back; exits with 1 if an answer
+ * is wrong, a refusal changed a number or a call was never made.
  */
 #include "common.h"
 #include "tlepozaluh.h"
@@ -168,11 +168,11 @@ static void judge_padding(const struct lent *l)
 /* So many questions to a file of this length, which is lent in a buffer of its own. */
 static void question(const uint8_t *bytes, size_t length, uint64_t count)
 {
-    size_t room = length > MISSING ? length - MISSING : 0, most = looked_at(bytes, length), known = most < room ? most : room;
+    size_t room = length > MISSING ? length - MISSING : 0, end = end_of(bytes, length), body = end < room ? end : room;
     uint8_t *file = exactly(room);
-    struct lent l = { .file = file, .length = length, .end = end_of(bytes, length), .field = exactly(sizeof *l.field) };
+    struct lent l = { .file = file, .length = length, .end = end, .field = exactly(sizeof *l.field) };
 
-    memcpy(file, bytes, known);
+    memcpy(file, bytes, body);
     judge_padding(&l);
     for (int i = 0; i < NUMBERS; i++)
         l.numbers[i] = exactly(sizeof **l.numbers);
@@ -183,7 +183,7 @@ static void question(const uint8_t *bytes, size_t length, uint64_t count)
             *l.numbers[k] = BEFORE;
         judge(&l, call, ask(&l, call));
     }
-    expect(memcmp(file, bytes, known) == 0, "the file was written", CALLS);
+    expect(memcmp(file, bytes, body) == 0, "the file was written", CALLS);
     for (int i = 0; i < NUMBERS; i++)
         free(l.numbers[i]);
     free(l.field);
