@@ -10,8 +10,8 @@ use lib.Dec.{ltb, leb, eqb}
 use borrow.Author.Tests.{leb-true, ltb-false, eqb-true, le-leb, le-ltb, eq-eqb, ne-eqb}
 use Rattle.format.specs.Fields.{endOf}
 use Rattle.records.specs.Rules.{sizeAt}
-use Rattle.records.specs.Opening.{tooLong, opening, bodyOf}
-use Rattle.records.proofs.Bodies.{opening-passes, body-le}
+use Rattle.records.specs.Opening.{tooLong, bodyOf}
+use Rattle.records.proofs.Bodies.{both, opening-passes, body-le}
 use Rattle.marks.specs.Marks.{marked}
 use Rattle.walk.specs.Bounds.{VarKind, EntryKind, SmallVar, Within}
 use Rattle.walk.specs.Levels.{noLevels, roomBelow}
@@ -32,7 +32,7 @@ use Rattle.checker.specs.Grant.{otherFile, worked, grantBy, grantOf}
 use Rattle.checker.proofs.Placed.{NextPlaced, placed-turn}
 use Rattle.checker.proofs.Above.{Above, top-above, range-above, above-range, pushed-there, popped-there, levels-small}
 use Rattle.checker.proofs.Outcomes.{TurnGoes, Goes, step-by}
-use Rattle.checker.proofs.Passed.{both, opened, tiled, marked-length}
+use Rattle.checker.proofs.Passed.{opened, tiled, marked-length}
 use Rattle.checker.proofs.Runs.{run-none, run-over, run-keeps}
 use Rattle.checker.proofs.Loads.{load-save, length-save}
 use Rattle.checker.proofs.Cases.{Case, idles, refuses, works, case-of, right-length}

@@ -1,21 +1,21 @@
 -- THE PADDING CANNOT MATTER: grants on two files of one length and one body, with marks that agree up to its end. Assumes nothing.
 use mathlib.Core.Path.{_≡_, refl, sym, ap, _∙_}
-use mathlib.Core.Bool.{Bool, true, false, cond, not, and-false, _&&_, _||_}
+use mathlib.Core.Bool.{Bool, true, false, cond, and-false, _||_}
 use mathlib.Core.List.{List, [], _∷_, _++_}
 use mathlib.Core.Logic.{inl, inr}
 use Prim.Native.Nat.{ℕ, zero, suc, _+_, _≤_, _<_}
 use native.Mathlib.Omega.{arith}
-use lib.Dec.{ltb, leb, eqb}
-use lib.IntN.{pos, negsuc}
+use lib.Dec.{ltb, eqb}
+use lib.IntN.{pos}
 use lib.ListN.{length, getD, set, length-set, length-append}
 use lib.Seq.{getD-set-same, getD-set-other}
 use borrow.Author.Tests.{ltb-true, ltb-false, eqb-true, eqb-false}
 use Rattle.format.specs.Fields.{endOf}
-use Rattle.records.specs.Rules.{sizeAt, typedAt}
-use Rattle.records.specs.Opening.{tooLong, opening, fileEnd, bodyOf}
+use Rattle.records.specs.Rules.{sizeAt}
+use Rattle.records.specs.Opening.{tooLong, bodyOf}
 use Rattle.records.specs.Tiles.{tile}
 use Rattle.records.proofs.Bodies.{body-le, opening-same, padded-body}
-use Rattle.marks.specs.Marks.{marked, startAt, unclaimedAt, followedAt, leftFrom, leftOf}
+use Rattle.marks.specs.Marks.{marked, startAt, unclaimedAt, leftFrom, leftOf}
 use Rattle.walk.specs.Numbers.{first, unless}
 use Rattle.walk.specs.Levels.{pushed, popped}
 use Rattle.walk.specs.Walk.{turnOf}
@@ -31,7 +31,7 @@ use Rattle.checker.specs.Grant.{granted, otherFile, worked, grantBy, grantOf}
 use Rattle.checker.proofs.Outcomes.{link-passes}
 use Rattle.checker.proofs.Passed.{tiled, started, marked-length, marked-at, marked-in, marked-other}
 use Rattle.checker.proofs.Loads.{load-is}
-use Rattle.checker.proofs.Sound.{SoundBy, Sound, Own, Noted, sound-run, loaded-sound}
+use Rattle.checker.proofs.Sound.{SoundBy, Sound, Own, sound-run, loaded-sound}
 use Rattle.grants.specs.Promises.{Alike, PaddingIdle}
 
 -- ---- marks that agree below e

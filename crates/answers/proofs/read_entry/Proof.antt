@@ -2,7 +2,7 @@ use Rattle.answers.proofs.Asked.{in-entry, entry-found, entry-stopped}
 use mir.Facts.{toZ-ofZ}
 use mir.Syntax.{w64}
 use native.Mathlib.Omega.{arith}
-use mathlib.Core.Path.{_≡_, sym, _∙_}
+use mathlib.Core.Path.{sym, _∙_}
 use borrow.Author.Needs.{needs}
 use Rattle.answers.proofs.read_entry.Statement.{statement}
 use Rattle.answers.proofs.read_entry.Tie as tie

@@ -4,7 +4,7 @@ use Rattle.answers.proofs.Fitting.{variable-fits}
 use Rattle.answers.specs.Bounds.{Fits}
 use mir.Facts.{toZ-ofZ}
 use mir.Syntax.{w64}
-use mathlib.Core.Path.{_≡_, sym, _∙_, subst}
+use mathlib.Core.Path.{sym, _∙_, subst}
 use borrow.Author.Needs.{needs}
 use Rattle.answers.proofs.read_pad.Statement.{statement}
 use Rattle.answers.proofs.read_pad.Tie as tie

@@ -2,7 +2,7 @@ use Rattle.ways.proofs.Found.{found-right}
 use Rattle.descriptors.proofs.Inside.{dimensions-are, dimensions-lie, dimensions-unknown}
 use mir.Facts.{toZ-ofZ}
 use mir.Syntax.{w64}
-use mathlib.Core.Path.{_≡_, sym, _∙_}
+use mathlib.Core.Path.{sym, _∙_}
 use borrow.Author.Needs.{needs}
 use Rattle.descriptors.proofs.dimensions_of.Statement.{statement}
 use Rattle.descriptors.proofs.dimensions_of.Tie as tie

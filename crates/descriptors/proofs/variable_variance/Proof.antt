@@ -3,7 +3,7 @@ use Rattle.descriptors.specs.Bounds.{Lie}
 use mir.Facts.{toZ-ofZ}
 use mir.Syntax.{w64}
 use native.Mathlib.Omega.{arith}
-use mathlib.Core.Path.{_≡_, sym, _∙_, subst}
+use mathlib.Core.Path.{sym, _∙_, subst}
 use borrow.Author.Needs.{needs}
 use Rattle.descriptors.proofs.variable_variance.Statement.{statement}
 use Rattle.descriptors.proofs.variable_variance.Tie as tie
