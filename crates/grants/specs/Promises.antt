@@ -126,8 +126,8 @@ pub record Alike (e : ℕ) (r s : Granted) : Type 0 where
   pub marks : (i : ℕ) → i < e → getD (r .marks) i 0 ≡ getD (s .marks) i 0
 
 -- THE PADDING CANNOT MATTER: behind the bytes b, whose eof is their number, stand p or as many others q, up to 511. With marks of one number
--- that agree below eof every grant is the same on any state whatever, made up or not, and so is every list of grants: "Bytes and marks from
--- eof on are neither judged nor written"
+-- that agree below eof every grant is the same on any state whatever, made up or not; and so is a list of grants, which is one (`single`).
+-- "Bytes and marks from eof on are neither judged nor written"
 abbrev pub PaddingIdle : Type 0
 PaddingIdle =
     (b p q m o l : List ℕ) (n : ℕ)
