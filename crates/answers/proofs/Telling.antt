@@ -17,7 +17,7 @@ use Rattle.values.specs.declared.value.Answer.{Answer}
 use Rattle.values.specs.declared.value.Decoded.{Decoded}
 use Rattle.values.specs.declared.value.Decoded.the-variants.{Given, Vax, Nothing}
 use Rattle.values.proofs.Places.{lies}
-use Rattle.records.proofs.Bodies.{both}
+use Rattle.format.proofs.Tests.{both}
 use Rattle.answers.specs.Answers.{answered, encodingAt, elementThere, elementRead}
 use Rattle.answers.specs.declared.Read.{Read}
 use Rattle.answers.specs.declared.Read.the-variants.{Value, Refused}

@@ -14,7 +14,7 @@ use Rattle.walk.specs.declared.places.Levels.{Levels}
 use Rattle.walk.specs.declared.places.Walk as W
 use Rattle.walk.specs.declared.places.Walk.the-variants.{Start, Vars, Chain, Entry, Attrs, Entries, Unused}
 use Rattle.checker.specs.Saved.{offsetRange, countRange, levelThere, noneThere, levelList, noneOf, levelsStand, levelsRange}
-use Rattle.records.proofs.Bodies.{both}
+use Rattle.format.proofs.Tests.{both}
 use Rattle.checker.proofs.Placed.{Placed}
 
 -- ---- tested from the last level up

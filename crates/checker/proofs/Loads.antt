@@ -18,7 +18,7 @@ use Rattle.checker.specs.Step.{done, answerOf}
 use Rattle.checker.specs.Saved.{stateLength, saveStage, levelsIn, saveLevels, saveNumbers, save}
 use Rattle.checker.specs.Saved.{stageRange, stageBy, sameNumbers, checked, verdictRange, load}
 use Rattle.checker.proofs.Outcomes.{at}
-use Rattle.records.proofs.Bodies.{both}
+use Rattle.format.proofs.Tests.{both}
 use Rattle.checker.specs.Ready.{Told, Loaded}
 
 -- ---- what a load makes of any numbers

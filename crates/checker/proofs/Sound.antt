@@ -11,7 +11,8 @@ use borrow.Author.Tests.{leb-true, ltb-false, eqb-true, le-leb, le-ltb, eq-eqb, 
 use Rattle.format.specs.Fields.{endOf}
 use Rattle.records.specs.Rules.{sizeAt}
 use Rattle.records.specs.Opening.{tooLong, bodyOf}
-use Rattle.records.proofs.Bodies.{both, opening-passes, body-le}
+use Rattle.format.proofs.Tests.{both}
+use Rattle.records.proofs.Bodies.{opening-passes, body-le}
 use Rattle.marks.specs.Marks.{marked}
 use Rattle.walk.specs.Bounds.{VarKind, EntryKind, SmallVar, Within}
 use Rattle.walk.specs.Levels.{noLevels, roomBelow}

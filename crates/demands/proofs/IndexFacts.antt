@@ -23,7 +23,7 @@ use Rattle.walk.specs.Walk.{fieldNumber, chainTally, covers, valuesNumber, lowe
 use Rattle.walk.specs.Levels.{mostOf}
 use Rattle.demands.specs.Acceptance.{_∈_, Each, Consecutive, lastOr0, indexOffsets, ValuesRight, RangeRight, EntryRight, IndexRight}
 use Rattle.walk.proofs.Closed.{cond-keeps, unless-zero, nat-small}
-use Rattle.records.proofs.Bodies.{both}
+use Rattle.format.proofs.Tests.{both}
 use Rattle.demands.proofs.Laws.{first-two}
 use Rattle.demands.proofs.Records.{Reach, reach-makes, Stands, stands-reach, stands-begins, stands-nonzero, judged-reads, judged-makes, type-reads, type-makes, field-reads, field-makes, vxr-size, VdrParts, values-read, vdr-bytes}
 use Rattle.demands.proofs.Turns.{Listed}

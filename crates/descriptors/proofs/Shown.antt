@@ -10,7 +10,7 @@ use borrow.Author.Tests.{leb-true, eqb-true, ltb-true}
 use Rattle.format.specs.Fields.{natOr}
 use Rattle.ways.specs.Lists.{isEntryKind}
 use Rattle.variables.specs.Place.{indexRight}
-use Rattle.variables.proofs.Bound.{both-left, both-right}
+use Rattle.format.proofs.Tests.{both}
 use Rattle.descriptors.specs.Descriptors.{among, attributeFields, entryFields, variableFields, isShown}
 use Rattle.descriptors.specs.Bounds.{fieldBytes}
 
@@ -30,7 +30,7 @@ allWithin n (y ∷ ys) = leb (y + 4) n && allWithin n ys
 among-within : (n : ℕ) (ys : List ℕ) (x : ℕ) → allWithin n ys ≡ true → among ys x ≡ true → x + 4 ≤ n
 among-within n [] x a e = absurd (true≢false (sym e))
 among-within n (y ∷ ys) x a e =
-    here (eqb x y) (leb-true (y + 4) n (both-left (leb (y + 4) n) (allWithin n ys) a)) (eqb-true x y) (among-within n ys x (both-right (leb (y + 4) n) (allWithin n ys) a)) e
+    here (eqb x y) (leb-true (y + 4) n (both (leb (y + 4) n) (allWithin n ys) a .0)) (eqb-true x y) (among-within n ys x (both (leb (y + 4) n) (allWithin n ys) a .1)) e
   where
     here : (b : Bool) → y + 4 ≤ n → (b ≡ true → x ≡ y) → (among ys x ≡ true → x + 4 ≤ n) → (b || among ys x) ≡ true → x + 4 ≤ n
     here true l q h e = omega (arith, q refl)
@@ -57,5 +57,5 @@ shown-within t x e = go (eqb t 4) (isEntryKind t) e
 
 -- an index that is right, as a natural number
 pub index-below : (d : ℤ) (n : ℕ) → indexRight d n ≡ true → natOr 0 d + 1 ≤ n
-index-below (pos d) n e = omega (arith, ltb-true d n (both-right (leb 0 d) (ltb d n) e))
+index-below (pos d) n e = omega (arith, ltb-true d n (both (leb 0 d) (ltb d n) e .1))
 index-below (negsuc d) n e = absurd (true≢false (sym e))

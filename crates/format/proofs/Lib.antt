@@ -4,3 +4,4 @@ pub mod SignedTests
 pub mod Table
 pub mod Each
 pub mod Agree
+pub mod Tests

@@ -27,7 +27,7 @@ use Rattle.demands.specs.Acceptance.{_∈_, IndexRight}
 use Rattle.promised_reads.specs.Reading.{CoveredBy, questionRight, ValueShown, NoneCovers, CoversOnce, CoveredOnce, RecordsThere, vaxFloat}
 use Rattle.demands.proofs.NestedDemand.{NestedAccepted}
 use Rattle.demands.proofs.IndexFacts.{index-reads}
-use Rattle.records.proofs.Bodies.{both}
+use Rattle.format.proofs.Tests.{both}
 use Rattle.ways.proofs.Sought.{found-not-stopped, found-same}
 use Rattle.answers.proofs.Telling.{Tells, given-plain}
 use Rattle.promised_reads.proofs.Shown.{value-tells}

@@ -15,7 +15,7 @@ use Rattle.records.specs.Tree.{Slot, slotsFrom, slotsOf, firstOf, lastOf, named
 use Rattle.records.specs.declared.index.Entry.{Entry}
 use Rattle.records.proofs.Ranges.{entry-is, entry-reads}
 use Rattle.ways.specs.Indexes.{entryCovers, indexMet, lowerMet, recordRead}
-use Rattle.records.proofs.Bodies.{both}
+use Rattle.format.proofs.Tests.{both}
 use Rattle.ways.proofs.Sought.{nth}
 use Rattle.ways.proofs.Chains.{Scanned, Under, ToLowest}
 use Rattle.demands.specs.Acceptance.{_∈_}

@@ -19,7 +19,7 @@ use Rattle.answers.specs.declared.Read.the-variants.{Value, Refused}
 use Rattle.demands.specs.Acceptance.{Each, Linked}
 use Rattle.promised_reads.specs.Reading.{Met, EntryShown, attributeThere, vaxFloat, padRight, NoEntry, NoEntryNumber, ElementsRefused, EntryRefused, GivenOrRefused}
 use Rattle.demands.proofs.NestedDemand.{NestedAccepted}
-use Rattle.records.proofs.Bodies.{both}
+use Rattle.format.proofs.Tests.{both}
 use Rattle.ways.proofs.Sought.{Finds, found-not-stopped, found-same, Listed, place-listed}
 use Rattle.answers.proofs.Telling.{Tells}
 use Rattle.answers.proofs.Asked.{entry-stopped}

@@ -32,7 +32,7 @@ use Rattle.ways.specs.declared.indexes.Levels.{Levels}
 use Rattle.ways.specs.declared.indexes.Levels.the-variants.{Are, Unknown}
 use Rattle.demands.specs.Acceptance.{_∈_, indexOffsets, EntryRight}
 use Rattle.promised_reads.specs.Reading.{CoveredBy, NoneCovers}
-use Rattle.records.proofs.Bodies.{both}
+use Rattle.format.proofs.Tests.{both}
 use Rattle.ways.proofs.Kept.{Lies, lies-lands}
 use Rattle.demands.proofs.Records.{Stands, stands-begins, type-reads, values-read, VdrParts}
 use Rattle.demands.proofs.Laws.{first-two}

@@ -44,7 +44,8 @@ use Rattle.variables.proofs.Bound.{place-below}
 use Rattle.variables.proofs.Right.{right, fields-right, variable-is, place-is}
 use Rattle.demands.proofs.Records.{judged-reads}
 use Rattle.demands.proofs.VariableFacts.{z-layout, r-layout, exact-size}
-use Rattle.records.proofs.Bodies.{both, opening-passes, opening-body}
+use Rattle.format.proofs.Tests.{both}
+use Rattle.records.proofs.Bodies.{opening-passes, opening-body}
 use Rattle.ways.proofs.Opening.{opened-parts}
 use Rattle.ways.proofs.Kept.{Lies, lands-lies, meets-parts, variable-kept, entry-kept}
 use Rattle.ways.proofs.Sought.{nth, first-met, listed-met, Finds, InOpened, ToVariable, variable-found, ToEntry, entry-found}

@@ -1,8 +1,8 @@
 -- The opening of a file and what lies before its end. Assumes nothing.
 use mathlib.Core.Path.{_≡_, refl, sym, ap, _∙_}
-use mathlib.Core.Bool.{Bool, true, false, cond, _&&_, true≢false}
+use mathlib.Core.Bool.{Bool, true, false, cond, _&&_}
 use mathlib.Core.List.{List, _++_}
-use Prim.Native.Nat.{ℕ, suc, _+_, _*_, _≤_}
+use Prim.Native.Nat.{ℕ, _+_, _*_, _≤_}
 use native.Mathlib.Omega.{arith}
 use lib.Dec.{leb, eqb}
 use lib.IntN.{pos, negsuc}
@@ -10,22 +10,10 @@ use lib.ListN.{length, take, length-append}
 use lib.Seq.{length-take-le, take-length, take-append-seam, take-take}
 use borrow.Author.Tests.{leb-true, eqb-true, le-leb}
 use Rattle.format.specs.Fields.{endOf, isAt, atLeast, atMost, eachWithin, natAt, linkAt, bitAt}
+use Rattle.format.proofs.Tests.{both, cond-left, cond-right}
 use Rattle.format.proofs.Agree.{same-big, same-field, same-each}
 use Rattle.records.specs.Rules.{sizeAt, typedAt}
 use Rattle.records.specs.Opening.{magicsRight, whollyCompressed, cdrRight, singleFile, gdrAt, eofOf, eofRight, gdrFields, rNumDims, gdrRight, opening, fileEnd, bodyOf, Unpadded}
-
-pub both : (a b : Bool) → (a && b) ≡ true → (a ≡ true) × (b ≡ true)
-both true b e = (refl, e)
-both false b e = absurd (true≢false (sym e))
-
--- a number that is 0 comes from the branch that is not a refusal
-kept : (b : Bool) (v w : ℕ) → cond b w (suc v) ≡ 0 → (b ≡ true) × (w ≡ 0)
-kept true v w e = (refl, e)
-kept false v w e = absurd (omega arith)
-
-passed : (b : Bool) (v w : ℕ) → cond b (suc v) w ≡ 0 → (b ≡ false) × (w ≡ 0)
-passed true v w e = absurd (omega arith)
-passed false v w e = (refl, e)
 
 -- ---- what an opening lets pass
 module _ (f : List ℕ) where
@@ -43,18 +31,18 @@ module _ (f : List ℕ) where
       let gdr : ℕ = cond (gdrRight f (gdrAt f)) 0 6 in
       let one : ℕ = cond (singleFile f) gdr 14 in
       let cdr : ℕ = cond (cdrRight f) one 5 in
-      let a = kept (leb 372 (length f) && magicsRight f) 2 (cond (whollyCompressed f) 4 cdr) e in
+      let a = cond-left (leb 372 (length f) && magicsRight f) 2 (cond (whollyCompressed f) 4 cdr) e in
       let w = both (leb 372 (length f)) (magicsRight f) (a .0) in
-      let b = passed (whollyCompressed f) 3 cdr (a .1) in
-      let c = kept (cdrRight f) 4 one (b .1) in
-      let d = kept (singleFile f) 13 gdr (c .1) in
+      let b = cond-right (whollyCompressed f) 3 cdr (a .1) in
+      let c = cond-left (cdrRight f) 4 one (b .1) in
+      let d = cond-left (singleFile f) 13 gdr (c .1) in
       record {
         least = leb-true 372 (length f) (w .0);
         magics = w .1;
         uncompressed = b .0;
         cdr = c .0;
         single = d .0;
-        gdr = kept (gdrRight f (gdrAt f)) 5 0 (d .1) .0;
+        gdr = cond-left (gdrRight f (gdrAt f)) 5 0 (d .1) .0;
       }
 
   pub passes-opening : Passes → opening f ≡ 0
@@ -143,13 +131,6 @@ module _ (f : List ℕ) where
   last-byte e = rw e
 
   -- or with its last byte
-  pub ends-with : (AtEof → ⊥) → fileEnd f ≡ length f
-  ends-with never = go goesBy refl
-    where
-      go : (b : Bool) → goesBy ≡ b → fileEnd f ≡ length f
-      go true e = absurd (never (at-eof e))
-      go false e = last-byte e
-
   pub record Ends (Fact : Type 0) : Type 0 where
     pub by-eof : AtEof → Fact
     pub by-last : fileEnd f ≡ length f → Fact
@@ -160,6 +141,9 @@ module _ (f : List ℕ) where
       go : (b : Bool) → goesBy ≡ b → Fact
       go true e = h .by-eof (at-eof e)
       go false e = h .by-last (last-byte e)
+
+  pub ends-with : (AtEof → ⊥) → fileEnd f ≡ length f
+  ends-with never = by-end (record { by-eof = λ a. absurd (never a); by-last = λ e. e })
 
   pub end-le : fileEnd f ≤ length f
   end-le = by-end (record { by-eof = λ a. rw (ends-at a) (a .within); by-last = λ e. rw e (omega arith) })
@@ -315,17 +299,18 @@ module _ (f g : List ℕ) (long : length f ≡ length g) (same : bodyOf f ≡ bo
         same-rule e f g parts (a .gdr) a b (omega (arith, eofs)),
       )
 
-  padded-same : fileEnd f ≡ length f → f ≡ g
-  padded-same e = sym (whole f e) ∙ same ∙ whole g (sym same-end ∙ e ∙ long)
+  -- without padding they are one
+  unpadded-same : fileEnd f ≡ length f → f ≡ g
+  unpadded-same e = sym (whole f e) ∙ same ∙ whole g (sym same-end ∙ e ∙ long)
 
   pub opening-same : opening f ≡ opening g
   opening-same =
       by-end f (record {
         by-eof = λ a. by-end g (record {
           by-eof = λ b. by-eof a b;
-          by-last = λ e. ap opening (padded-same (same-end ∙ e ∙ sym long));
+          by-last = λ e. ap opening (unpadded-same (same-end ∙ e ∙ sym long));
         });
-        by-last = λ e. ap opening (padded-same e);
+        by-last = λ e. ap opening (unpadded-same e);
       })
 
 -- ---- the bytes p behind the file b, which has no padding

@@ -1,6 +1,6 @@
 -- The place of right indices lies below the number of values that the varying dimensions make. Assumes nothing.
 use mathlib.Core.Path.{_≡_, refl, sym}
-use mathlib.Core.Bool.{Bool, true, false, cond, _&&_, true≢false}
+use mathlib.Core.Bool.{Bool, true, false, cond, true≢false}
 use mathlib.Core.List.{List}
 use Prim.Native.Nat.{ℕ, zero, suc, _+_, _-_, _*_, _≤_, _<_}
 use native.Mathlib.Nat.{mul-one, mul-zero, mul-le-mul-right, suc-mul, add-zero}
@@ -11,6 +11,7 @@ use lib.ListN.{getD}
 use lib.IntN.{ℤ, pos, negsuc}
 use lib.Signed.{leZ, ltZ}
 use Rattle.format.specs.Fields.{natOr}
+use Rattle.format.proofs.Tests.{both}
 use Rattle.variables.specs.declared.vdr.Layout.{Layout}
 use Rattle.variables.specs.Limit.{capped}
 use Rattle.variables.specs.Vdr.{factorOf, spread}
@@ -18,16 +19,8 @@ use Rattle.variables.specs.Place.{slower, moved, placeAfter, sizeOf, var
 use Rattle.variables.proofs.Capped.{capped-small}
 use Rattle.variables.proofs.Product.{product, product-same, product-first, product-back}
 
-pub both-left : (a b : Bool) → (a && b) ≡ true → a ≡ true
-both-left true b e = refl
-both-left false b e = e
-
-pub both-right : (a b : Bool) → (a && b) ≡ true → b ≡ true
-both-right true b e = e
-both-right false b e = absurd (true≢false (sym e))
-
 index-in : (i : ℤ) (size : ℕ) → indexRight i size ≡ true → natOr 0 i < size
-index-in (pos a) size e = ltb-true a size (both-right (leZ (pos 0) (pos a)) (ltZ (pos a) (pos size)) e)
+index-in (pos a) size e = ltb-true a size (both (leZ (pos 0) (pos a)) (ltZ (pos a) (pos size)) e .1)
 index-in (negsuc a) size e = absurd (true≢false (sym e))
 
 -- each of n right indices is below its dimension's size
@@ -35,8 +28,8 @@ pub index-below : (f : List ℕ) (p : ℕ) (is : List ℤ) (n : ℕ) → indices
 unfolding indicesRight
 index-below f p is zero e d h = absurd (omega arith)
 index-below f p is (suc n) e d h =
-    let here = index-in (getD is n (pos 0)) (sizeOf f p n) (both-right (indicesRight f p is n) (indexRight (getD is n (pos 0)) (sizeOf f p n)) e) in
-    let rest = index-below f p is n (both-left (indicesRight f p is n) (indexRight (getD is n (pos 0)) (sizeOf f p n)) e) in
+    let here = index-in (getD is n (pos 0)) (sizeOf f p n) (both (indicesRight f p is n) (indexRight (getD is n (pos 0)) (sizeOf f p n)) e .1) in
+    let rest = index-below f p is n (both (indicesRight f p is n) (indexRight (getD is n (pos 0)) (sizeOf f p n)) e .0) in
     below-more (λ k. indexOf is k < sizeOf f p k) n rest here d (omega arith)
 
 moved-below : (varies : Bool) (size index place count : ℕ) → place < count → index < size → moved varies size index place < count * cond varies size 1

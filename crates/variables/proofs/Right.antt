@@ -18,7 +18,8 @@ use Rattle.variables.specs.declared.vdr.Variable.{Variable}
 use Rattle.variables.specs.Limit.{capped}
 use Rattle.variables.specs.Vdr.{headOf, vdrFields, countPlace, countRight, layoutAt, layoutOf, valueBytes, sizeExact, dimensionsRight, spread, recordBytes, vdrFault, dimensioned, variableOf}
 use Rattle.variables.specs.Place.{elementPlace, indicesRight}
-use Rattle.variables.proofs.Bound.{both-left, both-right, place-exact}
+use Rattle.format.proofs.Tests.{both}
+use Rattle.variables.proofs.Bound.{place-exact}
 
 -- a test whose one answer is a fault, where there is none
 held : (b : Bool) (x : Variable) (n : ℕ) → cond b x (vdrFault (suc n)) .fault ≡ 0 → b ≡ true
@@ -72,9 +73,9 @@ at-least-one (negsuc n) e = absurd (true≢false (sym e))
 -- the first and the last but one of seven rules
 rules : (a b c d e g h : Bool) → (a && b && c && d && e && g && h) ≡ true → (a ≡ true) × (g ≡ true)
 rules a b c d e g h t =
-    let six = both-left (a && b && c && d && e && g) h t in
-    let four = both-left (a && b && c && d) e (both-left (a && b && c && d && e) g six) in
-    (both-left a b (both-left (a && b) c (both-left (a && b && c) d four)), both-right (a && b && c && d && e) g six)
+    let six = both (a && b && c && d && e && g) h t .0 in
+    let four = both (a && b && c && d) e (both (a && b && c && d && e) g six .0) .0 in
+    (both a b (both (a && b) c (both (a && b && c) d four .0) .0) .0, both (a && b && c && d && e) g six .1)
 
 module _ (f : List ℕ) (o : ℕ) where
   -- a value has a byte or more

@@ -10,7 +10,7 @@ use borrow.Author.Tests.{eqb-true}
 use Rattle.format.specs.Fields.{linkAt}
 use Rattle.records.specs.Index.{usedAt, indexAt, noLimit, entryOf, vvrRule}
 use Rattle.records.specs.Tree.{levelsBelow}
-use Rattle.records.proofs.Bodies.{both}
+use Rattle.format.proofs.Tests.{both}
 use Rattle.records.specs.declared.index.Entry.{Entry}
 use Rattle.ways.specs.Lists.{landsOn}
 use Rattle.ways.specs.Indexes.{entryCovers, scanned, indexMet, lowerMet, lowerScan, afterLower, lowered, lowestOf, afterScan, lastIndex, indexed, valuesMet, recordPlace, valuesOf, looked, recordThere, recordRead, lookedUp, recordWay, levelsFrom, levelsTold, levelsOf, levelsLooked, levelsWay}

@@ -9,7 +9,7 @@ use borrow.Author.Tests.{eq-eqb, ne-eqb, leb-true}
 use lib.Dec.{leb, eqb}
 use Rattle.records.specs.Index.{entryOf, Bounds}
 use Rattle.records.specs.declared.index.Entry.{Entry}
-use Rattle.variables.proofs.Bound.{both-left, both-right}
+use Rattle.format.proofs.Tests.{both}
 use Rattle.ways.specs.declared.indexes.Scan.{Scan}
 use Rattle.ways.specs.declared.indexes.Scan.the-variants.{Covering, Passed, Broken}
 use Rattle.ways.specs.Indexes.{entryCovers, EntryFits, scanned}
@@ -18,8 +18,8 @@ use Rattle.ways.specs.Indexes.{entryCovers, EntryFits, scanned}
 pub covering-fits : (f : List ℕ) (x r : ℕ) (e : Entry) → Bounds f x e → entryCovers e r ≡ true → EntryFits r e
 covering-fits f x r e b c =
     record {
-      first = leb-true (e .first) r (both-left (leb (e .first) r) (leb r (e .last)) c);
-      last = leb-true r (e .last) (both-right (leb (e .first) r) (leb r (e .last)) c);
+      first = leb-true (e .first) r (both (leb (e .first) r) (leb r (e .last)) c .0);
+      last = leb-true r (e .last) (both (leb (e .first) r) (leb r (e .last)) c .1);
       small = b .small;
       link = b .link;
     }
