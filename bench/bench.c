@@ -1,21 +1,21 @@
 /*
  * Times the proved check and reader against the same in plain C, in one run and on the same buffers.
  *
- *     bench            builds large files and prints median times and their ratio, proved / C; then how the time grows
+ *     bench            builds large files and prints median times and their ratio, proved / C; then the clearing of marks by
+ *                      itself, and how the time grows
  *     bench FILE..     no times: compares verdict, steps and marks, and the answers to many reads, on each file
  */
-#define _POSIX_C_SOURCE 200809L
-
 #include "check.h"
+#include "clearing.h"
 #include "files.h"
 #include "read.h"
+#include "times.h"
 #include "tlepozaluh.h"
 
 #include <inttypes.h>
 #include <stdio.h>
 #include <stdlib.h>
 #include <string.h>
-#include <time.h>
 
 enum { REPEATS = 15 };
 
@@ -42,25 +42,6 @@ static int32_t agreed(const struct file *file, const char *name)
     free(marks);
     free(other);
     return same ? verdict : -1;
-}
-
-static double now(void)
-{
-    struct timespec t;
-    clock_gettime(CLOCK_PROCESS_CPUTIME_ID, &t);
-    return (double)t.tv_sec + (double)t.tv_nsec / 1e9;
-}
-
-static int by_size(const void *a, const void *b)
-{
-    double x = *(const double *)a, y = *(const double *)b;
-    return (x > y) - (x < y);
-}
-
-static double median(double *times, int count)
-{
-    qsort(times, (size_t)count, sizeof *times, by_size);
-    return times[count / 2];
 }
 
 /* Times the two in turn on buffers that were written before, and a memset of the marks. */
@@ -285,6 +266,7 @@ int main(int count, char **names)
     timed_reads("every value of 1,000,000 records", records(1000000), 1000000, REPEATS, proved_records, plain_records);
     timed_reads("one value of each of 20,000 zVariables", variables(20000), 20000, 1, proved_variables, plain_variables);
     timed_reads("single reads through eight levels", tree(8, 4, 4), 65536, REPEATS, proved_places, plain_places);
+    clearing();
     growth();
     return 0;
 }

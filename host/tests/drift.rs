@@ -55,11 +55,15 @@ fn rattle_files(folder: &Path) -> Vec<PathBuf> {
     found
 }
 
-/// All sources of crates/*/src in one text.
+/// The crate whose call is for the benchmark alone and in no library.
+const OF_BENCHMARK: &str = "clearing";
+
+/// All sources of crates/*/src that the libraries are made of, in one text.
 fn sources() -> String {
     let crates = read_dir(project().join("crates")).expect("crates");
-    let folders = crates.map(|entry| entry.expect("a crate").path().join("src"));
-    let folders = folders.filter(|folder| folder.is_dir());
+    let folders = crates.map(|entry| entry.expect("a crate").path());
+    let folders = folders.filter(|folder| !folder.ends_with(OF_BENCHMARK));
+    let folders = folders.map(|folder| folder.join("src")).filter(|folder| folder.is_dir());
     let files = folders.flat_map(|folder| rattle_files(&folder));
     files.map(|file| read_to_string(file).expect("a source") + "\n").collect()
 }

@@ -1,30 +1,77 @@
 // Marks: what the sweep writes, and what the walk's last step looks at.
 ghost use mathlib.Core.Path.{_≡_};
-ghost use Prim.Native.Nat.{_+_, _≤_, _<_};
-ghost use lib.ListN.{length, replicate};
+ghost use Prim.Native.Nat.{_+_, _*_, _≤_, _<_};
+ghost use lib.ListN.{length};
 ghost use mathlib.Core.Bool.{true};
 ghost use Rattle.marks.specs.Marks.{cleared, marked, startAt, unclaimedAt, followedAt, leftOf};
 ghost use Rattle.records.specs.Rules.{sizeAt};
 use format::fields;
 
-// Zeros in every place of a slice.
-fn clear_all(m: &mut [u8])
-    ensures { λ _. ⌜ now (m .exit) ≡ replicate (length (now (m .entry))) 0 ⌝ }
+// A run: the sixteen marks from an offset on become 0, and no other mark changes.
+fn clear_run(m: &mut [u8], at: usize)
+    requires { ⌜ at + 16 ≤ length (now m) ⌝ }
+    ensures { λ _. ⌜ now (m .exit) ≡ cleared (now (m .entry)) at 16 ⌝ }
+{
+    m[at] = 0;
+    m[at + 1] = 0;
+    m[at + 2] = 0;
+    m[at + 3] = 0;
+    m[at + 4] = 0;
+    m[at + 5] = 0;
+    m[at + 6] = 0;
+    m[at + 7] = 0;
+    m[at + 8] = 0;
+    m[at + 9] = 0;
+    m[at + 10] = 0;
+    m[at + 11] = 0;
+    m[at + 12] = 0;
+    m[at + 13] = 0;
+    m[at + 14] = 0;
+    m[at + 15] = 0;
+}
+
+// So many runs from an offset on, one after the other.
+fn clear_runs(m: &mut [u8], at: usize, runs: usize)
+    requires { ⌜ at + 16 * runs ≤ length (now m) ⌝ }
+    ensures { λ _. ⌜ now (m .exit) ≡ cleared (now (m .entry)) at (16 * runs) ⌝ }
 {
     let mut i = 0;
-    while i < m.len() {
-        m[i] = 0;
+    while i < runs {
+        clear_run(m, at + 16 * i);
         i += 1;
     }
 }
 
-// Zeros in the n places from an offset on.
-fn clear(m: &mut [u8], at: usize, n: usize)
+// The n marks from an offset on become 0, singly.
+pub fn clear_singly(m: &mut [u8], at: usize, n: usize)
     requires { ⌜ at + n ≤ length (now m) ⌝ }
     ensures { λ _. ⌜ now (m .exit) ≡ cleared (now (m .entry)) at n ⌝ }
 {
-    let e = at + n;
-    clear_all(&mut m[at..e]);
+    let mut i = 0;
+    while i < n {
+        m[at + i] = 0;
+        i += 1;
+    }
+}
+
+// How many runs n marks are cleared in: none if they are fewer than sixteen runs, which would cost more than they save.
+fn runs_of(n: usize) -> usize
+    ensures { λ r. ⌜ (16 * r ≤ n) × (256 ≤ n → n < 16 * r + 16) ⌝ }
+{
+    if 256 <= n {
+        return n / 16;
+    }
+    0
+}
+
+// The n marks from an offset on become 0: in runs of sixteen, the rest singly.
+pub fn clear(m: &mut [u8], at: usize, n: usize)
+    requires { ⌜ at + n ≤ length (now m) ⌝ }
+    ensures { λ _. ⌜ now (m .exit) ≡ cleared (now (m .entry)) at n ⌝ }
+{
+    let runs = runs_of(n);
+    clear_runs(m, at, runs);
+    clear_singly(m, at + 16 * runs, n - 16 * runs);
 }
 
 // The marks of a record of n bytes at an offset.

@@ -1,39 +1,51 @@
-use Rattle.marks.proofs.Parts.{part-filled}
+use native.Mathlib.Omega.{arith}
+use mathlib.Core.Path.{_∙_}
+use Prim.Native.Nat.{_*_, _-_}
+use Rattle.marks.proofs.Parts.{cleared-on}
 use borrow.Author.Needs.{needs}
 use Rattle.marks.proofs.clear.Statement.{statement}
 use Rattle.marks.proofs.clear.Tie as tie
 
-add-e : tie.Need-add-e
-add-e c = search needs
+runs-of-requires : tie.Need-runs-of-requires
+runs-of-requires c κs = search needs
 
-sub-clear-all : tie.Need-sub-clear-all
-sub-clear-all c = search needs
+clear-runs-requires : tie.Need-clear-runs-requires
+clear-runs-requires c κs = search needs
 
-part-clear-all-start : tie.Need-part-clear-all-start
-part-clear-all-start c = search needs
+mul-clear-singly : tie.Need-mul-clear-singly
+mul-clear-singly c = search needs
 
-part-clear-all-end : tie.Need-part-clear-all-end
-part-clear-all-end c = search needs
+add-clear-singly : tie.Need-add-clear-singly
+add-clear-singly c = search needs
 
-clear-all-requires : tie.Need-clear-all-requires
-clear-all-requires c κs = search needs
+mul-clear-singly-2 : tie.Need-mul-clear-singly-2
+mul-clear-singly-2 c = search needs
+
+sub-clear-singly : tie.Need-sub-clear-singly
+sub-clear-singly c = search needs
+
+clear-singly-requires : tie.Need-clear-singly-requires
+clear-singly-requires c κs = search needs
 
 same-length : tie.Need-same-length
 same-length c = search needs
 
 returns : tie.Need-returns
 returns c =
-    let a = c .before .before .before .before .before in
-    rw (c .before .before .clear-all .ensures) (part-filled (a .args .m .now) (a .args .at) (a .args .n) (a .pre))
+    let runs = c .before .before .before .before .before .before .clear-runs .ensures in
+    let a = c .before .before .before .before .before .before .before .before .before .before in
+    c .before .before .clear-singly .ensures ∙ rw runs (cleared-on (a .args .m .now) (a .args .at) _ _ _ (a .args .n) (omega arith) (omega arith) (a .pre))
 
 pub clear-spec : {M : Type 1} → statement M
 clear-spec =
     tie.close
     (tie.spec
-    add-e
-    sub-clear-all
-    part-clear-all-start
-    part-clear-all-end
-    clear-all-requires
+    runs-of-requires
+    clear-runs-requires
+    mul-clear-singly
+    add-clear-singly
+    mul-clear-singly-2
+    sub-clear-singly
+    clear-singly-requires
     same-length
     returns)
