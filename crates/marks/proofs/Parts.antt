@@ -1,4 +1,4 @@
--- Marks that are cleared: none, one more, two parts that adjoin, the sixteen of a run. Assumes nothing.
+-- Marks that are cleared: none, one more, two parts that adjoin, stores one after the other. Assumes nothing.
 use mathlib.Core.Path.{_≡_, refl, sym, ap, _∙_}
 use mathlib.Core.List.{List, _++_, append-assoc}
 use Prim.Native.Nat.{ℕ, zero, suc, _+_, _≤_, _<_}
@@ -48,7 +48,7 @@ pub cleared-more : (m : List ℕ) (at n : ℕ) → at + n < length m → set (cl
 cleared-more m at n h = cleared-one (cleared m at n) (at + n) (omega (arith, cleared-length m at n (omega arith))) ∙ cleared-on m at n (at + n) 1 (n + 1) refl refl (omega arith)
 
 -- stores of zero, one after the other: the first, and k more
-abbrev pub stores : List ℕ → ℕ → ℕ → List ℕ
+abbrev stores : List ℕ → ℕ → ℕ → List ℕ
 stores m at zero = set m at 0
 stores m at (suc k) = set (stores m at k) (at + suc k) 0
 
@@ -56,12 +56,8 @@ pub stores-length : (m : List ℕ) (at k : ℕ) → length (stores m at k) ≡ l
 stores-length m at zero = length-set m at 0
 stores-length m at (suc k) = length-set (stores m at k) (at + suc k) 0 ∙ stores-length m at k
 
-stored : (m : List ℕ) (at k : ℕ) → at + suc k ≤ length m → stores m at k ≡ cleared m at (suc k)
+pub stored : (m : List ℕ) (at k : ℕ) → at + suc k ≤ length m → stores m at k ≡ cleared m at (suc k)
 stored m at zero h = cleared-one m at (omega arith)
 stored m at (suc k) h =
     let up : suc k + 1 ≡ suc (suc k) = omega arith in
     rw (stored m at k (omega arith)) (cleared-more m at (suc k) (omega arith) ∙ rw up)
-
--- the last of a run's sixteen stores
-pub last-stored : (m : List ℕ) (at p : ℕ) → at + 15 ≡ p → at + 16 ≤ length m → set (stores m at 14) p 0 ≡ cleared m at 16
-last-stored m at p e h = rw (← e) (stored m at 15 h)

@@ -7,27 +7,26 @@ ghost use Rattle.marks.specs.Marks.{cleared, marked, startAt, unclaimedA
 ghost use Rattle.records.specs.Rules.{sizeAt};
 use format::fields;
 
-// A run: the sixteen marks from an offset on become 0, and no other mark changes.
-fn clear_run(m: &mut [u8], at: usize)
-    requires { ⌜ at + 16 ≤ length (now m) ⌝ }
-    ensures { λ _. ⌜ now (m .exit) ≡ cleared (now (m .entry)) at 16 ⌝ }
+// The four marks from an offset on become 0.
+fn clear_four(m: &mut [u8], at: usize)
+    requires { ⌜ at + 4 ≤ length (now m) ⌝ }
+    ensures { λ _. ⌜ now (m .exit) ≡ cleared (now (m .entry)) at 4 ⌝ }
 {
     m[at] = 0;
     m[at + 1] = 0;
     m[at + 2] = 0;
     m[at + 3] = 0;
-    m[at + 4] = 0;
-    m[at + 5] = 0;
-    m[at + 6] = 0;
-    m[at + 7] = 0;
-    m[at + 8] = 0;
-    m[at + 9] = 0;
-    m[at + 10] = 0;
-    m[at + 11] = 0;
-    m[at + 12] = 0;
-    m[at + 13] = 0;
-    m[at + 14] = 0;
-    m[at + 15] = 0;
+}
+
+// A run: the sixteen marks from an offset on become 0, and no other mark changes.
+fn clear_run(m: &mut [u8], at: usize)
+    requires { ⌜ at + 16 ≤ length (now m) ⌝ }
+    ensures { λ _. ⌜ now (m .exit) ≡ cleared (now (m .entry)) at 16 ⌝ }
+{
+    clear_four(m, at);
+    clear_four(m, at + 4);
+    clear_four(m, at + 8);
+    clear_four(m, at + 12);
 }
 
 // So many runs from an offset on, one after the other.
