@@ -57,11 +57,10 @@ static void compared(uint8_t *marks, size_t length, const size_t *sizes, size_t 
 /* Times the three ways by turns, each as often first, on so many records of a size: the mean over the places of the medians. */
 static void timed_clearing(size_t count, size_t size)
 {
-    double times[TURNS], mean[WAYS] = { 0 };
+    double times[WAYS][PLACES][TURNS], mean[WAYS] = { 0 };
     size_t length = count * size;
     uint8_t *marks = allocated(length);
     size_t *sizes = allocated(count * sizeof *sizes);
-    double all[WAYS][PLACES][TURNS];
     for (size_t i = 0; i < count; i++)
         sizes[i] = size;
     compared(marks, length, sizes, count);
@@ -69,12 +68,10 @@ static void timed_clearing(size_t count, size_t size)
         int turn = i / (PLACES * WAYS), place = i / WAYS % PLACES, way = (i + turn) % WAYS;
         double start = now();
         call(way, place)(marks, length, sizes, count, way == 1);
-        all[way][place][turn] = now() - start;
+        times[way][place][turn] = now() - start;
     }
-    for (int i = 0; i < WAYS * PLACES; i++) {
-        memcpy(times, all[i % WAYS][i / WAYS], sizeof times);
-        mean[i % WAYS] += median(times, TURNS) / PLACES;
-    }
+    for (int i = 0; i < WAYS * PLACES; i++)
+        mean[i % WAYS] += median(times[i % WAYS][i / WAYS], TURNS) / PLACES;
     printf("%9zu of %8zu bytes  in runs %6.3f ms  before %6.3f ms  memset %6.3f ms  in runs/before %.2f  in runs/memset %.2f\n",
            count, size, 1e3 * mean[0], 1e3 * mean[1], 1e3 * mean[2], mean[0] / mean[1], mean[0] / mean[2]);
     free(marks);

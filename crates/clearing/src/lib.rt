@@ -17,7 +17,7 @@ fn clear_one(m: &mut [u8], at: usize, n: usize, singly: u32)
     }
 }
 
-// The marks of records of these sizes, one after the other, as far as they fit; gives where that ends.
+// The marks of records of these sizes, one after the other, as far as they have 8 bytes or more and fit; gives where that ends.
 #[no_mangle]
 pub extern "C" fn clearing_records(m: &mut [u8], sizes: &[usize], singly: u32) -> usize
     ensures { λ r. ⌜ (r ≡ reached (length (now (m .entry))) (now (sizes .entry)) 0) × (now (m .exit) ≡ cleared (now (m .entry)) 0 r) ⌝ }

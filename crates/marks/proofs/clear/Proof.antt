@@ -1,6 +1,5 @@
 use native.Mathlib.Omega.{arith}
 use mathlib.Core.Path.{_∙_}
-use Prim.Native.Nat.{_*_, _-_}
 use Rattle.marks.proofs.Parts.{cleared-on}
 use borrow.Author.Needs.{needs}
 use Rattle.marks.proofs.clear.Statement.{statement}
