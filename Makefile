@@ -76,7 +76,7 @@ build/cdfread: tools/cdfread.c $(READING) $(HEADERS) build/libtlepozaluh_read.a
 BENCH = $(addprefix bench/,bench.c check.c clearing.c files.c read.c times.c)
 CLEARING = $(patsubst %,build/clearing_%.o,0 16 32 48)
 
-build/clearing_%.o: target/staticlib/libclearing.a
+$(CLEARING): build/clearing_%.o: target/staticlib/libclearing.a
 	mkdir -p build
 	ar p $< clearing.o >$@.whole
 	objcopy --redefine-sym clearing_records=clearing_records_$* $@.whole $@.own
