@@ -32,7 +32,7 @@ static size_t by_memset(uint8_t *marks, size_t marks_len, const size_t *sizes, s
 
 static clear_records *const proved[PLACES] = { clearing_records_0, clearing_records_16, clearing_records_32, clearing_records_48 };
 
-/* A way at a place: in runs, singly, by memset, which has one place. */
+/* A way at a place: as the sweep does now, singly as before, by memset, which has one place. */
 static clear_records *call(int way, int place)
 {
     return way < 2 ? proved[place] : by_memset;
@@ -72,7 +72,7 @@ static void timed_clearing(size_t count, size_t size)
     }
     for (int i = 0; i < WAYS * PLACES; i++)
         mean[i % WAYS] += median(times[i % WAYS][i / WAYS], TURNS) / PLACES;
-    printf("%9zu of %8zu bytes  in runs %6.3f ms  before %6.3f ms  memset %6.3f ms  in runs/before %.2f  in runs/memset %.2f\n",
+    printf("%9zu of %8zu bytes  now %6.3f ms  before %6.3f ms  memset %6.3f ms  now/before %.2f  now/memset %.2f\n",
            count, size, 1e3 * mean[0], 1e3 * mean[1], 1e3 * mean[2], mean[0] / mean[1], mean[0] / mean[2]);
     free(marks);
     free(sizes);
@@ -81,7 +81,7 @@ static void timed_clearing(size_t count, size_t size)
 void clearing(void)
 {
     static const size_t small[] = { 15, 16, 17, 31, 32, 33 };
-    printf("\nThe clearing of marks by itself: so many records of so many bytes\n");
+    printf("\nThe clearing of marks by itself: so many records of so many bytes; in runs of sixteen from 256 bytes on\n");
     timed_clearing(1, 16000000);
     for (size_t i = 0; i < sizeof small / sizeof *small; i++)
         timed_clearing(1000000, small[i]);

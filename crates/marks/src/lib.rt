@@ -53,7 +53,7 @@ pub fn clear_singly(m: &mut [u8], at: usize, n: usize)
     }
 }
 
-// How many runs n marks are cleared in: none if they are fewer than sixteen runs, which would cost more than they save.
+// How many runs n marks are cleared in: none if they are fewer than sixteen runs, where clearing the rest apart would cost.
 fn runs_of(n: usize) -> usize
     ensures { λ r. ⌜ (16 * r ≤ n) × (256 ≤ n → n < 16 * r + 16) ⌝ }
 {
