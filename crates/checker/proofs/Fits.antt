@@ -18,7 +18,7 @@ pub ranged-fits : (l : ℕ) (g : Stage) → stageRange l g ≡ true → VerdictF
 ranged-fits l Fresh e = tt
 ranged-fits l (Sweep o) e = tt
 ranged-fits l (Walking w up) e = tt
-ranged-fits l (Done v) e = absurd (true≢false (sym e))
+ranged-fits l (Done v p) e = absurd (true≢false (sym e))
 ranged-fits l Strange e = tt
 
 told-small : (v : ℕ) → Told v → v ≤ 23
@@ -33,12 +33,12 @@ pub loaded-fits : (n : ℕ) (g : Stage) → Loaded n g → VerdictFits g
 loaded-fits n Fresh h = tt
 loaded-fits n (Sweep o) h = tt
 loaded-fits n (Walking w up) h = tt
-loaded-fits n (Done v) h = told-small v (h .1)
+loaded-fits n (Done v p) h = told-small v (h .1 .told)
 loaded-fits n Strange h = tt
 
 pub sound-ready : (Odd : ℕ → List ℕ → Type 0) (f : List ℕ) (n : ℕ) (m : List ℕ) (g : Stage) → SoundBy Odd f n m g → Ready f m g
 sound-ready Odd f n m Fresh h = tt
 sound-ready Odd f n m (Sweep o) h = record { marks = h .0 .3; short = h .0 .2 }
 sound-ready Odd f n m (Walking w up) h = (record { marks = h .0 .3; short = h .0 .2 }, h .1, levels-small up (h .2 .there))
-sound-ready Odd f n m (Done v) h = told-small v (h .1)
+sound-ready Odd f n m (Done v p) h = told-small v (h .1 .told)
 sound-ready Odd f n m Strange h = tt

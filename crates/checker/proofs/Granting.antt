@@ -1,30 +1,40 @@
 -- What a grant comes to, from what its code finds. Assumes nothing.
-use mathlib.Core.Path.{_≡_, sym, ap, _∙_}
+use mathlib.Core.Path.{_≡_, refl, sym, ap, _∙_}
 use mathlib.Core.Logic.{inl, inr}
-use mathlib.Core.Bool.{true, false}
+use mathlib.Core.Bool.{true, false, true≢false}
 use mathlib.Core.List.{List}
 use Prim.Native.Nat.{ℕ}
 use lib.ListN.{length}
 use lib.IntN.{ℤ, pos}
 use borrow.Author.Tests.{ne-eqb}
+use Rattle.checker.specs.declared.state.Stage.{Stage}
+use Rattle.checker.specs.declared.state.Stage.the-variants.{Fresh, Sweep, Walking, Done, Strange}
 use Rattle.checker.specs.declared.state.State.{State}
-use Rattle.checker.specs.Step.{conf, Run, finished, answerOf, runOf}
+use Rattle.checker.specs.Step.{conf, Run, finished, answerOf, placeIn, runOf}
 use Rattle.checker.specs.Saved.{save, load}
 use Rattle.checker.specs.Grant.{granted, otherFile, worked, grantBy, grantOf}
 use Rattle.checker.proofs.Cases.{right-length, idle}
 
-module _ (f m l : List ℕ) (n : ℕ) (long : length l ≡ 33) (s : State) (is : s ≡ load l) where
+-- a check that is not finished has no place
+running-place : (g : Stage) → finished g ≡ false → placeIn g ≡ 0
+running-place Fresh e = refl
+running-place (Sweep o) e = refl
+running-place (Walking w up) e = refl
+running-place (Done v p) e = absurd (true≢false e)
+running-place Strange e = refl
+
+module _ (f m l : List ℕ) (n : ℕ) (long : length l ≡ 34) (s : State) (is : s ≡ load l) where
   by-state : grantBy f m l n s ≡ grantOf f m l n
   by-state = ap (λ (t : State). grantBy f m l n t) is ∙ sym (right-length f m l n long)
 
-  pub of-finished : finished (s .stage) ≡ true → (a : ℤ) → a ≡ answerOf (s .stage) → granted a 0 l m ≡ grantOf f m l n
-  of-finished e a h = ap (λ (z : ℤ). granted z 0 l m) h ∙ sym (idle f m l n s (inl e)) ∙ by-state
+  pub of-finished : finished (s .stage) ≡ true → (a : ℤ) (p : ℕ) → a ≡ answerOf (s .stage) → p ≡ placeIn (s .stage) → granted a p 0 l m ≡ grantOf f m l n
+  of-finished e a p h q = rw (h, q) (sym (idle f m l n s (inl e)) ∙ by-state)
 
-  pub of-none : n ≡ 0 → (a : ℤ) → a ≡ answerOf (s .stage) → granted a 0 l m ≡ grantOf f m l n
-  of-none e a h = ap (λ (z : ℤ). granted z 0 l m) h ∙ sym (idle f m l n s (inr e)) ∙ by-state
+  pub of-none : n ≡ 0 → finished (s .stage) ≡ false → (a : ℤ) → a ≡ answerOf (s .stage) → granted a 0 0 l m ≡ grantOf f m l n
+  of-none e o a h = rw h (rw (running-place (s .stage) o) at (sym (idle f m l n s (inr e)) ∙ by-state))
 
   module _ (running : finished (s .stage) ≡ false) (some : n ≡ 0 → ⊥) where
-    other : otherFile f m (s .length) ≡ true → grantBy f m l n s ≡ granted (pos 21) 0 l m
+    other : otherFile f m (s .length) ≡ true → grantBy f m l n s ≡ granted (pos 21) 0 0 l m
     unfolding grantBy
     other e = rw (running, ne-eqb n 0 some, e)
 
@@ -35,20 +45,16 @@ module _ (f m l : List ℕ) (n : ℕ) (long : length l ≡ 33) (s : State) (is :
     unfolding grantBy
     works e = rw (running, ne-eqb n 0 some, e)
 
-    pub of-other : otherFile f m (s .length) ≡ true → granted (pos 21) 0 l m ≡ grantOf f m l n
+    pub of-other : otherFile f m (s .length) ≡ true → granted (pos 21) 0 0 l m ≡ grantOf f m l n
     of-other e = sym (other e) ∙ by-state
 
     pub of-run : otherFile f m (s .length) ≡ false
         → (r : Run)
         → r ≡ lentRun
-        → (a : ℤ)
+        → (a : ℤ) (p : ℕ)
         → a ≡ answerOf (r .at .state .stage)
+        → p ≡ placeIn (r .at .state .stage)
         → (l′ : List ℕ)
         → l′ ≡ save (r .at .state)
-        → granted a (worked r .steps) l′ (r .at .marks) ≡ grantOf f m l n
-    of-run e r k a h l′ g =
-        ap (λ (z : ℤ). granted z (worked r .steps) l′ (r .at .marks)) h
-        ∙ ap (λ (x : List ℕ). granted (answerOf (r .at .state .stage)) (worked r .steps) x (r .at .marks)) g
-        ∙ ap worked k
-        ∙ sym (works e)
-        ∙ by-state
+        → granted a p (worked r .steps) l′ (r .at .marks) ≡ grantOf f m l n
+    of-run e r k a p h q l′ g = rw (h, q, g) (ap worked k ∙ sym (works e) ∙ by-state)

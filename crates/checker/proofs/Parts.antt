@@ -13,6 +13,7 @@ use Rattle.walk.specs.declared.places.Turn as T
 use Rattle.walk.specs.declared.places.Walk as W
 use Rattle.checker.specs.declared.state.Stage.the-variants.{Walking}
 use Rattle.checker.specs.declared.state.Went.{Went}
+use Rattle.faults.specs.Holder.{holderOf}
 use Rattle.checker.specs.Step.{conf, turned, stepBy}
 use Rattle.checker.specs.Ready.{Lent, wentTo}
 
@@ -26,11 +27,11 @@ pub walked : (f m : List ℕ) (n : ℕ) (w : W.Walk) (up : Levels) (b : List ℕ
     → b ≡ bodyOf f
     → (t : T.Turn) (r : Went) (m′ : List ℕ)
     → t ≡ turnOf b up w
-    → ((k : ℕ) (s : Levels) → conf (wentTo k (levelsAfter s t) r) m′ ≡ turned b m k s t)
+    → ((k : ℕ) (s : Levels) → conf (wentTo k (levelsAfter s t) r) m′ ≡ turned b m k s (holderOf w) t)
     → conf (wentTo n (levelsAfter up t) r) m′ ≡ stepBy f m n (Walking w up)
 unfolding stepBy
 walked f m n w up b h t r m′ is settles =
-    settles n up ∙ ap (turned b m n up) is ∙ ap (λ (x : List ℕ). turned x m n up (turnOf x up w)) h
+    settles n up ∙ ap (turned b m n up (holderOf w)) is ∙ ap (λ (x : List ℕ). turned x m n up (holderOf w) (turnOf x up w)) h
 
 -- what lies before the end is lent too
 pub lent-body : (f m b : List ℕ) → b ≡ bodyOf f → Lent f m → Lent b m

@@ -37,7 +37,7 @@ use Rattle.checker.proofs.Passed.{opened, tiled, marked-length}
 use Rattle.checker.proofs.Runs.{run-none, run-over, run-keeps}
 use Rattle.checker.proofs.Loads.{load-save, length-save}
 use Rattle.checker.proofs.Cases.{Case, idles, refuses, works, case-of, right-length}
-use Rattle.checker.specs.Ready.{Told, Loaded}
+use Rattle.checker.specs.Ready.{Kept, Loaded}
 
 -- ---- ranges
 var-range : (k : ℕ) → VarKind k → (eqb k 3 || eqb k 8) ≡ true
@@ -172,7 +172,7 @@ abbrev pub SoundBy : (ℕ → List ℕ → Type 0) → List ℕ → ℕ → List
 SoundBy Odd f n m Fresh = n ≡ 0
 SoundBy Odd f n m (Sweep o) = Noted f n m × (8 ≤ o) × (o ≤ 2147483647)
 SoundBy Odd f n m (Walking w up) = Noted f n m × Within w × Above up w
-SoundBy Odd f n m (Done v) = (n ≡ 0) × Told v
+SoundBy Odd f n m (Done v p) = (n ≡ 0) × Kept v p
 SoundBy Odd f n m Strange = Odd n m
 
 pub record Sound (Odd : ℕ → List ℕ → Type 0) (f : List ℕ) (c : Conf) : Type 0 where
@@ -189,7 +189,7 @@ not-long f e = ltb-false 2147483647 (length f) e
 module _ (Odd : ℕ → List ℕ → Type 0) (f : List ℕ) where
   pub sound-step : (c : Conf) → finished (c .state .stage) ≡ false → Sound Odd f c → Sound Odd f (stepOf f c)
   sound-step c o h =
-      step-by (Sound Odd f) f m n (λ v t. record { sound = (refl, t) }) (c .state .stage) o (goes (c .state .stage) (h .sound))
+      step-by (Sound Odd f) f m n (λ v p t. record { sound = (refl, t) }) (c .state .stage) o (goes (c .state .stage) (h .sound))
     where
       m : List ℕ
       m = c .marks
@@ -241,7 +241,7 @@ module _ (Odd : ℕ → List ℕ → Type 0) (f : List ℕ) where
           let there = g .2 .there in
           turn up (turnOf b up w) (g .0) there
           (within-turn b near room w (levels-small up there .0) (g .1) .next-within) (placed-turn b near room w (g .2 .placed) .next-placed)
-      goes (Done v) g = tt
+      goes (Done v p) g = tt
       goes Strange g = tt
 
   pub sound-run : (c : Conf) → Sound Odd f c → (k : ℕ) → Sound Odd f (runOf f c k .at)
@@ -255,7 +255,7 @@ module _ (Odd : ℕ → List ℕ → Type 0) (f : List ℕ) where
   sound-stage n m Fresh h = rw h
   sound-stage n m (Sweep o) h = rw (in-length n m (h .0), le-leb 8 o (h .1), le-leb o 2147483647 (h .2))
   sound-stage n m (Walking w up) h = rw (in-length n m (h .0), in-range w (h .1)) (above-range up w (h .2))
-  sound-stage n m (Done v) h = h
+  sound-stage n m (Done v p) h = h
   sound-stage n m Strange h = tt
 
   pub sound-loaded : (c : Conf) → Sound Odd f c → Loaded (c .state .length) (c .state .stage)
@@ -293,7 +293,7 @@ module _ (f : List ℕ) where
       let p = both (lengthRange n && walkRange w) (levelsRange up w) h in
       let q = both (lengthRange n) (walkRange w) (p .0) in
       (noted-lent n m (q .0) e, range-within w (q .1), range-above up w (p .1))
-  loaded-by n m (Done v) h e = h
+  loaded-by n m (Done v p) h e = h
   loaded-by n m Strange h e = e
 
   -- whatever numbers were loaded, made up or not, the check goes on with its own file and marks
@@ -309,7 +309,7 @@ module _ (f : List ℕ) where
   sound-own n m Fresh h = rw h
   sound-own n m (Sweep o) h = noted-own n m (h .0)
   sound-own n m (Walking w up) h = noted-own n m (h .0)
-  sound-own n m (Done v) h = rw (h .0)
+  sound-own n m (Done v p) h = rw (h .0)
   sound-own n m Strange h = h
 
   -- a grant on its numbers works, be it of 0 or after the end

@@ -9,6 +9,8 @@ use lib.Dec.{eqb}
 use Rattle.walk.specs.Bounds.{Within, SmallLevels}
 use Rattle.walk.specs.declared.places.Levels.{Levels}
 use Rattle.walk.specs.declared.places.Walk as W
+use Rattle.faults.specs.Fault.{faultAt, keptPlace}
+use Rattle.faults.specs.declared.fault.Involved.{Involved}
 use Rattle.checker.specs.Step.{done, walking}
 use Rattle.checker.specs.Saved.{stageRange, verdictRange}
 use Rattle.checker.specs.declared.state.State.{State}
@@ -20,11 +22,11 @@ use Rattle.checker.specs.declared.state.Stage.the-variants.{Fresh, Sweep
 -- where a step of the walk leaves a check that has noted the length n, with the levels after it
 abbrev pub wentTo : ℕ → Levels → Went → State
 wentTo n up (On w) = walking n w up
-wentTo n up (Over v) = done v
+wentTo n up (Over v p) = done v p
 
--- a list that is over: refused with v, or on to the next link
-abbrev pub overTo : ℕ → W.Walk → Went
-overTo v w = cond (eqb v 0) (On w) (Over v)
+-- a list that is over: refused with v by a step that involves r, or on to the next link
+abbrev pub overTo : Involved → ℕ → W.Walk → Went
+overTo r v w = cond (eqb v 0) (On w) (Over v (faultAt r v))
 
 -- the bytes f are no more than an offset can say, and the marks m no fewer
 pub record Lent (f m : List ℕ) : Type 0 where
@@ -35,7 +37,7 @@ abbrev pub Ready : List ℕ → List ℕ → Stage → Type 0
 Ready f m Fresh = Unit {0}
 Ready f m (Sweep o) = Lent f m
 Ready f m (Walking w up) = Lent f m × Within w × SmallLevels up
-Ready f m (Done v) = v ≤ 23
+Ready f m (Done v p) = v ≤ 23
 Ready f m Strange = Unit {0}
 
 -- a bound of the verdicts, so that verdict + 1 can be saved; Told says which they are
@@ -43,17 +45,22 @@ abbrev pub VerdictFits : Stage → Type 0
 VerdictFits Fresh = Unit {0}
 VerdictFits (Sweep o) = Unit {0}
 VerdictFits (Walking w up) = Unit {0}
-VerdictFits (Done v) = v ≤ 23
+VerdictFits (Done v p) = v ≤ 23
 VerdictFits Strange = Unit {0}
 
 -- a verdict that a saved state may tell
 pub record Told (v : ℕ) : Type 0 where
   pub in-range : verdictRange v ≡ true
 
+-- and its place
+pub record Kept (v p : ℕ) : Type 0 where
+  pub told : Told v
+  pub placed : keptPlace v p ≡ p
+
 -- what a load makes of any numbers: each in its range, a verdict with the length 0, or strange
 abbrev pub Loaded : ℕ → Stage → Type 0
 Loaded n Fresh = stageRange n Fresh ≡ true
 Loaded n (Sweep o) = stageRange n (Sweep o) ≡ true
 Loaded n (Walking w up) = stageRange n (Walking w up) ≡ true
-Loaded n (Done v) = (n ≡ 0) × Told v
+Loaded n (Done v p) = (n ≡ 0) × Kept v p
 Loaded n Strange = Unit {0}

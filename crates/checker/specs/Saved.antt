@@ -1,4 +1,4 @@
--- The saved state: thirty-three numbers, their ranges, load and save; docs/STATE.md gives them in words. Assumes nothing.
+-- The saved state: thirty-four numbers, their ranges, load and save; docs/STATE.md gives them in words. Assumes nothing.
 use Prim.Native.Nat.{ℕ, suc, _+_, _-_}
 use mathlib.Core.Bool.{Bool, true, false, cond, _&&_, _||_}
 use mathlib.Core.List.{List, [], _∷_, _++_}
@@ -10,14 +10,15 @@ use Rattle.walk.specs.declared.places.Levels.{Levels}
 use Rattle.walk.specs.declared.places.Var.{Var}
 use Rattle.walk.specs.declared.places.Walk as W
 use Rattle.walk.specs.declared.places.Walk.the-variants.{Start, Vars, Chain, Entry, Attrs, Entries, Unused}
+use Rattle.faults.specs.Fault.{keptPlace}
 use Rattle.checker.specs.declared.state.Stage.{Stage}
 use Rattle.checker.specs.declared.state.Stage.the-variants.{Fresh, Sweep, Walking, Done, Strange}
 use Rattle.checker.specs.declared.state.State.{State}
-use Rattle.checker.specs.Step.{done}
+use Rattle.checker.specs.Step.{placeIn, done}
 
 -- how many numbers a saved state has
 abbrev pub stateLength : ℕ
-stateLength = 33
+stateLength = 34
 
 abbrev pub bit : Bool → ℕ
 bit b = cond b 1 0
@@ -37,7 +38,7 @@ abbrev pub saveStage : ℕ → Stage → List ℕ
 saveStage l Fresh = 0 ∷ l ∷ 0 ∷ 0 ∷ 0 ∷ 0 ∷ 0 ∷ 0 ∷ 0 ∷ 0 ∷ 0 ∷ 0 ∷ []
 saveStage l (Sweep o) = 0 ∷ l ∷ 1 ∷ 0 ∷ o ∷ 0 ∷ 0 ∷ 0 ∷ 0 ∷ 0 ∷ 0 ∷ 0 ∷ []
 saveStage l (Walking w up) = saveWalk l w
-saveStage l (Done v) = suc v ∷ l ∷ 0 ∷ 0 ∷ 0 ∷ 0 ∷ 0 ∷ 0 ∷ 0 ∷ 0 ∷ 0 ∷ 0 ∷ []
+saveStage l (Done v p) = suc v ∷ l ∷ 0 ∷ 0 ∷ 0 ∷ 0 ∷ 0 ∷ 0 ∷ 0 ∷ 0 ∷ 0 ∷ 0 ∷ []
 saveStage l Strange = 0 ∷ l ∷ 9 ∷ 0 ∷ 0 ∷ 0 ∷ 0 ∷ 0 ∷ 0 ∷ 0 ∷ 0 ∷ 0 ∷ []
 
 -- the index records above the one that is walked; elsewhere there is none
@@ -45,20 +46,20 @@ abbrev pub levelsIn : Stage → Levels
 levelsIn Fresh = noLevels
 levelsIn (Sweep o) = noLevels
 levelsIn (Walking w up) = up
-levelsIn (Done v) = noLevels
+levelsIn (Done v p) = noLevels
 levelsIn Strange = noLevels
 
 abbrev pub saveLevel : Level → List ℕ
 saveLevel l = l .vxr ∷ l .next ∷ l .last ∷ []
 
--- the other twenty-one: three a level, the nearest first
+-- the next twenty-one: three a level, the nearest first
 abbrev pub saveLevels : Levels → List ℕ
 saveLevels s =
     saveLevel (s .a) ++ (saveLevel (s .b) ++ (saveLevel (s .c) ++ (saveLevel (s .d) ++ (saveLevel (s .e) ++ (saveLevel (s .f) ++ saveLevel (s .g))))))
 
--- all thirty-three
+-- all thirty-four; the last is the place: "Every refusal of a grant, a repeated one too"
 abbrev pub saveNumbers : ℕ → Stage → List ℕ
-saveNumbers l g = saveStage l g ++ saveLevels (levelsIn g)
+saveNumbers l g = saveStage l g ++ (saveLevels (levelsIn g) ++ (placeIn g ∷ []))
 
 unfoldable pub save : State → List ℕ
 save s = saveNumbers (s .length) (s .stage)
@@ -122,7 +123,7 @@ abbrev pub stageRange : ℕ → Stage → Bool
 stageRange l Fresh = eqb l 0
 stageRange l (Sweep o) = lengthRange l && leb 8 o && offsetRange o
 stageRange l (Walking w up) = lengthRange l && walkRange w && levelsRange up w
-stageRange l (Done v) = false
+stageRange l (Done v p) = false
 stageRange l Strange = false
 
 -- ---- load
@@ -177,12 +178,13 @@ sameNumbers (x ∷ xs) (y ∷ ys) = eqb x y && sameNumbers xs ys
 abbrev pub checked : List ℕ → ℕ → Stage → Stage
 checked s l g = cond (stageRange l g && sameNumbers (saveNumbers l g) s) g Strange
 
--- "finished": the verdict number alone says so, 0 to 14, 20 and 23
+-- "finished": the verdict number alone says so, 0 to 14, 20 and 23; of the others the place is looked at, where the verdict has one
 abbrev pub verdictRange : ℕ → Bool
 verdictRange v = leb v 14 || eqb v 20 || eqb v 23
 
--- thirty-three numbers as a state
+-- thirty-four numbers as a state
 unfoldable pub load : List ℕ → State
 load s =
+    let v = getD s 0 0 - 1 in
     cond (eqb (getD s 0 0) 0) (record { length = getD s 1 0; stage = checked s (getD s 1 0) (stageBy s (getD s 2 0)) })
-    (cond (verdictRange (getD s 0 0 - 1)) (done (getD s 0 0 - 1)) (record { length = getD s 1 0; stage = Strange }))
+    (cond (verdictRange v) (done v (keptPlace v (getD s 33 0))) (record { length = getD s 1 0; stage = Strange }))

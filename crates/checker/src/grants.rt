@@ -17,7 +17,7 @@ fn answer(g: Stage) -> i32
         Stage::Fresh => -1,
         Stage::Sweep { at: _ } => -1,
         Stage::Walking { walk: _, up: _ } => -1,
-        Stage::Done { verdict } => verdict as i32,
+        Stage::Done { verdict, place: _ } => verdict as i32,
         Stage::Strange => -1,
     }
 }
@@ -30,12 +30,12 @@ fn other_file(f: &[u8], m: &[u8], noted: u32) -> bool
     (n != 0) & ((n != f.len()) | (m.len() < n))
 }
 
-// A fresh state of 33 numbers, and -1, as no check has a verdict yet; or 20, and nothing changed, where there are not 33.
+// A fresh state of 34 numbers, and -1, as no check has a verdict yet; or 20, and nothing changed, where there are not 34.
 #[no_mangle]
 pub extern "C" fn tlz_check_begin(state: &mut [u32]) -> i32
     ensures { λ r. ⌜ begun r (now (state .exit)) ≡ beginOf (now (state .entry)) ⌝ }
 {
-    if state.len() != 33 {
+    if state.len() != 34 {
         return 20;
     }
     let fresh = State {
@@ -46,7 +46,7 @@ pub extern "C" fn tlz_check_begin(state: &mut [u32]) -> i32
     -1
 }
 
-// A grant of steps on a saved state: what it answers, and in steps how many it made.
+// A grant of steps on a saved state: what it answers, in steps how many it made, and in place where the record at fault is.
 #[no_mangle]
 pub extern "C" fn tlz_check_grant(
     file: &[u8],
@@ -54,17 +54,20 @@ pub extern "C" fn tlz_check_grant(
     state: &mut [u32],
     grant: u64,
     steps: &mut u64,
+    place: &mut u64,
 ) -> i32
-    ensures { λ r. ⌜ granted r (now (steps .exit)) (now (state .exit)) (now (marks .exit))
+    ensures { λ r. ⌜ granted r (now (place .exit)) (now (steps .exit)) (now (state .exit)) (now (marks .exit))
         ≡ grantOf (now (file .entry)) (now (marks .entry)) (now (state .entry)) grant ⌝ }
 {
     *steps = 0;
-    if state.len() != 33 {
+    *place = 0;
+    if state.len() != 34 {
         return 20;
     }
     let s = saved::load_state(state);
     let g = s.stage;
     if stretches::is_finished(g) {
+        *place = saved::place_in(g) as u64;
         return answer(g);
     }
     if grant == 0 {
@@ -78,5 +81,6 @@ pub extern "C" fn tlz_check_grant(
     saved::save_state(state, t);
     *steps = ran.made;
     let h = t.stage;
+    *place = saved::place_in(h) as u64;
     answer(h)
 }

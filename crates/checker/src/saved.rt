@@ -1,13 +1,15 @@
-// The saved state: thirty-three numbers.
+// The saved state: thirty-four numbers.
 ghost use mathlib.Core.Path.{_≡_};
-ghost use mathlib.Core.List.{_++_};
+ghost use mathlib.Core.List.{[], _∷_, _++_};
 ghost use Prim.Native.Nat.{_+_, _≤_};
 ghost use lib.ListN.{length, take};
 ghost use Rattle.checker.specs.Ready.{VerdictFits};
+ghost use Rattle.checker.specs.Step.{placeIn};
 ghost use Rattle.checker.specs.Saved.{bit, saveWalk, saveStage, levelsIn, saveLevels, save, varRange, walkRange, levelThere, noneThere, levelList, noneOf, levelsStand, levelsRange, stageRange, varBy, levelBy, levelsBy, walkingBy, laterBy, listBy, stageBy, sameNumbers, checked, load};
 use crate::state::Stage;
 use crate::state::State;
 use crate::steps;
+use faults::fault;
 use walk::levels;
 use walk::places::Level;
 use walk::places::Levels;
@@ -95,7 +97,7 @@ fn stage_numbers(l: u32, g: Stage) -> [u32; 12]
         Stage::Fresh => [0, l, 0, 0, 0, 0, 0, 0, 0, 0, 0, 0],
         Stage::Sweep { at } => [0, l, 1, 0, at, 0, 0, 0, 0, 0, 0, 0],
         Stage::Walking { walk, up: _ } => walk_numbers(l, walk),
-        Stage::Done { verdict } => [verdict + 1, l, 0, 0, 0, 0, 0, 0, 0, 0, 0, 0],
+        Stage::Done { verdict, place: _ } => [verdict + 1, l, 0, 0, 0, 0, 0, 0, 0, 0, 0, 0],
         Stage::Strange => [0, l, 9, 0, 0, 0, 0, 0, 0, 0, 0, 0],
     }
 }
@@ -108,8 +110,21 @@ fn levels_in(g: Stage) -> Levels
         Stage::Fresh => levels::no_levels(),
         Stage::Sweep { at: _ } => levels::no_levels(),
         Stage::Walking { walk: _, up } => up,
-        Stage::Done { verdict: _ } => levels::no_levels(),
+        Stage::Done { .. } => levels::no_levels(),
         Stage::Strange => levels::no_levels(),
+    }
+}
+
+// The place of a refusal, or 0.
+pub fn place_in(g: Stage) -> u32
+    ensures { λ r. ⌜ r ≡ placeIn g ⌝ }
+{
+    match g {
+        Stage::Fresh => 0,
+        Stage::Sweep { at: _ } => 0,
+        Stage::Walking { walk: _, up: _ } => 0,
+        Stage::Done { verdict: _, place } => place,
+        Stage::Strange => 0,
     }
 }
 
@@ -252,14 +267,14 @@ fn stage_range(l: u32, g: Stage) -> bool
         Stage::Fresh => l == 0,
         Stage::Sweep { at } => known & (8 <= at) & (at <= 2147483647),
         Stage::Walking { walk, up } => known & walk_range(walk) & levels_range(up, walk),
-        Stage::Done { verdict: _ } => false,
+        Stage::Done { .. } => false,
         Stage::Strange => false,
     }
 }
 
 // The variable that the numbers tell of.
 fn var_of(s: &[u32]) -> Var
-    requires { ⌜ length (now s) ≡ 33 ⌝ }
+    requires { ⌜ length (now s) ≡ 34 ⌝ }
     ensures { λ r. ⌜ r ≡ varBy (now (s .entry)) ⌝ }
 {
     Var {
@@ -284,7 +299,7 @@ fn level_of(s: &[u32], p: usize) -> Level
 
 // The levels that the numbers tell of.
 fn levels_of(s: &[u32]) -> Levels
-    requires { ⌜ length (now s) ≡ 33 ⌝ }
+    requires { ⌜ length (now s) ≡ 34 ⌝ }
     ensures { λ r. ⌜ r ≡ levelsBy (now (s .entry)) ⌝ }
 {
     let a = level_of(s, 12);
@@ -307,7 +322,7 @@ fn levels_of(s: &[u32]) -> Levels
 
 // The place of the walk in a list that the numbers tell of, by their phase.
 fn list_of(s: &[u32], phase: u32) -> Stage
-    requires { ⌜ length (now s) ≡ 33 ⌝ }
+    requires { ⌜ length (now s) ≡ 34 ⌝ }
     ensures { λ r. ⌜ r ≡ listBy (now (s .entry)) phase ⌝ }
 {
     if phase == 3 {
@@ -350,7 +365,7 @@ fn list_of(s: &[u32], phase: u32) -> Stage
 
 // The same for the lists after the variables.
 fn later_list_of(s: &[u32], phase: u32) -> Stage
-    requires { ⌜ length (now s) ≡ 33 ⌝ }
+    requires { ⌜ length (now s) ≡ 34 ⌝ }
     ensures { λ r. ⌜ r ≡ laterBy (now (s .entry)) phase ⌝ }
 {
     if phase == 6 {
@@ -389,7 +404,7 @@ fn later_list_of(s: &[u32], phase: u32) -> Stage
 
 // A stage of the walk, with the levels that the numbers tell of.
 fn walking(s: &[u32], w: Walk) -> Stage
-    requires { ⌜ length (now s) ≡ 33 ⌝ }
+    requires { ⌜ length (now s) ≡ 34 ⌝ }
     ensures { λ r. ⌜ r ≡ walkingBy (now (s .entry)) w ⌝ }
 {
     Stage::Walking {
@@ -400,7 +415,7 @@ fn walking(s: &[u32], w: Walk) -> Stage
 
 // The stage that the numbers tell of, by their phase.
 fn stage_of(s: &[u32], phase: u32) -> Stage
-    requires { ⌜ length (now s) ≡ 33 ⌝ }
+    requires { ⌜ length (now s) ≡ 34 ⌝ }
     ensures { λ r. ⌜ r ≡ stageBy (now (s .entry)) phase ⌝ }
 {
     if phase == 0 {
@@ -417,11 +432,11 @@ fn stage_of(s: &[u32], phase: u32) -> Stage
 
 // Two lists of numbers are the same.
 fn same_numbers(a: &[u32], s: &[u32]) -> bool
-    requires { ⌜ (length (now a) ≡ 33) × (length (now s) ≡ 33) ⌝ }
+    requires { ⌜ (length (now a) ≡ 34) × (length (now s) ≡ 34) ⌝ }
     ensures { λ r. ⌜ r ≡ sameNumbers (now (a .entry)) (now (s .entry)) ⌝ }
 {
     let mut i = 0;
-    while i < 33 {
+    while i < 34 {
         if a[i] != s[i] {
             return false;
         }
@@ -432,13 +447,13 @@ fn same_numbers(a: &[u32], s: &[u32]) -> bool
 
 // A stage, or that its numbers are not those of a saved state.
 fn checked_stage(s: &[u32], l: u32, g: Stage) -> Stage
-    requires { ⌜ length (now s) ≡ 33 ⌝ }
+    requires { ⌜ length (now s) ≡ 34 ⌝ }
     ensures { λ r. ⌜ r ≡ checked (now (s .entry)) l g ⌝ }
 {
     if !stage_range(l, g) {
         return Stage::Strange;
     }
-    let mut own = [0u32; 33];
+    let mut own = [0u32; 34];
     save_state(
         &mut own,
         State {
@@ -454,7 +469,7 @@ fn checked_stage(s: &[u32], l: u32, g: Stage) -> Stage
 
 // A state from its numbers.
 pub fn load_state(s: &[u32]) -> State
-    requires { ⌜ length (now s) ≡ 33 ⌝ }
+    requires { ⌜ length (now s) ≡ 34 ⌝ }
     ensures { λ r. ⌜ r ≡ load (now (s .entry)) ⌝ }
 {
     let told = s[0];
@@ -467,7 +482,7 @@ pub fn load_state(s: &[u32]) -> State
     }
     let verdict = told - 1;
     if (verdict <= 14) | (verdict == 20) | (verdict == 23) {
-        return steps::refused(verdict);
+        return steps::finished(verdict, fault::kept_place(verdict, s[33]));
     }
     State {
         length: l,
@@ -475,10 +490,10 @@ pub fn load_state(s: &[u32]) -> State
     }
 }
 
-// The numbers of the levels into a slice, behind the first twelve.
-fn save_levels(s: &mut [u32], up: Levels)
-    requires { ⌜ length (now s) ≡ 33 ⌝ }
-    ensures { λ _. ⌜ now (s .exit) ≡ take 12 (now (s .entry)) ++ saveLevels up ⌝ }
+// The numbers of the levels and the place into a slice, behind the first twelve.
+fn save_rest(s: &mut [u32], up: Levels, place: u32)
+    requires { ⌜ length (now s) ≡ 34 ⌝ }
+    ensures { λ _. ⌜ now (s .exit) ≡ take 12 (now (s .entry)) ++ (saveLevels up ++ (place ∷ [])) ⌝ }
 {
     let a = up.a;
     let b = up.b;
@@ -508,16 +523,17 @@ fn save_levels(s: &mut [u32], up: Levels)
     s[30] = g.vxr;
     s[31] = g.next;
     s[32] = g.last;
+    s[33] = place;
 }
 
 // The numbers of a state into a slice.
 pub fn save_state(s: &mut [u32], t: State)
-    requires { ⌜ (length (now s) ≡ 33) × VerdictFits (t .stage) ⌝ }
+    requires { ⌜ (length (now s) ≡ 34) × VerdictFits (t .stage) ⌝ }
     ensures { λ _. ⌜ now (s .exit) ≡ save t ⌝ }
 {
     let g = t.stage;
     let a = stage_numbers(t.length, g);
-    save_levels(s, levels_in(g));
+    save_rest(s, levels_in(g), place_in(g));
     let mut i = 0;
     while i < 12 {
         s[i] = a[i];

@@ -3,7 +3,10 @@ pub mod Laws
 pub mod Goes
 pub mod Turns
 pub mod Places
+pub mod Moves
+pub mod Standing
 pub mod Claims
+pub mod Looked
 pub mod Sweep
 pub mod Bound
 pub mod Records
@@ -22,4 +25,5 @@ pub mod OneLevel
 pub mod VariableFacts
 pub mod Demand2
 pub mod Demand3
+pub mod Lies
 pub mod Padded

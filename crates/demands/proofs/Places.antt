@@ -3,9 +3,10 @@
 use mathlib.Core.Path.{_≡_, refl}
 use mathlib.Core.List.{List, [], _∷_}
 use Prim.Native.Nat.{ℕ}
+use mathlib.Core.Bool.{Bool, true, false, cond}
+use lib.Dec.{eqb}
 use lib.ListN.{set}
 use Rattle.marks.specs.Marks.{leftOf}
-use Rattle.walk.specs.Numbers.{first}
 use Rattle.walk.specs.Levels.{noLevels, pushed, popped}
 use Rattle.walk.specs.Walk.{turnOf}
 use Rattle.walk.specs.declared.places.Levels.{Levels}
@@ -13,7 +14,9 @@ use Rattle.walk.specs.declared.places.Walk as W
 use Rattle.walk.specs.declared.places.Turn as T
 use Rattle.walk.specs.declared.places.Turn.the-variants.{Over, End, Take, Down, Up}
 use Rattle.demands.proofs.Plain.{stepIn, inner}
-use Rattle.checker.specs.Step.{Conf, conf, done, walking, settled, linkNumber, turned}
+use Rattle.checker.specs.Step.{Conf, conf, doneBy, finished, walking, settled, linkNumber, turned}
+use Rattle.faults.specs.Holder.{holderOf}
+use Rattle.faults.specs.Fault.{ending, claiming, leaving}
 use Rattle.checker.specs.declared.state.State.{State}
 
 pub record Place : Type 0 where
@@ -60,19 +63,30 @@ Steps f E p cs = TurnEnds E (p .up) (turnOf f (p .up) (p .walk)) cs
 abbrev pub walkAt : ℕ → Place → State
 walkAt n p = walking n (p .walk) (p .up)
 
-abbrev pub moved : List ℕ → List ℕ → ℕ → Move → Conf
-moved f m n (passes v p) = settled v m (walkAt n p) m
-moved f m n (stops v) = conf (done (first (v ∷ leftOf f m ∷ []))) m
-moved f m n (takes b t k l p) = settled (linkNumber f m b t k l) m (walkAt n p) (set m t 2)
+-- where a walk stops
+abbrev pub stopped : List ℕ → List ℕ → ℕ → ℕ → State
+stopped f m h v = cond (eqb v 0) (doneBy (leaving (leftOf f m .at)) (leftOf f m .number)) (doneBy (ending h) v)
 
-turn-moves : (f m : List ℕ) (n : ℕ) (up : Levels) (t : T.Turn) → turned f m n up t ≡ moved f m n (moveBy up t)
+pub stopped-ends : (f m : List ℕ) (h v : ℕ) → finished (stopped f m h v .stage) ≡ true
+stopped-ends f m h v = go (eqb v 0)
+  where
+    go : (b : Bool) → finished ((cond b (doneBy (leaving (leftOf f m .at)) (leftOf f m .number)) (doneBy (ending h) v)) .stage) ≡ true
+    go true = refl
+    go false = refl
+
+abbrev pub moved : List ℕ → List ℕ → ℕ → ℕ → Move → Conf
+moved f m n h (passes v p) = settled (ending h) v m (walkAt n p) m
+moved f m n h (stops v) = conf (stopped f m h v) m
+moved f m n h (takes b t k l p) = settled (claiming h t) (linkNumber f m b t k l) m (walkAt n p) (set m t 2)
+
+turn-moves : (f m : List ℕ) (n : ℕ) (up : Levels) (h : ℕ) (t : T.Turn) → turned f m n up h t ≡ moved f m n h (moveBy up t)
 unfolding turned
-turn-moves f m n up (Over w v) = refl
-turn-moves f m n up (End v) = refl
-turn-moves f m n up (Take w early t typed late) = refl
-turn-moves f m n up (Down w t typed l) = refl
-turn-moves f m n up (Up w) = refl
+turn-moves f m n up h (Over w v) = refl
+turn-moves f m n up h (End v) = refl
+turn-moves f m n up h (Take w early t typed late) = refl
+turn-moves f m n up h (Down w t typed l) = refl
+turn-moves f m n up h (Up w) = refl
 
-pub step-moves : (f m : List ℕ) (n : ℕ) (p : Place) → inner f (conf (walkAt n p) m) ≡ moved f m n (moveOf f p)
+pub step-moves : (f m : List ℕ) (n : ℕ) (p : Place) → inner f (conf (walkAt n p) m) ≡ moved f m n (holderOf (p .walk)) (moveOf f p)
 unfolding stepIn
-step-moves f m n p = turn-moves f m n (p .up) (turnOf f (p .up) (p .walk))
+step-moves f m n p = turn-moves f m n (p .up) (holderOf (p .walk)) (turnOf f (p .up) (p .walk))

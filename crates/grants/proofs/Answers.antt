@@ -7,10 +7,10 @@ use lib.IntN.{pos}
 use borrow.Author.Tests.{ne-eqb}
 use Rattle.checker.specs.declared.state.Stage.{Stage}
 use Rattle.checker.specs.declared.state.Stage.the-variants.{Fresh, Sweep, Walking, Done, Strange}
-use Rattle.checker.specs.Step.{answerOf}
+use Rattle.checker.specs.Step.{answerOf, placeIn}
 use Rattle.checker.proofs.Loads.{not-21}
 use Rattle.grants.specs.Lists.{refused21}
-use Rattle.grants.specs.Promises.{comesBack}
+use Rattle.grants.specs.Promises.{comesBack, placeRight}
 use Rattle.checker.specs.Ready.{Loaded}
 
 -- a grant that works or repeats a verdict does not answer 21
@@ -18,7 +18,7 @@ pub not-refused : (n : ℕ) (g : Stage) → Loaded n g → refused21 (answerOf g
 not-refused n Fresh h = refl
 not-refused n (Sweep o) h = refl
 not-refused n (Walking w up) h = refl
-not-refused n (Done v) h = ne-eqb v 21 (λ e. not-21 n (Done v) h (ap pos e))
+not-refused n (Done v p) h = ne-eqb v 21 (λ e. not-21 n (Done v p) h (ap pos e))
 not-refused n Strange h = refl
 
 -- its answer is a number that comes back
@@ -26,7 +26,7 @@ pub answer-comes : (n : ℕ) (g : Stage) → Loaded n g → comesBack (answerOf 
 answer-comes n Fresh h = refl
 answer-comes n (Sweep o) h = refl
 answer-comes n (Walking w up) h = refl
-answer-comes n (Done v) h = go (leb v 14) (eqb v 20) (eqb v 23) (h .1 .in-range)
+answer-comes n (Done v p) h = go (leb v 14) (eqb v 20) (eqb v 23) (h .1 .told .in-range)
   where
     go : (a b c : Bool) → (a || b || c) ≡ true → (a || (b || (eqb v 21 || c))) ≡ true
     go true b c e = refl
@@ -34,3 +34,11 @@ answer-comes n (Done v) h = go (leb v 14) (eqb v 20) (eqb v 23) (h .1 .in-range)
     go false false true e = or-true (eqb v 21)
     go false false false e = absurd (true≢false (sym e))
 answer-comes n Strange h = refl
+
+-- and its place goes with it
+pub place-comes : (n : ℕ) (g : Stage) → Loaded n g → placeRight (answerOf g) (placeIn g)
+place-comes n Fresh h = refl
+place-comes n (Sweep o) h = refl
+place-comes n (Walking w up) h = refl
+place-comes n (Done v p) h = h .1 .placed
+place-comes n Strange h = refl

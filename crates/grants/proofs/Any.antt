@@ -1,5 +1,5 @@
 -- A grant on any state. Assumes nothing.
-use mathlib.Core.Path.{_≡_, refl, ap, _∙_}
+use mathlib.Core.Path.{_≡_, refl, sym, ap, _∙_}
 use mathlib.Core.Logic.{_⊎_, inl, inr}
 use mathlib.Core.Bool.{Bool, true, false}
 use mathlib.Core.List.{List}
@@ -22,7 +22,7 @@ use Rattle.records.proofs.Bodies.{body-length, body-le}
 use Rattle.checker.specs.declared.state.Stage.{Stage}
 use Rattle.checker.specs.declared.state.Stage.the-variants.{Fresh, Sweep, Walking, Done, Strange}
 use Rattle.checker.specs.declared.state.State.{State}
-use Rattle.checker.specs.Step.{Conf, conf, done, finished, answerOf, walking, stepOf, runOf}
+use Rattle.checker.specs.Step.{Conf, conf, done, finished, answerOf, placeIn, walking, stepOf, runOf}
 use Rattle.checker.specs.Saved.{stateLength, save, load}
 use Rattle.checker.specs.Grant.{Granted, granted, grantBy, grantOf}
 use Rattle.checker.proofs.Told.{told-0}
@@ -32,8 +32,10 @@ use Rattle.checker.proofs.Runs.{run-keeps, made-le}
 use Rattle.checker.proofs.Loads.{load-is, load-save, length-save, not-21, accepted-is}
 use Rattle.checker.proofs.Sound.{SoundBy, Sound, Own, sound-step, sound-run, sound-loaded, loaded-sound}
 use Rattle.checker.proofs.Cases.{Case, idles, refuses, works, case-of, right-length, wrong-length, idle}
-use Rattle.grants.specs.Promises.{comesBack, EveryGrant}
-use Rattle.grants.proofs.Answers.{answer-comes}
+use Rattle.faults.specs.Fault.{faultAt}
+use Rattle.faults.proofs.Kept.{kept-none}
+use Rattle.grants.specs.Promises.{comesBack, placeRight, EveryGrant}
+use Rattle.grants.proofs.Answers.{answer-comes, place-comes}
 
 -- ---- marks outside the records of the file are kept
 module _ (f m : List ℕ) (i : ℕ) (out : (i < 8) ⊎ (fileEnd f ≤ i)) where
@@ -47,7 +49,7 @@ module _ (f m : List ℕ) (i : ℕ) (out : (i < 8) ⊎ (fileEnd f ≤ i)) where
   same-step : (c : Conf) → finished (c .state .stage) ≡ false → Kept c → Kept (stepOf f c)
   same-step c o k = (
     sound-step (Own f) f c o (k .0),
-    step-by Same f m′ n (λ v t. record { count = h .count; mark = h .mark }) (c .state .stage) o (goes (c .state .stage) (k .0 .sound)),
+    step-by Same f m′ n (λ v p t. record { count = h .count; mark = h .mark }) (c .state .stage) o (goes (c .state .stage) (k .0 .sound)),
   )
     where
       h : Same c
@@ -97,7 +99,7 @@ module _ (f m : List ℕ) (i : ℕ) (out : (i < 8) ⊎ (fileEnd f ≤ i)) where
             mark = marked-other m′ o (sizeAt b o) fits (omega arith) i (aside o (sizeAt b o) (g .1) (t .1) out) ∙ h .mark;
           }
       goes (Walking w up) g = turn up (turnOf b up w)
-      goes (Done v) g = tt
+      goes (Done v p) g = tt
       goes Strange g = tt
 
   same-run : (s : State) → Sound (Own f) f (conf s m) → (k : ℕ) → Same (runOf f (conf s m) k .at)
@@ -108,19 +110,25 @@ module _ (f m l : List ℕ) (n : ℕ) where
   record Fine (r : Granted) : Type 0 where
     few : r .steps ≤ n
     number : comesBack (r .answer) ≡ true
-    accepted : r .answer ≡ pos 0 → (length (r .state) ≡ stateLength) × (load (r .state) ≡ done 0)
-    away : r .answer ≡ pos 21 → r ≡ granted (pos 21) 0 l m
+    placed : placeRight (r .answer) (r .place)
+    accepted : r .answer ≡ pos 0 → (length (r .state) ≡ stateLength) × (load (r .state) ≡ done 0 0)
+    away : r .answer ≡ pos 21 → r ≡ granted (pos 21) 0 0 l m
     count : length (r .marks) ≡ length m
     mark : (i : ℕ) → (i < 8) ⊎ (fileEnd f ≤ i) → getD (r .marks) i 0 ≡ getD m i 0
 
   -- a grant that changes nothing
-  fine-still : (a : ℤ) → comesBack a ≡ true → (a ≡ pos 0 → (length l ≡ stateLength) × (load l ≡ done 0)) → Fine (granted a 0 l m)
-  fine-still a t h = record { few = omega arith; number = t; accepted = h; away = λ e. ap (λ (a : ℤ). granted a 0 l m) e; count = refl; mark = λ i o. refl }
+  fine-still : (a : ℤ) (p : ℕ) → comesBack a ≡ true → placeRight a p → (a ≡ pos 0 → (length l ≡ stateLength) × (load l ≡ done 0 0))
+      → Fine (granted a p 0 l m)
+  unfolding faultAt
+  fine-still a p t k h = record { few = omega arith; number = t; placed = k; accepted = h; away = λ e. turned e; count = refl; mark = λ i o. refl }
+    where
+      turned : a ≡ pos 21 → granted a p 0 l m ≡ granted (pos 21) 0 0 l m
+      turned e = let z : placeRight (pos 21) p = rw e at k in let y : p ≡ 0 = sym z in rw (e, y)
 
   fine-case : length l ≡ stateLength → Case f m l n (load l) → Fine (grantBy f m l n (load l))
   fine-case e (idles g w) =
-      rw g (fine-still (answerOf (load l .stage)) (answer-comes (load l .length) (load l .stage) (load-is l)) (λ a. (e, accepted-is (load l) (load-is l) a)))
-  fine-case e (refuses g o w) = rw g (fine-still (pos 21) refl (λ a. let z : _≡_ {A = ℕ} 21 0 = cc in absurd (omega arith)))
+      rw g (fine-still (answerOf (load l .stage)) (placeIn (load l .stage)) (answer-comes (load l .length) (load l .stage) (load-is l)) (place-comes (load l .length) (load l .stage) (load-is l)) (λ a. (e, accepted-is (load l) (load-is l) a)))
+  fine-case e (refuses g o w) = rw g (fine-still (pos 21) 0 refl (kept-none 21) (λ a. let z : _≡_ {A = ℕ} 21 0 = cc in absurd (omega arith)))
   fine-case e (works g o z w) =
       let s = load l in
       let r = runOf f (conf s m) n in
@@ -129,9 +137,10 @@ module _ (f m l : List ℕ) (n : ℕ) where
       rw g (record {
         few = made-le f (conf s m) n;
         number = answer-comes (r .at .state .length) (r .at .state .stage) d;
+        placed = place-comes (r .at .state .length) (r .at .state .stage) d;
         accepted = λ a. (
           length-save (r .at .state),
-          ap (λ (s : State). load (save s)) (accepted-is (r .at .state) d a) ∙ load-save (done 0) (refl, told-0),
+          ap (λ (s : State). load (save s)) (accepted-is (r .at .state) d a) ∙ load-save (done 0 0) (refl, record { told = told-0; placed = kept-none 0 }),
         );
         away = λ a. absurd (not-21 (r .at .state .length) (r .at .state .stage) d a);
         count = same-run f m 0 (inl (omega arith)) s h n .count;
@@ -145,7 +154,7 @@ module _ (f m l : List ℕ) (n : ℕ) where
       go true h = let e = eqb-true (length l) stateLength h in rw (right-length f m l n e) (fine-case e (case-of f m l n (load l)))
       go false h =
           rw (wrong-length f m l n (eqb-false (length l) stateLength h))
-          (fine-still (pos 20) refl (λ a. let z : _≡_ {A = ℕ} 20 0 = cc in absurd (omega arith)))
+          (fine-still (pos 20) 0 refl (kept-none 20) (λ a. let z : _≡_ {A = ℕ} 20 0 = cc in absurd (omega arith)))
 
 pub every-grant : EveryGrant
 every-grant f m l n =
@@ -153,6 +162,7 @@ every-grant f m l n =
     record {
       at-most = g .few;
       number = g .number;
+      place-kept = g .placed;
       other-length = wrong-length f m l n;
       of-none = λ e z. right-length f m l n e ∙ idle f m l n (load l) (inr z);
       repeats = λ e o. right-length f m l n e ∙ idle f m l n (load l) (inl o);
@@ -165,5 +175,5 @@ every-grant f m l n =
 -- whatever state is lent, a grant that answers 0 leaves one finished as accepted
 pub accepted-is-finished : (f m l : List ℕ) (n : ℕ)
     → grantOf f m l n .answer ≡ pos 0
-    → (length (grantOf f m l n .state) ≡ stateLength) × (load (grantOf f m l n .state) ≡ done 0)
+    → (length (grantOf f m l n .state) ≡ stateLength) × (load (grantOf f m l n .state) ≡ done 0 0)
 accepted-is-finished f m l n = fine-grant f m l n .accepted

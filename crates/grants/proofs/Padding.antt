@@ -22,10 +22,14 @@ use Rattle.walk.specs.Walk.{turnOf}
 use Rattle.walk.specs.declared.places.Levels.{Levels}
 use Rattle.walk.specs.declared.places.Turn as T
 use Rattle.walk.specs.declared.places.Turn.the-variants.{Over, End, Take, Down, Up}
+use Rattle.faults.specs.Holder.{holderOf}
+use Rattle.faults.specs.Fault.{noneInvolved, sweeping, ending, claiming, leaving}
+use Rattle.faults.specs.declared.fault.Involved.{Involved}
+use Rattle.marks.specs.declared.Found.{Found}
 use Rattle.checker.specs.declared.state.Stage.{Stage}
 use Rattle.checker.specs.declared.state.Stage.the-variants.{Fresh, Sweep, Walking, Done, Strange}
 use Rattle.checker.specs.declared.state.State.{State}
-use Rattle.checker.specs.Step.{Conf, conf, Run, done, finished, answerOf, walking, settled, openNumber, sweptTo, swept, linkNumber, turned, stepBy, stepOf, onward, runOf}
+use Rattle.checker.specs.Step.{Conf, conf, Run, doneBy, finished, answerOf, placeIn, walking, settled, openNumber, sweptTo, swept, linkNumber, turned, stepBy, stepOf, onward, runOf}
 use Rattle.checker.specs.Saved.{stateLength, save, load}
 use Rattle.checker.specs.Grant.{granted, otherFile, worked, grantBy, grantOf}
 use Rattle.checker.proofs.Outcomes.{link-passes}
@@ -129,34 +133,38 @@ record Pair (e : ℕ) (c d : Conf) : Type 0 where
 pair : (e : ℕ) (s : State) (m o : List ℕ) → Agree e m o → Pair e (conf s m) (conf s o)
 pair e s m o a = record { state-is = refl; agree = a }
 
-settled-pair : (e v : ℕ) (m o : List ℕ) (next : State) (x y : List ℕ) → Agree e m o → (v ≡ 0 → Agree e x y)
-    → Pair e (settled v m next x) (settled v o next y)
-settled-pair e v m o next x y a h = go (eqb v 0) refl
+settled-pair : (r : Involved) (e v : ℕ) (m o : List ℕ) (next : State) (x y : List ℕ) → Agree e m o → (v ≡ 0 → Agree e x y)
+    → Pair e (settled r v m next x) (settled r v o next y)
+settled-pair r e v m o next x y a h = go (eqb v 0) refl
   where
-    go : (b : Bool) → eqb v 0 ≡ b → Pair e (cond b (conf next x) (conf (done v) m)) (cond b (conf next y) (conf (done v) o))
+    go : (b : Bool) → eqb v 0 ≡ b → Pair e (cond b (conf next x) (conf (doneBy r v) m)) (cond b (conf next y) (conf (doneBy r v) o))
     go true q = pair e next x y (h (eqb-true v 0 q))
-    go false q = pair e (done v) m o a
+    go false q = pair e (doneBy r v) m o a
 
 module _ (b m o : List ℕ) (n : ℕ) (a : Agree (length b) m o) (room : length b ≤ length m) where
-  taken-pair : (early t typed late : ℕ) (next : State)
-      → Pair (length b) (settled (linkNumber b m early t typed late) m next (set m t 2)) (settled (linkNumber b o early t typed late) o next (set o t 2))
-  taken-pair early t typed late next =
+  taken-pair : (h early t typed late : ℕ) (next : State)
+      → Pair (length b) (settled (claiming h t) (linkNumber b m early t typed late) m next (set m t 2))
+      (settled (claiming h t) (linkNumber b o early t typed late) o next (set o t 2))
+  taken-pair h early t typed late next =
       rw (← same-link b m o a early t typed late)
-      (settled-pair (length b) (linkNumber b m early t typed late) m o next (set m t 2) (set o t 2) a
+      (settled-pair (claiming h t) (length b) (linkNumber b m early t typed late) m o next (set m t 2) (set o t 2) a
       (λ e. set-agree (length b) m o t (omega (arith, started b m t (link-passes b m early t typed late e .start) .1, room)) a))
 
-  turned-pair : (up : Levels) (t : T.Turn) → Pair (length b) (turned b m n up t) (turned b o n up t)
+  turned-pair : (up : Levels) (h : ℕ) (t : T.Turn) → Pair (length b) (turned b m n up h t) (turned b o n up h t)
   unfolding turned
-  turned-pair up (Over w v) = settled-pair (length b) v m o (walking n w up) m o a (λ e. a)
-  turned-pair up (End v) = record { state-is = ap (λ (k : ℕ). done (first (v ∷ k ∷ []))) (same-left b m o a); agree = a }
-  turned-pair up (Take w early t typed late) = taken-pair early t typed late (walking n w up)
-  turned-pair up (Down w t typed l) = taken-pair 0 t typed 0 (walking n w (pushed l up))
-  turned-pair up (Up w) = pair (length b) (walking n w (popped up)) m o a
+  turned-pair up h (Over w v) = settled-pair (ending h) (length b) v m o (walking n w up) m o a (λ e. a)
+  turned-pair up h (End v) = record {
+    state-is = ap (λ (x : Found). cond (eqb v 0) (doneBy (leaving (x .at)) (x .number)) (doneBy (ending h) v)) (same-left b m o a);
+    agree = a;
+  }
+  turned-pair up h (Take w early t typed late) = taken-pair h early t typed late (walking n w up)
+  turned-pair up h (Down w t typed l) = taken-pair h 0 t typed 0 (walking n w (pushed l up))
+  turned-pair up h (Up w) = pair (length b) (walking n w (popped up)) m o a
 
   swept-pair : (p : ℕ) → Pair (length b) (swept b m n p) (swept b o n p)
   unfolding swept
   swept-pair p =
-      settled-pair (length b) (tile b p) m o (record { length = n; stage = sweptTo b (p + sizeAt b p) }) (marked m p (sizeAt b p)) (marked o p (sizeAt b p)) a
+      settled-pair (sweeping p) (length b) (tile b p) m o (record { length = n; stage = sweptTo b (p + sizeAt b p) }) (marked m p (sizeAt b p)) (marked o p (sizeAt b p)) a
       (λ e. let t = tiled b p e in marked-agree (length b) m o p (sizeAt b p) (omega arith) (omega arith) a)
 
 -- ---- two files of one length, with one body
@@ -172,13 +180,13 @@ module _ (f g : List ℕ) (long : length f ≡ length g) (same : bodyOf f ≡ bo
   unfolding stepBy
   step-pair m o n Fresh h a =
       rw (← same-open m o (a .count), ← long)
-      (settled-pair (length b) (openNumber f m) m o (record { length = length f; stage = Sweep 8 }) m o a (λ e. a))
+      (settled-pair noneInvolved (length b) (openNumber f m) m o (record { length = length f; stage = Sweep 8 }) m o a (λ e. a))
   step-pair m o n (Sweep p) h a = let less = body-le f in rw (← same) (swept-pair b m o n a (omega (arith, h .0)) p)
   step-pair m o n (Walking w up) h a =
       let less = body-le f in
-      rw (← same) (turned-pair b m o n a (omega (arith, h .0)) up (turnOf b up w))
-  step-pair m o n (Done v) h a = pair (length b) (record { length = n; stage = Done v }) m o a
-  step-pair m o n Strange h a = pair (length b) (done 20) m o a
+      rw (← same) (turned-pair b m o n a (omega (arith, h .0)) up (holderOf w) (turnOf b up w))
+  step-pair m o n (Done v p) h a = pair (length b) (record { length = n; stage = Done v p }) m o a
+  step-pair m o n Strange h a = pair (length b) (doneBy noneInvolved 20) m o a
 
   record Runs (r s : Run) : Type 0 where
     at-pair : Pair (length b) (r .at) (s .at)
@@ -219,15 +227,16 @@ module _ (f g : List ℕ) (long : length f ≡ length g) (same : bodyOf f ≡ bo
       where
         go : (x y : Bool) → otherFile f m (s .length) ≡ y
             → Alike (length b)
-            (cond x (granted (answerOf (s .stage)) 0 l m) (cond y (granted (pos 21) 0 l m) (worked (runOf f (conf s m) n))))
-            (cond x (granted (answerOf (s .stage)) 0 l o) (cond y (granted (pos 21) 0 l o) (worked (runOf g (conf s o) n))))
-        go true y e = record { answer = refl; steps = refl; state = refl; marks = a .mark }
-        go false true e = record { answer = refl; steps = refl; state = refl; marks = a .mark }
+            (cond x (granted (answerOf (s .stage)) (placeIn (s .stage)) 0 l m) (cond y (granted (pos 21) 0 0 l m) (worked (runOf f (conf s m) n))))
+            (cond x (granted (answerOf (s .stage)) (placeIn (s .stage)) 0 l o) (cond y (granted (pos 21) 0 0 l o) (worked (runOf g (conf s o) n))))
+        go true y e = record { answer = refl; place = refl; steps = refl; state = refl; marks = a .mark }
+        go false true e = record { answer = refl; place = refl; steps = refl; state = refl; marks = a .mark }
         go false false e =
             let r = run-pair s m o (h e) a n in
             let p = r .at-pair in
             record {
               answer = ap (λ (t : State). answerOf (t .stage)) (p .state-is);
+              place = ap (λ (t : State). placeIn (t .stage)) (p .state-is);
               steps = r .made-is;
               state = ap save (p .state-is);
               marks = p .agree .mark;
@@ -237,9 +246,9 @@ module _ (f g : List ℕ) (long : length f ≡ length g) (same : bodyOf f ≡ bo
     unfolding grantOf
     by-grant = go (eqb (length l) stateLength)
       where
-        go : (x : Bool) → Alike (length b) (cond x (grantBy f m l n (load l)) (granted (pos 20) 0 l m)) (cond x (grantBy g o l n (load l)) (granted (pos 20) 0 l o))
+        go : (x : Bool) → Alike (length b) (cond x (grantBy f m l n (load l)) (granted (pos 20) 0 0 l m)) (cond x (grantBy g o l n (load l)) (granted (pos 20) 0 0 l o))
         go true = by-state (load l) (λ e. loaded-sound f (load l) m (load-is l) e)
-        go false = record { answer = refl; steps = refl; state = refl; marks = a .mark }
+        go false = record { answer = refl; place = refl; steps = refl; state = refl; marks = a .mark }
 
 pub padding-idle : PaddingIdle
 padding-idle b p q m o l n u same few count mark =

@@ -26,15 +26,15 @@ swept-goes f o = go (eqb o (endOf f))
     go true = refl
     go false = refl
 
-done-marks : (f m : List ℕ) (n v : ℕ) → stepBy f m n (Done v) .marks ≡ m
+done-marks : (f m : List ℕ) (n v p : ℕ) → stepBy f m n (Done v p) .marks ≡ m
 unfolding stepBy
-done-marks f m n v = refl
+done-marks f m n v p = refl
 
 pub refusal-keeps-marks : RefusalKeepsMarks
-refusal-keeps-marks f m n s v e z = go s e
+refusal-keeps-marks f m n s v p e z = go s e
   where
     P : Conf → Type 0
-    P c = (c .state .stage ≡ Done v) → c .marks ≡ m
+    P c = (c .state .stage ≡ Done v p) → c .marks ≡ m
 
     turn : (up : Levels) (t : T.Turn) → TurnGoes P (bodyOf f) m n up t
     turn up (Over w v) = λ e. refl
@@ -43,11 +43,11 @@ refusal-keeps-marks f m n s v e z = go s e
     turn up (Down w t typed l) = λ h e. absurd (true≢false (sym (ap finished e)))
     turn up (Up w) = λ e. refl
 
-    go : (s : Stage) → stepBy f m n s .state .stage ≡ Done v → stepBy f m n s .marks ≡ m
-    go Fresh e = step-by P f m n (λ v t e. refl) Fresh refl (λ h e. refl) e
+    go : (s : Stage) → stepBy f m n s .state .stage ≡ Done v p → stepBy f m n s .marks ≡ m
+    go Fresh e = step-by P f m n (λ v p t e. refl) Fresh refl (λ h e. refl) e
     go (Sweep o) e =
-        step-by P f m n (λ v t e. refl) (Sweep o) refl
+        step-by P f m n (λ v p t e. refl) (Sweep o) refl
         (λ h e. absurd (true≢false (sym (ap finished e) ∙ swept-goes (bodyOf f) (o + sizeAt (bodyOf f) o)))) e
-    go (Walking w up) e = step-by P f m n (λ v t e. refl) (Walking w up) refl (turn up (turnOf (bodyOf f) up w)) e
-    go (Done u) e = done-marks f m n u
-    go Strange e = step-by P f m n (λ v t e. refl) Strange refl tt e
+    go (Walking w up) e = step-by P f m n (λ v p t e. refl) (Walking w up) refl (turn up (turnOf (bodyOf f) up w)) e
+    go (Done u q) e = done-marks f m n u q
+    go Strange e = step-by P f m n (λ v p t e. refl) Strange refl tt e

@@ -7,6 +7,7 @@ use lib.Dec.{ltb, leb, eqb}
 use lib.IntN.{negsuc}
 use Rattle.format.specs.Fields.{endOf}
 use Rattle.records.specs.Rules.{sizeAt, typedAt}
+use Rattle.marks.specs.declared.Found.{Found}
 
 -- zeros in place of the n marks from an offset on
 unfoldable pub cleared : List ℕ → ℕ → ℕ → List ℕ
@@ -28,13 +29,18 @@ unclaimedAt f m o = not (eqb o 8) && not (typedAt f o (negsuc 0)) && not (eqb (g
 unfoldable pub followedAt : List ℕ → ℕ → Bool
 followedAt f o = leb 8 (sizeAt f o) && leb (o + sizeAt f o) (endOf f)
 
--- from record to record, n at most: 0 at the end; 20 if size and type pass it; 13 if the record is unclaimed; 20 if nothing follows it
-unfoldable pub leftFrom : List ℕ → List ℕ → ℕ → ℕ → ℕ
-leftFrom f m zero o = 20
+abbrev pub found : ℕ → ℕ → Found
+found v o = record { number = v; at = o }
+
+-- from record to record, n at most, and where that stops: 0 at the end; 20 if size and type pass it; 13 if the record is unclaimed; 20 if
+-- nothing follows it
+unfoldable pub leftFrom : List ℕ → List ℕ → ℕ → ℕ → Found
+leftFrom f m zero o = found 20 o
 leftFrom f m (suc n) o =
     let rest = leftFrom f m n (o + sizeAt f o) in
-    cond (eqb o (endOf f)) 0 (cond (ltb (endOf f) (o + 8)) 20 (cond (unclaimedAt f m o) 13 (cond (followedAt f o) rest 20)))
+    cond (eqb o (endOf f)) (found 0 o)
+    (cond (ltb (endOf f) (o + 8)) (found 20 o) (cond (unclaimedAt f m o) (found 13 o) (cond (followedAt f o) rest (found 20 o))))
 
--- "At the UIR end: 13 if a record .. is unclaimed, else accepted"
-unfoldable pub leftOf : List ℕ → List ℕ → ℕ
+-- "At the UIR end: 13 if a record .. is unclaimed, else accepted"; "the first unclaimed record for 13"
+unfoldable pub leftOf : List ℕ → List ℕ → Found
 leftOf f m = leftFrom f m (length f) 8

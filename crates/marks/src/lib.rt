@@ -3,7 +3,7 @@ ghost use mathlib.Core.Path.{_≡_};
 ghost use Prim.Native.Nat.{_+_, _*_, _≤_, _<_};
 ghost use lib.ListN.{length};
 ghost use mathlib.Core.Bool.{true};
-ghost use Rattle.marks.specs.Marks.{cleared, marked, startAt, unclaimedAt, followedAt, leftOf};
+ghost use Rattle.marks.specs.Marks.{cleared, marked, startAt, unclaimedAt, followedAt, found, leftOf};
 ghost use Rattle.records.specs.Rules.{sizeAt};
 use format::fields;
 
@@ -118,9 +118,14 @@ fn is_followed(f: &[u8], o: usize) -> bool
     o + size <= fields::end(f)
 }
 
-// What the walk's last step finds: 13 for a record in use that no link claimed, 20 where size and type pass the end or no
-// record follows, or 0.
-pub fn left(f: &[u8], m: &[u8]) -> u32
+// What the walk's last step finds, a number, and the record that it finds it at.
+pub struct Found {
+    pub number: u32,
+    pub at: u32,
+}
+
+// 13 at a record in use that no link claimed, 20 where size and type pass the end or no record follows, or 0 at the end.
+pub fn left(f: &[u8], m: &[u8]) -> Found
     requires { ⌜ (length (now f) ≤ length (now m)) × (length (now f) ≤ 2147483647) ⌝ }
     ensures { λ r. ⌜ r ≡ leftOf (now (f .entry)) (now (m .entry)) ⌝ }
 {
@@ -129,19 +134,30 @@ pub fn left(f: &[u8], m: &[u8]) -> u32
     let mut n = f.len();
     while 0 < n {
         if o == end {
-            return 0;
+            return found_at(0, o);
         }
         if end < o + 8 {
-            return 20;
+            return found_at(20, o);
         }
         if is_unclaimed(f, m, o) {
-            return 13;
+            return found_at(13, o);
         }
         if !is_followed(f, o) {
-            return 20;
+            return found_at(20, o);
         }
         o += fields::nat_at(f, o) as usize;
         n -= 1;
     }
-    20
+    found_at(20, o)
+}
+
+// A number found at an offset.
+fn found_at(number: u32, o: usize) -> Found
+    requires { ⌜ o ≤ 2147483655 ⌝ }
+    ensures { λ r. ⌜ r ≡ found number o ⌝ }
+{
+    Found {
+        number,
+        at: o as u32,
+    }
 }

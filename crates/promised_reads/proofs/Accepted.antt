@@ -67,7 +67,7 @@ module _ (f : List ℕ) (n : NestedAccepted f) where
 
   pub opens : opened f ≡ true
   unfolding opened tooLong
-  opens = rw (le-ltb 2147483647 (length f) (n .short), opening-makes f (n .opens))
+  opens = rw (le-ltb 2147483647 (length f) (n .opens .short), opening-makes f (n .opens .opens))
 
   standing : (o : ℕ) → o ∈ claimsOf body lay → Stands body o
   standing o i =

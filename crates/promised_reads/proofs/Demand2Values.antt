@@ -22,7 +22,7 @@ use Rattle.answers.specs.declared.Read.{Read}
 use Rattle.answers.specs.declared.Read.the-variants.{Value, Refused}
 use Rattle.demands.specs.Acceptance.{Linked}
 use Rattle.promised_reads.specs.Reading.{PlainAccepts, Met, ValueShown, EntryShown, PadShown, variableThere, attributeThere, InGap, InRange, RecordRefused, ValueRefused, LevelsRefused, PadRefused, EntryRefused, GivenOrRefused, ReadsRight, Demand2Values}
-use Rattle.demands.proofs.NestedDemand.{NestedAccepted, nested-demand}
+use Rattle.demands.proofs.NestedDemand.{NestedAccepted, nested-accepted}
 use Rattle.demands.proofs.Nested.{chainRules}
 use Rattle.demands.proofs.Splits.{listed-reads}
 use Rattle.ways.proofs.Sought.{Finds, Listed, place-listed, InOpened, ToVariable, variable-found, ToEntry, entry-found}
@@ -33,7 +33,7 @@ use Rattle.promised_reads.proofs.Ways.{VariableIn}
 use Rattle.promised_reads.proofs.Accepted.{varsOf, variable-not-there, variable-is-there, VariableOn, variable-on, AttributeOn, attribute-on, entriesIn, entries-linked, EntryLacks, attribute-not-there, attribute-is-there, EntryOn, entry-on}
 
 pub nested : (f : List ℕ) → PlainAccepts f → NestedAccepted f
-nested f p = nested-demand f (p .0) (p .1) .0 (p .2)
+nested f p = nested-accepted f (p .0) (p .1) (p .2)
 
 told : (Shown : Answer → Type 0) (Why : ℕ → Type 0) (s : Read) → Tells Shown Why s → GivenOrRefused Shown Why s
 told Shown Why (Value a) t = t

@@ -60,7 +60,7 @@ tiles-many f [] o t = omega (arith, t)
 tiles-many f (s ∷ ss) o t = omega (arith, fits f o (t .1) .wide, tiles-many f ss (o + sizeAt f o) (t .2))
 
 -- after the GDR: the records of the three lists and all that is below them
-pub room : (f : List ℕ) (v : Valid f (NestedObeys f) (claimsOf f))
+pub room : (f : List ℕ) (v : Valid f 0 0 (NestedObeys f) (claimsOf f))
     → length (variableOffsets f (v .layout .0)) + length (variableOffsets f (v .layout .1 .0)) + length (attributeOffsets (v .layout .1 .1 .0)) ≤ allowance f
 unfolding allowance endOf
 room f v =

@@ -21,7 +21,7 @@ use Rattle.records.specs.Index.{usedAt}
 use Rattle.records.specs.Tree.{Slot, usedEntries, firstOf, lastOf, namedBy, levelsBelow, namesIndex, lowerSlots, lowest, lowestEntries, entriesUnder}
 use Rattle.variables.specs.Vdr.{layoutOf, valueBytes, recordBytes}
 use Rattle.variables.specs.Place.{elementPlace, placed}
-use Rattle.checker.specs.declared.state.Stage.the-variants.{Done}
+use Rattle.checker.specs.Step.{answerOf}
 use Rattle.demands.specs.Acceptance.{_∈_, Each, Linked, IndexRight}
 use Rattle.demands.specs.Demands.{endStage}
 use Rattle.ways.specs.Lists.{meets, headPlace, entriesPlace, ofKinds, kindAmong, variableWay, entryWay}
@@ -38,7 +38,7 @@ use Rattle.descriptors.specs.declared.Field.the-variants.{Is, Refused as NoFiel
 
 -- the plain run over the file f accepts, from fresh, with some marks at least as long
 abbrev pub PlainAccepts : List ℕ → Type 0
-PlainAccepts f = (m : List ℕ) × (length f ≤ length m) × (endStage f m ≡ Done 0)
+PlainAccepts f = (m : List ℕ) × (length f ≤ length m) × (answerOf (endStage f m) ≡ pos 0)
 
 -- ---- THE VALUE SHOWN, of every file, accepted or not
 

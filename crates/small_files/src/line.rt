@@ -14,6 +14,10 @@ pub(crate) fn verdict(v: i32) {
 fn ending(r: Run) {
     io::write_all(1, b": verdict ");
     verdict(r.verdict);
+    if r.place != 0 {
+        io::write_all(1, b" at ");
+        io::print_decimal(1, r.place);
+    }
     io::write_all(1, b" in ");
     io::print_decimal(1, r.steps);
     if r.steps == 1 {
@@ -68,7 +72,7 @@ fn same_marks(a: &[u8], b: &[u8]) -> bool {
 }
 
 fn same_run(a: Run, b: Run) -> bool {
-    (a.verdict == b.verdict) & (a.steps == b.steps)
+    (a.verdict == b.verdict) & (a.place == b.place) & (a.steps == b.steps)
 }
 
 // A file checked both ways, each with marks that are first all 7.

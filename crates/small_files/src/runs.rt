@@ -1,27 +1,35 @@
 // A check from a fresh state to its verdict.
 use checker::grants;
 
-// What a check came to: -1 or its verdict, and the steps it made.
+// What a check came to: -1 or its verdict, the place of a refusal, and the steps it made.
 pub(crate) struct Run {
     pub(crate) verdict: i32,
+    pub(crate) place: u64,
     pub(crate) steps: u64,
 }
 
 // One grant of 1000 steps.
 pub(crate) fn in_one(file: &[u8], marks: &mut [u8]) -> Run {
-    let mut state = [0u32; 33];
+    let mut state = [0u32; 34];
     grants::tlz_check_begin(&mut state);
     let mut steps: u64 = 0;
-    let verdict = grants::tlz_check_grant(file, marks, &mut state, 1000, &mut steps);
-    Run { verdict, steps }
+    let mut place: u64 = 0;
+    let verdict = grants::tlz_check_grant(file, marks, &mut state, 1000, &mut steps, &mut place);
+    Run {
+        verdict,
+        place,
+        steps,
+    }
 }
 
 // One grant of 1 step, after those that made some steps.
 fn one_more(file: &[u8], marks: &mut [u8], state: &mut [u32], made: u64) -> Run {
     let mut steps: u64 = 0;
-    let verdict = grants::tlz_check_grant(file, marks, state, 1, &mut steps);
+    let mut place: u64 = 0;
+    let verdict = grants::tlz_check_grant(file, marks, state, 1, &mut steps, &mut place);
     Run {
         verdict,
+        place,
         steps: std::num::wrapping_add_u64(made, steps),
     }
 }
@@ -40,12 +48,13 @@ fn each(file: &[u8], marks: &mut [u8], state: &mut [u32]) -> Run {
     }
     Run {
         verdict: -1,
+        place: 0,
         steps: made,
     }
 }
 
 pub(crate) fn in_many(file: &[u8], marks: &mut [u8]) -> Run {
-    let mut state = [0u32; 33];
+    let mut state = [0u32; 34];
     grants::tlz_check_begin(&mut state);
     each(file, marks, &mut state)
 }

@@ -1,4 +1,5 @@
--- The small files of document 01, some with lower index records and some that are padded, and their plain runs, in one table.
+-- The small files of document 01, some with lower index records and some that are padded, and their plain runs, in one table: verdict,
+-- place, steps and marks.
 -- Assumes nothing.
 use mathlib.Core.Path.{_≡_, refl}
 use mathlib.Core.Bool.{Bool, true, false, _&&_}
@@ -31,7 +32,9 @@ use Rattle.answers.specs.Answers.{elementThere, elementRead, inRecord, inVariab
 use Rattle.walk.specs.Walk.{typeNumber, followed, gdrNamed, fieldNumber, tallied, varsTally, varNumber, chainTally, attrNumber, valuesNumber, lowerNumber, entriesTally, numNumber, entryNumber, oneMore, unusedNumber, turnBy}
 use Rattle.walk.specs.Levels.{isNone, mostOf, roomBelow}
 use Rattle.marks.specs.Marks.{cleared, marked, startAt, unclaimedAt, followedAt, leftFrom, leftOf}
-use Rattle.checker.specs.Step.{Run, answerOf, openNumber, swept, linkNumber, turned, stepBy, runOf, plainRun}
+use Rattle.faults.specs.Holder.{holderOf}
+use Rattle.faults.specs.Fault.{faultAt}
+use Rattle.checker.specs.Step.{Run, answerOf, placeIn, openNumber, swept, linkNumber, turned, stepBy, runOf, plainRun}
 
 -- ---- files
 -- numbers as control fields, one after the other
@@ -142,12 +145,14 @@ unfoldable pub marksAre : List ℕ → List (ℕ × ℕ) → Bool
 marksAre m [] = true
 marksAre m (p ∷ ps) = eqb (getD m (p .0) 0) (p .1) && marksAre m ps
 
--- the plain run over a file, with marks that are all 7 to begin with, gives this verdict in this many steps and leaves these marks
-unfoldable pub ends : ℤ → ℕ → List (ℕ × ℕ) → Run → Bool
-ends v n ps r = eqZ (answerOf (r .at .state .stage)) v && eqb (r .made) n && marksAre (r .at .marks) ps
+-- the plain run over a file, with marks that are all 7 to begin with, gives this verdict and place in this many steps and leaves these
+-- marks
+unfoldable pub ends : ℤ → ℕ → ℕ → List (ℕ × ℕ) → Run → Bool
+ends v p n ps r =
+    eqZ (answerOf (r .at .state .stage)) v && eqb (placeIn (r .at .state .stage)) p && eqb (r .made) n && marksAre (r .at .marks) ps
 
-unfoldable pub checks : List ℕ → ℤ → ℕ → List (ℕ × ℕ) → Bool
-checks f v n ps = ends v n ps (plainRun f (replicate (length f) 7) (length f / 4 + 1))
+unfoldable pub checks : List ℕ → ℤ → ℕ → ℕ → List (ℕ × ℕ) → Bool
+checks f v p n ps = ends v p n ps (plainRun f (replicate (length f) 7) (length f / 4 + 1))
 
 -- an answer is a signed value that was read at an offset, or a refusal
 unfoldable pub isSigned : ℤ → Value → Bool
@@ -177,24 +182,24 @@ allOf (b ∷ bs) = b && allOf bs
 -- through two, eight and nine levels, and of H with padding
 unfoldable pub rows : List Bool
 rows =
-    checks fileA (pos 0) 8 ((0, 7) ∷ (8, 1) ∷ (312, 2) ∷ [])
-    ∷ checks fileB (pos 3) 1 []
-    ∷ checks fileC (pos 3) 1 ((8, 7) ∷ (312, 7) ∷ [])
-    ∷ checks fileD (pos 0) 9 ((8, 1) ∷ (312, 2) ∷ (372, 1) ∷ [])
-    ∷ checks fileE (pos 13) 9 ((8, 1) ∷ (312, 2) ∷ (372, 1) ∷ [])
-    ∷ checks fileF (pos 0) 10 ((8, 1) ∷ (312, 2) ∷ (372, 2) ∷ [])
-    ∷ checks fileG (pos 9) 10 ((8, 1) ∷ (312, 2) ∷ (372, 2) ∷ [])
-    ∷ checks fileH (pos 0) 15 ((8, 1) ∷ (312, 2) ∷ (372, 2) ∷ (504, 2) ∷ (536, 2) ∷ [])
-    ∷ checks fileI (pos 10) 11 ((8, 1) ∷ (312, 2) ∷ (372, 2) ∷ (504, 2) ∷ (536, 1) ∷ [])
-    -- two levels, eight, and nine: 23 at the entry of the eighth record
-    ∷ checks (deep 2) (pos 0) 18 ((8, 1) ∷ (312, 2) ∷ (372, 2) ∷ (504, 2) ∷ (536, 2) ∷ (568, 2) ∷ [])
-    ∷ checks (deep 8) (pos 0) 36 ((504, 2) ∷ (728, 2) ∷ (760, 2) ∷ [])
-    ∷ checks (deep 9) (pos 23) 26 ((504, 2) ∷ (728, 2) ∷ (760, 1) ∷ (792, 1) ∷ [])
+    checks fileA (pos 0) 0 8 ((0, 7) ∷ (8, 1) ∷ (312, 2) ∷ [])
+    ∷ checks fileB (pos 3) 0 1 []
+    ∷ checks fileC (pos 3) 0 1 ((8, 7) ∷ (312, 7) ∷ [])
+    ∷ checks fileD (pos 0) 0 9 ((8, 1) ∷ (312, 2) ∷ (372, 1) ∷ [])
+    ∷ checks fileE (pos 13) 372 9 ((8, 1) ∷ (312, 2) ∷ (372, 1) ∷ [])
+    ∷ checks fileF (pos 0) 0 10 ((8, 1) ∷ (312, 2) ∷ (372, 2) ∷ [])
+    ∷ checks fileG (pos 9) 372 10 ((8, 1) ∷ (312, 2) ∷ (372, 2) ∷ [])
+    ∷ checks fileH (pos 0) 0 15 ((8, 1) ∷ (312, 2) ∷ (372, 2) ∷ (504, 2) ∷ (536, 2) ∷ [])
+    ∷ checks fileI (pos 10) 536 11 ((8, 1) ∷ (312, 2) ∷ (372, 2) ∷ (504, 2) ∷ (536, 1) ∷ [])
+    -- two levels, eight, and nine: 23 at the entry of the eighth record, for the ninth
+    ∷ checks (deep 2) (pos 0) 0 18 ((8, 1) ∷ (312, 2) ∷ (372, 2) ∷ (504, 2) ∷ (536, 2) ∷ (568, 2) ∷ [])
+    ∷ checks (deep 8) (pos 0) 0 36 ((504, 2) ∷ (728, 2) ∷ (760, 2) ∷ [])
+    ∷ checks (deep 9) (pos 23) 760 26 ((504, 2) ∷ (728, 2) ∷ (760, 1) ∷ (792, 1) ∷ [])
     -- padding of 1, 140 and 511 bytes, whose marks stay, and of 512
-    ∷ checks (padded 1) (pos 0) 15 ((312, 2) ∷ (536, 2) ∷ (549, 0) ∷ (550, 7) ∷ [])
-    ∷ checks (padded 140) (pos 0) 15 ((312, 2) ∷ (536, 2) ∷ (549, 0) ∷ (550, 7) ∷ (689, 7) ∷ [])
-    ∷ checks (padded 511) (pos 0) 15 ((312, 2) ∷ (536, 2) ∷ (549, 0) ∷ (550, 7) ∷ (1060, 7) ∷ [])
-    ∷ checks (padded 512) (pos 6) 1 ((8, 7) ∷ (549, 7) ∷ (550, 7) ∷ [])
+    ∷ checks (padded 1) (pos 0) 0 15 ((312, 2) ∷ (536, 2) ∷ (549, 0) ∷ (550, 7) ∷ [])
+    ∷ checks (padded 140) (pos 0) 0 15 ((312, 2) ∷ (536, 2) ∷ (549, 0) ∷ (550, 7) ∷ (689, 7) ∷ [])
+    ∷ checks (padded 511) (pos 0) 0 15 ((312, 2) ∷ (536, 2) ∷ (549, 0) ∷ (550, 7) ∷ (1060, 7) ∷ [])
+    ∷ checks (padded 512) (pos 6) 0 1 ((8, 7) ∷ (549, 7) ∷ (550, 7) ∷ [])
     ∷ gives (negsuc 256) 546 (reads (fileJ 6) 1 [])
     ∷ gives (negsuc 1) 546 (reads (fileJ 1) 1 [])
     ∷ refuses 16 (reads fileH 3 [])
@@ -216,7 +221,7 @@ unfolding bigAt endOf fieldAt isAt atLeast atMost inOrder sameAt eachWithin natA
     entryOf vvrRule uirRule capped carriedOf vdrFields countPlace countRight layoutAt layoutOf valueBytes padBytes
     sizeExact dimensionsRight factorOf spread recordBytes dimensioned variableOf typeNumber followed gdrNamed fieldNumber tallied varsTally
     varNumber chainTally attrNumber valuesNumber lowerNumber entriesTally numNumber entryNumber oneMore unusedNumber isNone mostOf roomBelow turnBy cleared marked startAt unclaimedAt
-    followedAt leftFrom leftOf openNumber swept linkNumber turned stepBy runOf littleAt placeAfter elementPlace indicesRight
+    followedAt leftFrom leftOf holderOf faultAt openNumber swept linkNumber turned stepBy runOf littleAt placeAfter elementPlace indicesRight
     rowFits placed placeOf rawAt valueOf bitsOf isVax isNothing decodedOf opened allowance landsOn vdrKept ruleKept meets
     lastLink sought placeWay variableWay recordThere recordRead lookedUp scanned indexMet lastIndex indexed lowerMet lowered valuesMet
     recordWay elementThere elementRead inRecord inVariable valueRead wordsOf fileBy fileOf indexTo variableBy variable levels deep padded plane fileA fileB

@@ -22,44 +22,60 @@ loop-holds : tie.Need-loop-holds Inv-loop μ-loop
 unfolding leftOf
 loop-holds c = search needs
 
+found-at-requires : tie.Need-found-at-requires Inv-loop μ-loop
+found-at-requires c κs = omega arith
+
 returns : tie.Need-returns Inv-loop μ-loop
 returns c =
-    let l = c .before .before .loop in
-    let a = c .before .before .before .before .before .before .args in
-    at-end (a .f .now) (a .m .now) (l .n) (l .o) (c .before .loop-test .taken) (c .if1 .taken ∙ c .before .before .before .end .ensures .0) ∙ sym (l .inv .1)
+    let d = c .before in
+    let l = d .before .before .loop in
+    let a = d .before .before .before .before .before .before .args in
+    c .found-at .ensures ∙ at-end (a .f .now) (a .m .now) (l .n) (l .o) (d .before .loop-test .taken) (d .if1 .taken ∙ d .before .before .before .end .ensures .0) ∙ sym (l .inv .1)
 
 add-if2 : tie.Need-add-if2 Inv-loop μ-loop
 add-if2 c = omega arith
 
+found-at-requires-2 : tie.Need-found-at-requires-2 Inv-loop μ-loop
+found-at-requires-2 c κs = omega arith
+
 returns-2 : tie.Need-returns-2 Inv-loop μ-loop
 returns-2 c =
-    let l = c .before .before .before .loop in
-    let a = c .before .before .before .before .before .before .before .args in
-    let end = c .before .before .before .before .end .ensures .0 in
-    past-end (a .f .now) (a .m .now) (l .n) (l .o) (c .before .before .loop-test .taken) (λ e. c .before .if1 .left (e ∙ sym end)) (rw end at (c .if2 .taken)) ∙ sym (l .inv .1)
+    let d = c .before in
+    let l = d .before .before .before .loop in
+    let a = d .before .before .before .before .before .before .before .args in
+    let end = d .before .before .before .before .end .ensures .0 in
+    c .found-at2 .ensures ∙ past-end (a .f .now) (a .m .now) (l .n) (l .o) (d .before .before .loop-test .taken) (λ e. d .before .if1 .left (e ∙ sym end)) (rw end at (d .if2 .taken)) ∙ sym (l .inv .1)
 
 is-unclaimed-requires : tie.Need-is-unclaimed-requires Inv-loop μ-loop
 is-unclaimed-requires c κs = (search needs, omega (arith, c .if2 .left, c .before .before .before .before .end .ensures .1))
 
+found-at-requires-3 : tie.Need-found-at-requires-3 Inv-loop μ-loop
+found-at-requires-3 c κs = omega arith
+
 returns-3 : tie.Need-returns-3 Inv-loop μ-loop
 returns-3 c =
-    let l = c .before .before .before .before .before .loop in
-    let a = c .before .before .before .before .before .before .before .before .before .args in
-    let end = c .before .before .before .before .before .before .end .ensures .0 in
-    not-claimed (a .f .now) (a .m .now) (l .n) (l .o) (c .before .before .before .before .loop-test .taken) (λ e. c .before .before .before .if1 .left (e ∙ sym end)) (rw end at (c .before .before .if2 .left))
-    (sym (c .before .is-unclaimed .ensures) ∙ c .if3 .taken) ∙ sym (l .inv .1)
+    let d = c .before in
+    let l = d .before .before .before .before .before .loop in
+    let a = d .before .before .before .before .before .before .before .before .before .args in
+    let end = d .before .before .before .before .before .before .end .ensures .0 in
+    c .found-at3 .ensures ∙ not-claimed (a .f .now) (a .m .now) (l .n) (l .o) (d .before .before .before .before .loop-test .taken) (λ e. d .before .before .before .if1 .left (e ∙ sym end)) (rw end at (d .before .before .if2 .left))
+    (sym (d .before .is-unclaimed .ensures) ∙ d .if3 .taken) ∙ sym (l .inv .1)
 
 is-followed-requires : tie.Need-is-followed-requires Inv-loop μ-loop
 is-followed-requires c κs = omega (arith, c .before .before .if2 .left, c .before .before .before .before .before .before .end .ensures .1)
 
+found-at-requires-4 : tie.Need-found-at-requires-4 Inv-loop μ-loop
+found-at-requires-4 c κs = omega arith
+
 returns-4 : tie.Need-returns-4 Inv-loop μ-loop
 returns-4 c =
-    let l = c .before .before .before .before .before .before .before .loop in
-    let a = c .before .before .before .before .before .before .before .before .before .before .before .args in
-    let end = c .before .before .before .before .before .before .before .before .end .ensures .0 in
-    let k = c .before .is-followed in
-    not-followed (a .f .now) (a .m .now) (l .n) (l .o) (c .before .before .before .before .before .before .loop-test .taken) (λ e. c .before .before .before .before .before .if1 .left (e ∙ sym end)) (rw end at (c .before .before .before .before .if2 .left))
-    (sym (c .before .before .before .is-unclaimed .ensures) ∙ c .before .before .if3 .left) (sym (k .ensures .0) ∙ not-true (k .result) (c .if4 .taken)) ∙ sym (l .inv .1)
+    let d = c .before in
+    let l = d .before .before .before .before .before .before .before .loop in
+    let a = d .before .before .before .before .before .before .before .before .before .before .before .args in
+    let end = d .before .before .before .before .before .before .before .before .end .ensures .0 in
+    let k = d .before .is-followed in
+    c .found-at4 .ensures ∙ not-followed (a .f .now) (a .m .now) (l .n) (l .o) (d .before .before .before .before .before .before .loop-test .taken) (λ e. d .before .before .before .before .before .if1 .left (e ∙ sym end)) (rw end at (d .before .before .before .before .if2 .left))
+    (sym (d .before .before .before .is-unclaimed .ensures) ∙ d .before .before .if3 .left) (sym (k .ensures .0) ∙ not-true (k .result) (d .if4 .taken)) ∙ sym (l .inv .1)
 
 nat-at-requires : tie.Need-nat-at-requires Inv-loop μ-loop
 nat-at-requires c κs = omega (arith, c .before .before .before .before .if2 .left, c .before .before .before .before .before .before .before .before .end .ensures .1)
@@ -89,11 +105,15 @@ loop-again c =
           (sym (c .before .before .before .before .is-unclaimed .ensures) ∙ c .before .before .before .if3 .left) (sym (k .ensures .0) ∙ t) ∙ rw (c .nat-at .ensures .0),
     )
 
+found-at-requires-5 : tie.Need-found-at-requires-5 Inv-loop μ-loop
+found-at-requires-5 c κs = omega arith
+
 returns-5 : tie.Need-returns-5 Inv-loop μ-loop
 returns-5 c =
-    let l = c .before .loop in
-    let a = c .before .before .before .before .before .args in
-    none-left (a .f .now) (a .m .now) (l .n) (l .o) (c .loop-test .left) ∙ sym (l .inv .1)
+    let d = c .before in
+    let l = d .before .loop in
+    let a = d .before .before .before .before .before .args in
+    c .found-at5 .ensures ∙ none-left (a .f .now) (a .m .now) (l .n) (l .o) (d .loop-test .left) ∙ sym (l .inv .1)
 
 pub left-spec : {M : Type 1} → statement M
 left-spec =
@@ -103,12 +123,16 @@ left-spec =
     μ-loop
     end-requires
     loop-holds
+    found-at-requires
     returns
     add-if2
+    found-at-requires-2
     returns-2
     is-unclaimed-requires
+    found-at-requires-3
     returns-3
     is-followed-requires
+    found-at-requires-4
     returns-4
     nat-at-requires
     cast-o
@@ -116,4 +140,5 @@ left-spec =
     sub-n
     loop-less
     loop-again
+    found-at-requires-5
     returns-5)

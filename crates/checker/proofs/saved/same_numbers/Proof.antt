@@ -9,10 +9,10 @@ use Rattle.checker.proofs.saved.same_numbers.Statement.{statement}
 use Rattle.checker.proofs.saved.same_numbers.Tie as tie
 
 abbrev Inv-loop : tie.InvT-loop
-Inv-loop a s i₀ i = (i ≤ 33) × (sameNumbers a s ≡ sameNumbers (drop i a) (drop i s))
+Inv-loop a s i₀ i = (i ≤ 34) × (sameNumbers a s ≡ sameNumbers (drop i a) (drop i s))
 
 abbrev μ-loop : tie.MeasureT-loop
-μ-loop a s i₀ i = 33 - i
+μ-loop a s i₀ i = 34 - i
 
 loop-holds : tie.Need-loop-holds Inv-loop μ-loop
 loop-holds c = (search needs, refl)

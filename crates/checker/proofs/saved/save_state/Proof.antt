@@ -2,8 +2,8 @@ use lib.ListN.{length-set, getD, set, length, drop, take}
 use mathlib.Core.Path.{ap, _≡_, _∙_, refl}
 use lib.Seq.{length-take-le}
 use Rattle.checker.specs.Saved.{saveLevels, save}
-use Rattle.checker.proofs.Same.{copied-one, copied-all, levels-long}
-use mathlib.Core.List.{List, _++_}
+use Rattle.checker.proofs.Same.{copied-one, copied-all, rest-long}
+use mathlib.Core.List.{List, [], _∷_, _++_}
 use Prim.Native.Nat.{ℕ, _≤_, _-_}
 use native.Mathlib.Omega.{arith}
 use borrow.Author.Needs.{needs}
@@ -11,7 +11,7 @@ use Rattle.checker.proofs.saved.save_state.Statement.{statement}
 use Rattle.checker.proofs.saved.save_state.Tie as tie
 
 abbrev Inv-loop : tie.InvT-loop
-Inv-loop s₀ a i₀ s i = (i ≤ 12) × (length a ≡ 12) × (length s ≡ 33) × (s ≡ take i a ++ drop i s₀)
+Inv-loop s₀ a i₀ s i = (i ≤ 12) × (length a ≡ 12) × (length s ≡ 34) × (s ≡ take i a ++ drop i s₀)
 
 abbrev μ-loop : tie.MeasureT-loop
 μ-loop s₀ a i₀ s i = 12 - i
@@ -22,16 +22,20 @@ stage-numbers-requires c κs = c .before .pre .1
 levels-in-requires : tie.Need-levels-in-requires Inv-loop μ-loop
 levels-in-requires c κs = search needs
 
-save-levels-requires : tie.Need-save-levels-requires Inv-loop μ-loop
-save-levels-requires c κs = c .before .before .before .before .pre .0
+place-in-requires : tie.Need-place-in-requires Inv-loop μ-loop
+place-in-requires c κs = search needs
+
+save-rest-requires : tie.Need-save-rest-requires Inv-loop μ-loop
+save-rest-requires c κs = c .before .before .before .before .before .pre .0
 
 loop-holds : tie.Need-loop-holds Inv-loop μ-loop
 loop-holds c =
-    let levels = c .before .before .save-levels in
-    let up = c .before .before .before .levels-in in
-    let n = c .before .before .before .before .before .stage-numbers in
-    let a = c .before .before .before .before .before .before .before in
-    (search needs, search (needs, n .ok), rw (levels .ensures) (levels-long (a .args .s .now) (up .result) (a .pre .0)), refl)
+    let rest = c .before .before .save-rest in
+    let place = c .before .before .before .place-in in
+    let up = c .before .before .before .before .levels-in in
+    let n = c .before .before .before .before .before .before .stage-numbers in
+    let a = c .before .before .before .before .before .before .before .before in
+    (search needs, search (needs, n .ok), rw (rest .ensures) (rest-long (a .args .s .now) (up .result) (place .result) (a .pre .0)), refl)
 
 mul-s : tie.Need-mul-s Inv-loop μ-loop
 mul-s c = search needs
@@ -54,8 +58,8 @@ loop-less c = search needs
 loop-again : tie.Need-loop-again Inv-loop μ-loop
 loop-again c =
     let l = c .before .loop in
-    let levels = c .before .before .before .before .save-levels in
-    let n = c .before .before .before .before .before .before .before .stage-numbers in
+    let rest = c .before .before .before .before .save-rest in
+    let n = c .before .before .before .before .before .before .before .before .stage-numbers in
     let t = c .loop-test .taken in (
       omega arith,
       l .inv .1,
@@ -70,16 +74,17 @@ returns : tie.Need-returns Inv-loop μ-loop
 unfolding save
 returns c =
     let l = c .before .loop in
-    let levels = c .before .before .before .before .save-levels in
-    let up = c .before .before .before .before .before .levels-in in
-    let n = c .before .before .before .before .before .before .before .stage-numbers in
-    let a = c .before .before .before .before .before .before .before .before .before in
+    let rest = c .before .before .before .before .save-rest in
+    let place = c .before .before .before .before .before .place-in in
+    let up = c .before .before .before .before .before .before .levels-in in
+    let n = c .before .before .before .before .before .before .before .before .stage-numbers in
+    let a = c .before .before .before .before .before .before .before .before .before .before in
     let t = c .loop-test .left in
     let head = take 12 (a .args .s .now) in
     let long : length head ≡ 12 = length-take-le 12 (a .args .s .now) (omega (arith, a .pre .0)) in
     l .inv .3
-    ∙ copied-all (n .result) _ head (saveLevels (up .result)) (l .i) (levels .ensures) (omega arith) (omega arith)
-    ∙ rw (n .ensures, up .ensures)
+    ∙ copied-all (n .result) _ head (saveLevels (up .result) ++ (place .result ∷ [])) (l .i) (rest .ensures) (omega arith) (omega arith)
+    ∙ rw (n .ensures, up .ensures, place .ensures)
 
 pub save-state-spec : {M : Type 1} → statement M
 save-state-spec =
@@ -89,7 +94,8 @@ save-state-spec =
     μ-loop
     stage-numbers-requires
     levels-in-requires
-    save-levels-requires
+    place-in-requires
+    save-rest-requires
     loop-holds
     mul-s
     array-read-s

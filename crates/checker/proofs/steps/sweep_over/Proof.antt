@@ -10,12 +10,15 @@ use Rattle.checker.proofs.steps.sweep_over.Tie as tie
 tile-at-requires : tie.Need-tile-at-requires
 tile-at-requires c κs = search needs
 
+sweeping-requires : tie.Need-sweeping-requires
+sweeping-requires c κs = search needs
+
 refused-requires : tie.Need-refused-requires
 refused-requires c κs = search needs
 
 returns : tie.Need-returns
 unfolding swept
-returns c = simp (c .refused .ensures, ne-eqb _ _ (c .before .if1 .taken), ← c .before .before .tile-at .ensures)
+returns c = simp (c .refused .ensures, c .before .sweeping .ensures, ne-eqb _ _ (c .before .before .if1 .taken), ← c .before .before .before .tile-at .ensures)
 
 nat-at-requires : tie.Need-nat-at-requires
 nat-at-requires c κs = let a = c .before .before .before .before .args in omega (arith, tiled (a .b .now) (a .at) (sym (c .before .tile-at .ensures) ∙ c .if1 .left))
@@ -54,6 +57,7 @@ sweep-over-spec =
     tie.close
     (tie.spec
     tile-at-requires
+    sweeping-requires
     refused-requires
     returns
     nat-at-requires

@@ -1,13 +1,13 @@
 use mathlib.Core.Path.{_≡_, ap, _∙_}
-use mathlib.Core.List.{List, _++_, append-nil}
+use mathlib.Core.List.{List, [], _∷_, _++_, append-nil}
 use Prim.Native.Nat.{ℕ}
 use native.Mathlib.Omega.{arith}
 use lib.ListN.{length, take, length-set, drop-of-length-le}
 use lib.Seq.{sets-eq}
 use Rattle.checker.specs.Saved.{saveLevels}
 use borrow.Author.Needs.{needs}
-use Rattle.checker.proofs.saved.save_levels.Statement.{statement}
-use Rattle.checker.proofs.saved.save_levels.Tie as tie
+use Rattle.checker.proofs.saved.save_rest.Statement.{statement}
+use Rattle.checker.proofs.saved.save_rest.Tie as tie
 
 slice-write-s : tie.Need-slice-write-s
 slice-write-s c = search needs
@@ -72,6 +72,9 @@ slice-write-s-20 c = simp length-set (omega arith)
 slice-write-s-21 : tie.Need-slice-write-s-21
 slice-write-s-21 c = simp length-set (omega arith)
 
+slice-write-s-22 : tie.Need-slice-write-s-22
+slice-write-s-22 c = simp length-set (omega arith)
+
 same-length : tie.Need-same-length
 same-length c = simp length-set
 
@@ -79,13 +82,14 @@ returns : tie.Need-returns
 returns c =
     let a = c .before .before .before .before .before .before .before .args in
     let l = a .s .now in
-    let h : length l ≡ 33 = search needs in
-    sets-eq (saveLevels (a .up)) l 12 (omega arith)
-    ∙ ap (λ (r : List ℕ). take 12 l ++ saveLevels (a .up) ++ r) (drop-of-length-le l {i = 33} (omega arith))
-    ∙ append-nil (take 12 l ++ saveLevels (a .up))
+    let rest : List ℕ = saveLevels (a .up) ++ (a .place ∷ []) in
+    let h : length l ≡ 34 = search needs in
+    sets-eq rest l 12 (omega arith)
+    ∙ ap (λ (r : List ℕ). take 12 l ++ rest ++ r) (drop-of-length-le l {i = 34} (omega arith))
+    ∙ append-nil (take 12 l ++ rest)
 
-pub save-levels-spec : {M : Type 1} → statement M
-save-levels-spec =
+pub save-rest-spec : {M : Type 1} → statement M
+save-rest-spec =
     tie.close
     (tie.spec
     slice-write-s
@@ -109,5 +113,6 @@ save-levels-spec =
     slice-write-s-19
     slice-write-s-20
     slice-write-s-21
+    slice-write-s-22
     same-length
     returns)

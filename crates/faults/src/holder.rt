@@ -1,0 +1,56 @@
+// The record that holds the link where the walk stands.
+ghost use mathlib.Core.Path.{_≡_};
+ghost use Prim.Native.Nat.{_-_};
+ghost use lib.Dec.{eqb};
+ghost use mathlib.Core.Bool.{cond};
+ghost use Rattle.faults.specs.Holder.{linkIn, holderOf};
+use walk::places::Walk;
+
+// n bytes before an offset, or 0 if there are fewer.
+fn back(p: u32, n: u32) -> u32
+    ensures { λ r. ⌜ r ≡ p - n ⌝ }
+{
+    if p < n {
+        return 0;
+    }
+    p - n
+}
+
+// Where a link stands in its record: the head of a list of which none is taken yet, or a next.
+fn link_in(taken: u32, head: u32) -> u32
+    ensures { λ r. ⌜ r ≡ linkIn taken head ⌝ }
+{
+    if taken == 0 { head } else { 8 }
+}
+
+// One place if the kind is z, another elsewhere.
+fn by_kind(kind: u32, z: u32, there: u32, elsewhere: u32) -> u32
+    ensures { λ r. ⌜ r ≡ cond (eqb kind z) there elsewhere ⌝ }
+{
+    if kind == z { there } else { elsewhere }
+}
+
+// The record that holds the link where the walk stands.
+pub fn holder(w: Walk) -> u32
+    ensures { λ r. ⌜ r ≡ holderOf w ⌝ }
+{
+    match w {
+        Walk::Start => 8,
+        Walk::Vars {
+            kind,
+            link,
+            count,
+            ..
+        } => back(link, link_in(count, by_kind(kind, 8, 12, 8))),
+        Walk::Chain { link, before, .. } => back(link, link_in(before, 20)),
+        Walk::Entry { vxr, .. } => vxr,
+        Walk::Attrs { link, count } => back(link, link_in(count, 16)),
+        Walk::Entries {
+            kind,
+            link,
+            count,
+            ..
+        } => back(link, link_in(count, by_kind(kind, 9, 36, 12))),
+        Walk::Unused { link, before } => back(link, link_in(before, 44)),
+    }
+}

@@ -1,0 +1,3 @@
+// Where a refusal lies: the record at fault.
+pub mod fault;
+pub mod holder;
