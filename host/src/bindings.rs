@@ -4,7 +4,7 @@
 #![allow(unsafe_code)]
 
 /// How many numbers a saved state has.
-pub const STATE_LENGTH: usize = 33;
+pub const STATE_LENGTH: usize = 34;
 
 /// A saved state of the right length.
 pub type State = [u32; STATE_LENGTH];
@@ -22,6 +22,7 @@ mod c {
             state_len: usize,
             grant: u64,
             steps: *mut u64,
+            place: *mut u64,
         ) -> i32;
         pub fn tlz_read_value(
             file: *const u8,
@@ -150,15 +151,18 @@ mod c {
     }
 }
 
-/// Makes a state fresh: -1, since there is no verdict yet, or 20 and nothing changed if it has not 33 numbers.
+/// Makes a state fresh: -1, since there is no verdict yet, or 20 and nothing changed if it has not 34 numbers.
 pub fn check_begin(state: &mut [u32]) -> i32 {
     // SAFETY: pointer and length are one lent slice's.
     unsafe { c::tlz_check_begin(state.as_mut_ptr(), state.len()) }
 }
 
-/// A grant of steps on a saved state: what it answers, and the steps made.
-pub fn check_grant(file: &[u8], marks: &mut [u8], state: &mut [u32], grant: u64) -> (i32, u64) {
-    let mut steps = u64::MAX;
+/// What a grant leaves: its answer, the steps made, and the file offset of the record at fault or 0.
+pub type Granted = (i32, u64, u64);
+
+/// A grant of steps on a saved state.
+pub fn check_grant(file: &[u8], marks: &mut [u8], state: &mut [u32], grant: u64) -> Granted {
+    let (mut steps, mut place) = (u64::MAX, u64::MAX);
     // SAFETY: each pointer and its length are one lent slice's, or a local number's; the borrows keep
     // what is written apart from all else.
     let answer = unsafe {
@@ -171,9 +175,10 @@ pub fn check_grant(file: &[u8], marks: &mut [u8], state: &mut [u32], grant: u64)
             state.len(),
             grant,
             &mut steps,
+            &mut place,
         )
     };
-    (answer, steps)
+    (answer, steps, place)
 }
 
 /// A fresh state.
@@ -183,8 +188,8 @@ pub fn fresh() -> State {
     state
 }
 
-/// The whole check at once: verdict and steps.
-pub fn run(file: &[u8], marks: &mut [u8]) -> (i32, u64) {
+/// The whole check at once.
+pub fn run(file: &[u8], marks: &mut [u8]) -> Granted {
     check_grant(file, marks, &mut fresh(), u64::MAX)
 }
 
@@ -193,7 +198,7 @@ pub fn to_bytes(state: &State) -> Vec<u8> {
     state.iter().flat_map(|number| number.to_le_bytes()).collect()
 }
 
-/// The state that these bytes keep; nothing if they are not 132.
+/// The state that these bytes keep; nothing if they are not 136.
 pub fn from_bytes(bytes: &[u8]) -> Option<State> {
     let numbers: Vec<u32> = bytes
         .chunks_exact(4)

@@ -2,17 +2,19 @@
 //!
 //! A round builds a good file and damages it or not. Both check it, in one grant and in grants at random. Then both go on
 //! from points of the check with marks made up, from states made up, and after bytes of the file have been changed. At
-//! every stop they must agree in the answer, the steps, all 33 numbers of the state and every mark, and one grant must
-//! leave what several do. Then both readers are asked: they must answer the same, and never 20 on an accepted file. On
+//! every stop they must agree in the answer, the steps, the place, all 34 numbers of the state and every mark, one grant must
+//! leave what several do, and a grant after the end must say the same again. Then both readers are asked: they must answer the same, and never 20 on an accepted file. On
 //! a padded file all this must be the same with other bytes and other marks in the padding, which must stay.
 
+use crate::bindings::Granted;
 use crate::build;
 use crate::build::model::{File, Index};
 use crate::build::random::Random;
 use crate::damage::{self, Damage};
 use crate::made_up::{Point, Source, BEYOND};
 use crate::padding;
-use crate::pair::{to_the_end, Compared, Pair};
+use crate::pair::{said_again, to_the_end, Compared, Pair};
+use crate::places;
 use crate::questions::{self, Given, Question};
 use crate::second::check::{self, FRESH, RUNNING};
 use crate::second::read;
@@ -69,6 +71,8 @@ impl fmt::Display for Covered {
         writeln!(out, "grants            {}", self.compared.grants)?;
         writeln!(out, "steps by phase    {}", list(&self.compared.steps))?;
         writeln!(out, "steps by levels   {}", list(&self.compared.levels))?;
+        writeln!(out, "places by answer  {}", list(&self.compared.places))?;
+        writeln!(out, "said again        {}", list(&self.compared.repeated))?;
         writeln!(out, "short marks       {}", list(&self.short_marks))?;
         writeln!(out, "made-up marks     {}", list(&self.made_up_marks))?;
         writeln!(out, "made-up states    by phase {}", list(&self.made_up_states))?;
@@ -233,16 +237,22 @@ fn with_questions(file: &[u8], random: &mut Random, covered: &mut Covered) -> Re
 fn short_marks(file: &[u8], random: &mut Random, covered: &mut Covered) -> Result<(), String> {
     let mut pair = Pair::fresh(&vec![7; random.place(file.len())]);
     let expected = if pair.marks().len() < file.len() { 2 } else { 3 };
-    let (answer, _) = pair.grant(file, 1, &mut covered.compared)?;
+    let (answer, _, place) = pair.grant(file, 1, &mut covered.compared)?;
     count(&mut covered.short_marks, answer);
-    (answer == expected).then_some(()).ok_or(format!("short marks: {answer}"))
+    let right = (answer, place) == (expected, 0);
+    right.then_some(()).ok_or(format!("short marks: {answer}, place {place}"))
 }
 
 /// The whole check in one grant: its steps.
 fn whole(file: &[u8], covered: &mut Covered) -> Result<u64, String> {
     let mut pair = Pair::fresh(&vec![0xAA; file.len()]);
-    let (verdict, steps) = pair.grant(file, u64::MAX, &mut covered.compared)?;
+    let granted = pair.grant(file, u64::MAX, &mut covered.compared)?;
+    let (verdict, steps, place) = granted;
     count(&mut covered.verdicts, verdict);
+    if !places::is_right(file, verdict, place) {
+        return Err(format!("{verdict} at {place}, where it cannot be due"));
+    }
+    said_again(&pair, granted, &mut covered.compared)?;
     if steps > file.len() as u64 / 4 + 1 {
         return Err(format!("{steps} steps for {} bytes", file.len()));
     }
@@ -265,17 +275,17 @@ fn in_grants(
         answer = granted.0;
         made += granted.1;
         if made > 0 && random.once_in(8) {
-            other_file(&pair, file, answer, random, covered)?;
+            other_file(&pair, file, granted, random, covered)?;
         }
     }
     (made == steps).then_some(()).ok_or(format!("{made} steps in grants, {steps} in one"))
 }
 
-/// A file of another length answers 21, or the verdict, and changes nothing.
+/// A file of another length answers 21, or the verdict and the place, and changes nothing.
 fn other_file(
     pair: &Pair,
     file: &[u8],
-    answer: i32,
+    before: Granted,
     random: &mut Random,
     covered: &mut Covered,
 ) -> Result<(), String> {
@@ -284,9 +294,12 @@ fn other_file(
     let lent = if random.once_in(2) { longer.as_slice() } else { shorter };
     let mut other = pair.clone();
     let granted = other.grant(lent, 5, &mut covered.compared)?;
-    let expected = if answer == RUNNING { check::OTHER_FILE } else { answer };
+    let expected = match before {
+        (RUNNING, ..) => (check::OTHER_FILE, 0, 0),
+        (answer, _, place) => (answer, 0, place),
+    };
     let same = other.state() == pair.state() && other.marks() == pair.marks();
-    let right = same && granted == (expected, 0);
+    let right = same && granted == expected;
     right.then_some(()).ok_or(format!("another file lent: {granted:?}, unchanged: {same}"))
 }
 
@@ -301,13 +314,15 @@ fn with_marks(source: &Source, random: &mut Random, covered: &mut Covered) -> Re
 
 /// Both go on from states made up.
 fn with_states(source: &Source, random: &mut Random, covered: &mut Covered) -> Result<(), String> {
-    for _ in 0..8 {
+    for _ in 0..12 {
         let (real, marks) = source.any_point(random);
         let marks = source.any_marks(marks, random);
-        let state = match random.below(4) {
+        let state = match random.below(6) {
             0 => source.near(real, random),
             1 => source.in_range(random),
             2 => source.wrong_levels(random),
+            3 => source.wrong_place(random),
+            4 => source.finished(random),
             _ => source.anything(random),
         };
         count(&mut covered.made_up_states, state[2].min(9));
@@ -399,5 +414,6 @@ mod tests {
         assert!(one.levels_answered.len() >= 5, "{one}");
         assert!(one.padding.len() == 5 && one.padded() > 60, "{one}");
         assert!(one.other_padding.len() > 8 && one.changes.len() == 4, "{one}");
+        assert!(one.compared.places.len() == 9 && one.compared.repeated.len() == 9, "{one}");
     }
 }

@@ -1,5 +1,5 @@
 //! The host side of Tlepozaluh: a second checker and reader of CDF files, written
-//! from document 01, the requests for lower index records and padded files and docs/STATE.md alone, a
+//! from document 01, the requests for lower index records, padded files and places of refusals and docs/STATE.md alone, a
 //! builder of good files and sources of damaged ones, and of states that no check leaves.
 //!
 //! The proved checker and reader, behind `bindings`, are compared with `second`; the two share no code.
@@ -17,6 +17,7 @@ pub mod fuzz;
 pub mod made_up;
 pub mod padding;
 pub mod pair;
+pub mod places;
 pub mod questions;
 pub mod samples;
 pub mod second;

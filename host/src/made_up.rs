@@ -4,10 +4,13 @@ use crate::build::random::Random;
 use crate::build::records::put;
 use crate::damage::{self, Found};
 use crate::second::bytes::field;
-use crate::second::check::{Check, State, RUNNING, STATE_LENGTH};
+use crate::second::check::{Check, State, FRESH, RUNNING, STATE_LENGTH};
 use crate::second::rules::body;
-use crate::second::state::{self, FIRST_LEVEL, LEVEL_LENGTH, LEVEL_RANGES, MOST_LEVELS};
+use crate::second::state::{self, FIRST_LEVEL, LEVEL_LENGTH, LEVEL_RANGES, MOST_LEVELS, PLACE};
 use crate::second::state::{GREATEST_COUNT, GREATEST_LINK, GREATEST_OFFSET};
+
+/// Number 0 of every finished state: the verdicts 0 to 14, 20 and 23, each with 1 added.
+pub const FINISHED: [u32; 17] = [1, 2, 3, 4, 5, 6, 7, 8, 9, 10, 11, 12, 13, 14, 15, 21, 24];
 
 /// Marks behind the file that nobody may write.
 pub const BEYOND: usize = 5;
@@ -147,7 +150,7 @@ impl Source {
     /// Numbers in their ranges, of the file's length; along an index often with levels.
     pub fn in_range(&self, random: &mut Random) -> State {
         let phase = u32::try_from(random.between(1, 8)).unwrap_or(1);
-        let mut state = [0; STATE_LENGTH];
+        let mut state = FRESH;
         state[1] = self.file.len() as u32;
         state[2] = phase;
         state[3] = random.one_of(state::kinds(phase)).copied().unwrap_or(0);
@@ -228,7 +231,7 @@ impl Source {
 
     /// Any numbers, half of them of the file's length.
     pub fn anything(&self, random: &mut Random) -> State {
-        let mut state = [0; STATE_LENGTH];
+        let mut state = FRESH;
         for number in &mut state {
             *number = if random.once_in(2) { 0 } else { self.any_number(random) };
         }
@@ -239,6 +242,24 @@ impl Source {
         if random.once_in(2) {
             set_levels(&mut state, &[]);
         }
+        if random.once_in(2) {
+            state[PLACE] = 0;
+        }
+        state
+    }
+
+    /// A finished state of any verdict, with a place of any kind; the other numbers are 0 or any.
+    pub fn finished(&self, random: &mut Random) -> State {
+        let mut state = if random.once_in(2) { self.anything(random) } else { FRESH };
+        state[0] = random.one_of(&FINISHED).copied().unwrap_or(1);
+        state[PLACE] = self.any_number(random);
+        state
+    }
+
+    /// Numbers in their ranges but for the place, which no state has that is not finished.
+    pub fn wrong_place(&self, random: &mut Random) -> State {
+        let mut state = if random.once_in(8) { FRESH } else { self.in_range(random) };
+        state[PLACE] = self.any_number(random).max(1);
         state
     }
 
@@ -373,6 +394,9 @@ fn meant(state: &State) -> Vec<usize> {
 
 /// The least and the greatest that a number may be in the state's phase; those before number 4 may be any.
 fn range(state: &State, place: usize) -> (u32, u32) {
+    if place == PLACE {
+        return (0, 0);
+    }
     if let Some(of_level) = place.checked_sub(FIRST_LEVEL) {
         return LEVEL_RANGES[of_level % LEVEL_LENGTH];
     }
@@ -383,7 +407,7 @@ fn range(state: &State, place: usize) -> (u32, u32) {
 
 /// The places of the levels' records in a state.
 fn level_records() -> impl Iterator<Item = usize> {
-    (FIRST_LEVEL..STATE_LENGTH).step_by(LEVEL_LENGTH)
+    (FIRST_LEVEL..PLACE).step_by(LEVEL_LENGTH)
 }
 
 /// The levels of a state, as many as there may be.

@@ -1,5 +1,6 @@
 //! The padding cannot matter: two files that differ from their end on alone are checked and read alike.
 
+use crate::bindings::Granted;
 use crate::build::random::Random;
 use crate::pair::{Compared, Pair};
 use crate::questions::{self, Answer, Question};
@@ -13,13 +14,13 @@ pub fn other_behind(end: usize, bytes: &[u8], random: &mut Random) -> Vec<u8> {
 }
 
 /// Both checkers from a state on a file and on one that differs from it from the end on alone, the marks differing there
-/// too: verdict and steps, if these, the state and the marks below the end are the same for both, and the others stay.
+/// too: what is left, if this, the state and the marks below the end are the same for both, and the others stay.
 pub fn same_check(
     files: [&[u8]; 2],
     state: &[u32],
     marks: [&[u8]; 2],
     compared: &mut Compared,
-) -> Result<(i32, u64), String> {
+) -> Result<Granted, String> {
     let end = body(files[0]).len();
     let mut pairs = marks.map(|marks| Pair::new(state, marks));
     let most = 8 * files[0].len() as u64 + 100;

@@ -1,8 +1,8 @@
 //! The proved checker and the second one side by side: each grant is made to both and compared in all that it leaves,
-//! which is the answer, the steps, every number of the state and every mark.
+//! which is the answer, the steps, the place, every number of the state and every mark.
 
-use crate::bindings::check_grant;
-use crate::second::check::{watched_grant, End, State, FRESH, RUNNING};
+use crate::bindings::{check_grant, Granted};
+use crate::second::check::{watched_grant, End, State, FRESH, OTHER_FILE, RUNNING};
 use crate::second::rules::body;
 use crate::second::state::level_count;
 use std::collections::BTreeMap;
@@ -25,6 +25,10 @@ pub struct Compared {
     pub ends: BTreeMap<(u32, i32), u64>,
     /// Those that gave 20.
     pub bad_steps: BTreeMap<BadStep, u64>,
+    /// Grants that refused and gave a place, by answer.
+    pub places: BTreeMap<i32, u64>,
+    /// Grants after the end that gave a place again, by answer.
+    pub repeated: BTreeMap<i32, u64>,
 }
 
 fn count<K: Ord>(counts: &mut BTreeMap<K, u64>, key: K) {
@@ -46,7 +50,18 @@ impl Compared {
         match end {
             End::PastEnd(what) => count(&mut self.bad_steps, (phase, before[3], what)),
             End::OutOfRange => count(&mut self.bad_steps, (phase, 0, "out of range")),
-            End::Verdict(_) => {}
+            End::Accepted | End::OfFile(_) | End::At(..) => {}
+        }
+    }
+
+    /// Adds a grant by what it left.
+    fn add(&mut self, (answer, steps, place): Granted) {
+        self.grants += 1;
+        count(&mut self.answers, answer);
+        match (place, steps) {
+            (0, _) => {}
+            (_, 0) => count(&mut self.repeated, answer),
+            _ => count(&mut self.places, answer),
         }
     }
 
@@ -93,13 +108,13 @@ impl Pair {
         &self.marks
     }
 
-    /// A grant to both: answer and steps, if they agree in everything; else in what they do not.
+    /// A grant to both: what it leaves, if they agree in everything; else in what they do not.
     pub fn grant(
         &mut self,
         file: &[u8],
         steps: u64,
         compared: &mut Compared,
-    ) -> Result<(i32, u64), String> {
+    ) -> Result<Granted, String> {
         let before = self.state.clone();
         let answer = check_grant(file, &mut self.marks, &mut self.state, steps);
         let mut last = None;
@@ -109,9 +124,9 @@ impl Pair {
         };
         let (marks, state) = (&mut self.second_marks, &mut self.second_state);
         let second = watched_grant(file, marks, state, steps, &mut watch);
-        compared.grants += 1;
-        count(&mut compared.answers, answer.0);
-        let Some(wrong) = self.difference(answer, (second.verdict, second.steps)) else {
+        compared.add(answer);
+        let second = (second.verdict, second.steps, second.place);
+        let Some(wrong) = self.difference(answer, second) else {
             return Ok(answer);
         };
         let length = file.len();
@@ -119,7 +134,7 @@ impl Pair {
     }
 
     /// In what the two differ after a grant.
-    fn difference(&self, answer: (i32, u64), second: (i32, u64)) -> Option<String> {
+    fn difference(&self, answer: Granted, second: Granted) -> Option<String> {
         if answer != second {
             return Some(format!("proved {answer:?}, second {second:?}"));
         }
@@ -133,8 +148,8 @@ impl Pair {
 }
 
 /// Both from a state to the end of its check, in one grant and again in parts of these sizes: the answer, if they agree
-/// at every stop, the parts leave what one grant leaves, and no mark before the first record or from the file's end on
-/// changes.
+/// at every stop, the parts leave what one grant leaves, no mark before the first record or from the file's end on
+/// changes, and a grant after the end, with anything lent, says the same again.
 pub fn to_the_end(
     file: &[u8],
     state: &[u32],
@@ -144,26 +159,43 @@ pub fn to_the_end(
 ) -> Result<i32, String> {
     let most = 8 * file.len() as u64 + 100;
     let mut whole = Pair::new(state, marks);
-    let (answer, steps) = whole.grant(file, most, compared)?;
+    let granted = whole.grant(file, most, compared)?;
     let mut parts = Pair::new(state, marks);
-    let (mut answered, mut made) = parts.grant(file, part(), compared)?;
-    while answered == RUNNING && made < most {
-        let (next, more) = parts.grant(file, part(), compared)?;
-        answered = next;
-        made += more;
+    let mut in_parts = parts.grant(file, part(), compared)?;
+    while in_parts.0 == RUNNING && in_parts.1 < most {
+        let (next, more, place) = parts.grant(file, part(), compared)?;
+        in_parts = (next, in_parts.1 + more, place);
     }
-    let same = (answered, made) == (answer, steps) && parts.state == whole.state;
+    let same = in_parts == granted && parts.state == whole.state;
     let end = body(file).len();
     let outside = |marks: &[u8]| -> Vec<u8> {
         marks.iter().take(8).chain(marks.iter().skip(end)).copied().collect()
     };
-    if answer == RUNNING || !same || parts.marks != whole.marks {
-        return Err(format!("{state:?}: {answer} in {steps}, in parts {answered} in {made}"));
+    if granted.0 == RUNNING || !same || parts.marks != whole.marks {
+        return Err(format!("{state:?}: {granted:?}, in parts {in_parts:?}"));
     }
     if outside(&whole.marks) != outside(marks) {
         return Err(format!("{state:?}: marks outside the file's records were written"));
     }
-    Ok(answer)
+    said_again(&whole, granted, compared)?;
+    Ok(granted.0)
+}
+
+/// A finished check says its verdict and its place again, in 0 steps and without a change, to a grant of nothing and to
+/// one that is lent another file. After 21 a grant of nothing has no verdict.
+pub fn said_again(ended: &Pair, granted: Granted, compared: &mut Compared) -> Result<(), String> {
+    let again = match granted {
+        (OTHER_FILE, ..) => return Ok(()),
+        (answer, _, place) => (answer, 0, place),
+    };
+    for (file, steps) in [(&[][..], 0), (&[1, 2, 3][..], 0), (&[1, 2, 3][..], 1)] {
+        let mut pair = ended.clone();
+        let said = pair.grant(file, steps, compared)?;
+        if said != again || pair.state != ended.state || pair.marks != ended.marks {
+            return Err(format!("{:?} says {said:?} and not {again:?}", ended.state));
+        }
+    }
+    Ok(())
 }
 
 #[cfg(test)]
@@ -178,7 +210,7 @@ mod tests {
         let (_, file) = build::any(1);
         let mut compared = Compared::default();
         let mut pair = Pair::fresh(&vec![0; file.len() + 1]);
-        assert_eq!(pair.grant(&file, 1, &mut compared), Ok((-1, 1)));
+        assert_eq!(pair.grant(&file, 1, &mut compared), Ok((-1, 1, 0)));
         for at in [0, 7, 8, file.len() - 1, file.len()] {
             let mut other = pair.clone();
             other.second_marks[at] ^= 1;
@@ -189,7 +221,7 @@ mod tests {
             other.second_state[place] ^= 64;
             assert!(other.grant(&file, 0, &mut compared).is_err(), "number {place}");
         }
-        let mut longer = Pair::new(&[0; 34], &[]);
+        let mut longer = Pair::new(&[0; 35], &[]);
         longer.second_state.pop();
         assert!(longer.grant(&file, 1, &mut compared).is_err(), "a number less");
     }

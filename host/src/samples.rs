@@ -1,6 +1,6 @@
 //! The project's sample files and the lines that say what is expected of them.
 
-use crate::bindings::FILE_PADDING;
+use crate::bindings::{Granted, FILE_PADDING};
 use crate::questions::{Answer, Given, Question};
 use std::collections::HashMap;
 use std::path::{Path, PathBuf};
@@ -72,15 +72,19 @@ pub struct Checks {
     pub first_mark: u8,
     /// How many lines the list has.
     pub lines: usize,
+    /// Its lines have the place.
+    pub places: bool,
 }
 
 /// All lists of checks.
-pub const CHECKS: [Checks; 5] = [
-    Checks { folder: "", list: "checks.txt", first_mark: 0xAA, lines: 830 },
-    Checks { folder: "levels", list: "checks.txt", first_mark: 0xAA, lines: 400 },
-    Checks { folder: "levels", list: "checks01.txt", first_mark: 1, lines: 400 },
-    Checks { folder: "padded", list: "checks.txt", first_mark: 0xAA, lines: 400 },
-    Checks { folder: "padded", list: "checks01.txt", first_mark: 1, lines: 400 },
+pub const CHECKS: [Checks; 7] = [
+    Checks { folder: "", list: "checks.txt", first_mark: 0xAA, lines: 830, places: false },
+    Checks { folder: "levels", list: "checks.txt", first_mark: 0xAA, lines: 400, places: false },
+    Checks { folder: "levels", list: "checks01.txt", first_mark: 1, lines: 400, places: false },
+    Checks { folder: "padded", list: "checks.txt", first_mark: 0xAA, lines: 400, places: false },
+    Checks { folder: "padded", list: "checks01.txt", first_mark: 1, lines: 400, places: false },
+    Checks { folder: "places", list: "checks.txt", first_mark: 0xAA, lines: 400, places: true },
+    Checks { folder: "places", list: "checks01.txt", first_mark: 1, lines: 400, places: true },
 ];
 
 /// A line of a list of checks.
@@ -94,16 +98,34 @@ pub struct CheckLine {
     pub steps: u64,
     /// FNV-1a of the marks at the end.
     pub marks: u64,
+    /// The place, in a list that has it.
+    pub place: Option<u64>,
+}
+
+impl CheckLine {
+    /// What a check left is what the line says, in the place too if the line has it.
+    pub fn says(&self, (verdict, steps, place): Granted) -> bool {
+        let same = (self.verdict, self.steps) == (verdict, steps);
+        same && self.place.is_none_or(|expected| expected == place)
+    }
 }
 
 /// Reads a line of a list of checks.
 pub fn check_line(line: &str) -> Option<CheckLine> {
-    let mut words = line.split_whitespace();
+    let words: Vec<&str> = line.split_whitespace().collect();
+    let (words, place) = match *words.as_slice() {
+        [name, verdict, steps, marks] => ([name, verdict, steps, marks], None),
+        [name, verdict, steps, marks, place] => {
+            ([name, verdict, steps, marks], Some(place.parse().ok()?))
+        }
+        _ => return None,
+    };
     Some(CheckLine {
-        name: words.next()?.to_string(),
-        verdict: words.next()?.parse().ok()?,
-        steps: words.next()?.parse().ok()?,
-        marks: u64::from_str_radix(words.next()?, 16).ok()?,
+        name: words[0].to_string(),
+        verdict: words[1].parse().ok()?,
+        steps: words[2].parse().ok()?,
+        marks: u64::from_str_radix(words[3], 16).ok()?,
+        place,
     })
 }
 
@@ -115,13 +137,13 @@ pub fn archived(folder: &str) -> Option<HashMap<String, Vec<u8>>> {
 }
 
 impl Checks {
-    /// The lines, each with its file; nothing if one of them is missing or there are not so many.
+    /// The lines, each with its file; nothing if one of them is missing or not of its form, or if there are not so many.
     pub fn checked_files(&self) -> Option<Vec<(CheckLine, Vec<u8>)>> {
         let path = directory().join(self.folder).join(self.list);
         let text = std::fs::read_to_string(path).ok()?;
         let mut files = archived(self.folder)?;
         let lines = text.lines().map(|line| {
-            let line = check_line(line)?;
+            let line = check_line(line).filter(|line| line.place.is_some() == self.places)?;
             let file = files.remove(&line.name)?;
             Some((line, file))
         });
@@ -130,7 +152,8 @@ impl Checks {
 }
 
 /// The folders with a list of reads, `reads.txt`, and how many lines it has.
-pub const READS: [(&str, usize); 3] = [("", 4623), ("levels", 10000), ("padded", 10000)];
+pub const READS: [(&str, usize); 4] =
+    [("", 4623), ("levels", 10000), ("padded", 10000), ("places", 10000)];
 
 /// A line of a list of reads.
 #[derive(Clone, Debug, PartialEq, Eq)]

@@ -36,7 +36,7 @@ fn with_unused(sizes: &[usize]) -> (Vec<u8>, Vec<usize>) {
 fn marks_after(file: &[u8], steps: u64) -> (i32, Vec<u8>) {
     let mut pair = Pair::fresh(&vec![OLD; file.len() + 20]);
     let granted = pair.grant(file, steps, &mut Compared::default());
-    let (answer, _) = granted.unwrap_or_else(|wrong| panic!("{wrong}"));
+    let (answer, _, _) = granted.unwrap_or_else(|wrong| panic!("{wrong}"));
     (answer, pair.marks().to_vec())
 }
 

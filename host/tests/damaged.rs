@@ -1,9 +1,10 @@
-//! Damaged files: the check ends in time, the reader ends, and on an accepted file the
-//! reader never answers 20.
+//! Damaged files: the check ends in time, the place of a refusal is where a plain reading of the file has it, the reader
+//! ends, and on an accepted file the reader never answers 20.
 
 use tlepozaluh_host::build;
 use tlepozaluh_host::build::random::Random;
 use tlepozaluh_host::damage::{self, Damage, Found};
+use tlepozaluh_host::places;
 use tlepozaluh_host::second::check::run;
 use tlepozaluh_host::second::read;
 use tlepozaluh_host::second::rules::body;
@@ -51,6 +52,7 @@ fn tried(file: &[u8], what: &dyn Fn() -> String) -> i32 {
     let answer = run(file, &mut marks);
     assert!((0..=14).contains(&answer.verdict) || answer.verdict == 23, "{}", what());
     assert!(answer.steps <= file.len() as u64 / 4 + 1, "{}: {} steps", what(), answer.steps);
+    assert!(places::is_right(file, answer.verdict, answer.place), "{}: {answer:?}", what());
     let mut refusals = Vec::new();
     ask_values(file, &mut refusals);
     ask_entries(file, &mut refusals);

@@ -5,10 +5,11 @@ use tlepozaluh_host::build::random::Random;
 use tlepozaluh_host::second::check::{grant, run, Check, Granted, State, RUNNING};
 use tlepozaluh_host::second::check::{FRESH, STATE_LENGTH};
 use tlepozaluh_host::second::rules::body;
-use tlepozaluh_host::second::state::{finished, is_in_range};
+use tlepozaluh_host::second::state::{finished, is_in_range, PLACE};
 
+/// What a grant leaves that refuses no record.
 fn granted(verdict: i32, steps: u64) -> Granted {
-    Granted { verdict, steps }
+    Granted { verdict, steps, place: 0 }
 }
 
 /// A good file of at least 20 steps.
@@ -116,7 +117,7 @@ fn from_one_saved_state_to_the_next() {
             state = check.state();
             steps += 1;
         }
-        assert_eq!((state, steps), (finished(whole.verdict), whole.steps), "seed {seed}");
+        assert_eq!((state, steps), (finished(whole.verdict, 0), whole.steps), "seed {seed}");
     }
 }
 
@@ -157,16 +158,29 @@ fn numbers_out_of_range() {
     for (place, number) in changes {
         let mut state = real;
         state[place] = number;
-        let refused = (granted(20, 1), finished(20));
+        let refused = (granted(20, 1), finished(20, 0));
         assert_eq!(answers(&file, state), [(granted(RUNNING, 0), state), refused, refused]);
         state[1] = length + 1;
         let other = (granted(21, 0), state);
         assert_eq!(answers(&file, state), [(granted(RUNNING, 0), state), other, other]);
     }
+}
+
+/// Number 0 says that a check is finished; the place is said again with 7 to 14 and 23, whatever number it is, and with no
+/// other verdict.
+#[test]
+fn finished_states() {
+    let file = good_file();
     for verdict in (0..=14).chain([20, 23]) {
-        let mut state = [u32::MAX; STATE_LENGTH];
-        state[0] = verdict + 1;
-        assert_eq!(answers(&file, state), [(granted(verdict as i32, 0), state); 3]);
+        for place in [0, 1, 8, 312, file.len() as u32, 1 << 31, u32::MAX] {
+            for others in [0, 1, u32::MAX] {
+                let mut state = [others; STATE_LENGTH];
+                (state[0], state[PLACE]) = (verdict as u32 + 1, place);
+                let place = if (7..=14).contains(&verdict) || verdict == 23 { place } else { 0 };
+                let again = Granted { place: u64::from(place), ..granted(verdict, 0) };
+                assert_eq!(answers(&file, state), [(again, state); 3]);
+            }
+        }
     }
 }
 
@@ -189,6 +203,7 @@ fn another_file_of_the_same_length() {
         let most = 2 * file.len() as u64 + 10;
         let answer = check.grant(&other, &mut marks, most);
         assert!((0..=23).contains(&answer.verdict) && answer.steps < most, "seed {seed}");
+        assert_eq!(check.state(), finished(answer.verdict, answer.place as u32), "seed {seed}");
         past_the_end += u64::from(answer.verdict == 20);
     }
     assert!(past_the_end > 0);

@@ -1,6 +1,6 @@
 //! Padded files, by both implementations: the padding cannot matter, and a padded file is what it is without padding.
 
-use tlepozaluh_host::bindings::FILE_PADDING;
+use tlepozaluh_host::bindings::{Granted, FILE_PADDING};
 use tlepozaluh_host::build;
 use tlepozaluh_host::build::model::File;
 use tlepozaluh_host::build::random::Random;
@@ -24,8 +24,8 @@ fn padded_base(padding: usize) -> Vec<u8> {
     file
 }
 
-/// Verdict and steps of a fresh check by both.
-fn checked(file: &[u8]) -> (i32, u64) {
+/// Verdict, steps and place of a fresh check by both.
+fn checked(file: &[u8]) -> Granted {
     let granted = Pair::fresh(&vec![1; file.len()]).grant(file, u64::MAX, &mut Compared::default());
     granted.unwrap_or_else(|wrong| panic!("{wrong}"))
 }
@@ -46,7 +46,7 @@ fn every_gap() {
     for gap in 0..=600 {
         let file = padded_base(gap);
         let good = gap <= 511;
-        assert_eq!(checked(&file), if good { (0, 8) } else { (6, 1) }, "{gap}");
+        assert_eq!(checked(&file), if good { (0, 8, 0) } else { (6, 1, 0) }, "{gap}");
         assert_eq!(told(&file), if good { Ok(gap as i64) } else { Err(20) }, "{gap}");
     }
 }
@@ -61,9 +61,9 @@ fn every_eof() {
         for eof in -2..length + 520 {
             put(&mut file, GDR + 20, eof);
             let expected = match eof {
-                372 => (0, 8),
-                373.. if eof <= length => (7, 4),
-                _ => (6, 1),
+                372 => (0, 8, 0),
+                373.. if eof <= length => (7, 4, 372),
+                _ => (6, 1, 0),
             };
             assert_eq!(checked(&file), expected, "{eof} of {length}");
             let opened = (372..=length).contains(&eof);
@@ -113,16 +113,16 @@ fn the_padding_cannot_matter() {
     assert!(answers[0] > 1000 && answers[15..].iter().all(|number| *number > 3), "{answers:?}");
 }
 
-/// The marks below an offset that a fresh check leaves after so many steps, with its answer and all numbers of its state
-/// but the noted length.
-fn left(file: &[u8], marks: &[u8], steps: u64, end: usize) -> (i32, u64, Vec<u32>, Vec<u8>) {
+/// The marks below an offset that a fresh check leaves after so many steps, with its answer, its place and all numbers of
+/// its state but the noted length.
+fn left(file: &[u8], marks: &[u8], steps: u64, end: usize) -> (Granted, Vec<u32>, Vec<u8>) {
     let mut pair = Pair::fresh(marks);
     let granted = pair.grant(file, steps, &mut Compared::default());
-    let (answer, made) = granted.unwrap_or_else(|wrong| panic!("{wrong}"));
+    let granted = granted.unwrap_or_else(|wrong| panic!("{wrong}"));
     assert_eq!(pair.marks()[end..], marks[end..], "marks from the end on");
     let mut state = pair.state().to_vec();
     state[1] = 0;
-    (answer, made, state, pair.marks()[..end].to_vec())
+    (granted, state, pair.marks()[..end].to_vec())
 }
 
 /// A file whose eof is its length, good or damaged, is checked step by step as it is with padding of any bytes behind it.
@@ -140,7 +140,7 @@ fn a_padded_file_is_checked_as_the_unpadded_one() {
         if told(&file) != Ok(0) {
             continue;
         }
-        let (verdict, steps) = checked(&file);
+        let (verdict, steps, _) = checked(&file);
         verdicts[verdict as usize] += 1;
         let padding: Vec<u8> = (0..bytes).map(|_| random.byte()).collect();
         let padded = [file.as_slice(), &padding].concat();
@@ -182,8 +182,8 @@ fn a_gap_of_512() {
     for seed in 0..100 {
         let (_, file) = build::with_padding(seed, 512);
         let marks: Vec<u8> = file.iter().map(|_| random.byte()).collect();
-        let (verdict, steps, _, after) = left(&file, &marks, 5, file.len());
-        assert_eq!((verdict, steps, after), (6, 1, marks), "seed {seed}");
+        let (granted, _, after) = left(&file, &marks, 5, file.len());
+        assert_eq!((granted, after), ((6, 1, 0), marks), "seed {seed}");
         for _ in 0..20 {
             let question = questions::any(&file, &mut random);
             assert_eq!(agreed(&file, &question), Ok(Err(20)), "seed {seed}: {question}");
@@ -198,7 +198,7 @@ fn padding_lets_more_records_be_met() {
     let ring = std::fs::read(path).expect("a ring");
     for (padding, most) in [(0, 121), (2, 121), (3, 122), (24, 124), (511, 185)] {
         let file = [ring.as_slice(), &vec![9; padding]].concat();
-        assert_eq!(checked(&file), (9, 19));
+        assert_eq!(checked(&file), (9, 19, 372));
         let max_rec = |number| agreed(&file, &Question::Variable(8, number, 16));
         assert_eq!(max_rec(most), Ok(Ok(Given::Field(2))), "{padding}");
         assert_eq!(max_rec(most + 1), Ok(Err(20)), "{padding}");

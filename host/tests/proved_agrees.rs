@@ -1,5 +1,5 @@
-//! The proved checker and the second one on built and damaged files: verdict, steps, every mark and, step by step, the
-//! saved state.
+//! The proved checker and the second one on built and damaged files: verdict, steps, place, every mark and, step by step,
+//! the saved state.
 
 use tlepozaluh_host::bindings::{self, check_grant, fresh, from_bytes, to_bytes, State};
 use tlepozaluh_host::build;
@@ -7,6 +7,7 @@ use tlepozaluh_host::build::model::File;
 use tlepozaluh_host::build::random::Random;
 use tlepozaluh_host::build::records::put;
 use tlepozaluh_host::damage::{self, Damage, Found};
+use tlepozaluh_host::places;
 use tlepozaluh_host::second::check::{self, Check, RUNNING};
 use tlepozaluh_host::second::tables::encoding;
 
@@ -16,7 +17,8 @@ fn agreed(file: &[u8], what: &dyn Fn() -> String) -> i32 {
     let mut other_marks = marks.clone();
     let answer = bindings::run(file, &mut marks);
     let other = check::run(file, &mut other_marks);
-    assert_eq!(answer, (other.verdict, other.steps), "{}", what());
+    assert_eq!(answer, (other.verdict, other.steps, other.place), "{}", what());
+    assert!(places::is_right(file, answer.0, answer.2), "{}: {answer:?}", what());
     assert!(marks == other_marks, "marks: {}", what());
     answer.0
 }
@@ -28,10 +30,10 @@ fn agreed_step_by_step(file: &[u8], what: &dyn Fn() -> String) -> i32 {
     let mut kept = to_bytes(&fresh());
     let mut other = Check::fresh();
     loop {
-        let mut state = from_bytes(&kept).expect("132 bytes");
+        let mut state = from_bytes(&kept).expect("136 bytes");
         let answer = check_grant(file, &mut marks, &mut state, 1);
         let verdict = other.step(file, &mut other_marks);
-        assert_eq!(answer, (verdict, 1), "step {}: {}", other.steps(), what());
+        assert_eq!(answer, (verdict, 1, other.place()), "step {}: {}", other.steps(), what());
         assert!(marks == other_marks, "marks at step {}: {}", other.steps(), what());
         assert_eq!(state, other.state(), "state at step {}: {}", other.steps(), what());
         assert_eq!(state[0] != 0, verdict != RUNNING, "{}", what());
@@ -236,7 +238,7 @@ fn every_grant_from_every_point(file: &[u8], what: &str) {
         for grant in (0..=end - from + 2).chain([usize::MAX]) {
             let (mut state, mut marks) = points[from].clone();
             let to = from.saturating_add(grant).min(end);
-            let (answer, steps) = check_grant(file, &mut marks, &mut state, grant as u64);
+            let (answer, steps, place) = check_grant(file, &mut marks, &mut state, grant as u64);
             assert_eq!(steps as usize, to - from, "{what}: {grant} from {from}");
             assert_eq!(
                 (state, &marks),
@@ -244,6 +246,7 @@ fn every_grant_from_every_point(file: &[u8], what: &str) {
                 "{what}: {grant} from {from}"
             );
             assert_eq!(answer, state[0] as i32 - 1, "{what}: {grant} from {from}");
+            assert_eq!(place, u64::from(state[33]), "{what}: {grant} from {from}");
         }
     }
 }

@@ -171,7 +171,7 @@ fn every_opening() {
         }
     }
     let too_long = vec![0; 1 << 31];
-    assert_eq!(Pair::fresh(&[]).grant(&too_long, 1, &mut compared), Ok((1, 1)));
+    assert_eq!(Pair::fresh(&[]).grant(&too_long, 1, &mut compared), Ok((1, 1, 0)));
     assert_eq!(compared.missing(&[(0, &[1, 2, 3, 4, 5, 6, 14])]), [], "{compared:?}");
 }
 

@@ -6,7 +6,7 @@ use tlepozaluh_host::build::random::Random;
 use tlepozaluh_host::made_up::{self, Source};
 use tlepozaluh_host::pair::{to_the_end, Compared, Pair};
 use tlepozaluh_host::second::check::{State, STATE_LENGTH};
-use tlepozaluh_host::second::state::is_in_range;
+use tlepozaluh_host::second::state::{finished, is_in_range, PLACE};
 
 /// Verdicts that steps give in each phase from the sweep on, on a file that is good.
 const ENDS: [(u32, &[i32]); 8] = [
@@ -71,6 +71,7 @@ fn one_number_at_an_edge() {
     assert_eq!(compared.missing(&ENDS), [], "{compared:?}");
     assert_eq!(out_of_range(&compared), (0..=9).collect::<Vec<u32>>());
     assert!(compared.answers.contains_key(&21) && compared.grants > 900_000, "{compared:?}");
+    assert!(compared.places.len() >= 8 && compared.repeated.len() == 9, "{compared:?}");
 }
 
 /// One to three numbers of the states of a check changed.
@@ -128,11 +129,64 @@ fn levels_out_of_range() {
             let made_up = source.wrong_levels(&mut random);
             assert!(!is_in_range(&made_up), "{made_up:?}");
             let mut pair = Pair::new(&made_up, &marks);
-            assert_eq!(pair.grant(&file, 5, &mut compared), Ok((20, 1)), "seed {seed}");
+            assert_eq!(pair.grant(&file, 5, &mut compared), Ok((20, 1, 0)), "seed {seed}");
             assert_eq!(pair.marks(), marks);
         }
     }
     assert_eq!(out_of_range(&compared), (1..=8).collect::<Vec<u32>>());
+}
+
+/// A place in a state that is not finished: 20 in one step, without a place, and no mark changes.
+#[test]
+fn places_out_of_range() {
+    let mut random = Random::seeded(38);
+    let mut compared = Compared::default();
+    for seed in 0..300 {
+        let (_, file) = build::any(seed);
+        let source = Source::new(&file);
+        for _ in 0..100 {
+            let (real, marks) = source.any_point(&mut random);
+            let marks = source.any_marks(marks, &mut random);
+            let mut near = *real;
+            near[PLACE] = source.any_number(&mut random).max(1);
+            for made_up in [near, source.wrong_place(&mut random)] {
+                assert!(!is_in_range(&made_up), "{made_up:?}");
+                let mut pair = Pair::new(&made_up, &marks);
+                assert_eq!(pair.grant(&file, 0, &mut compared), Ok((-1, 0, 0)), "seed {seed}");
+                assert_eq!(pair.grant(&file, 5, &mut compared), Ok((20, 1, 0)), "seed {seed}");
+                assert_eq!((pair.state(), pair.marks()), (&finished(20, 0)[..], &marks[..]));
+            }
+        }
+    }
+    assert_eq!(out_of_range(&compared), (0..=8).collect::<Vec<u32>>());
+}
+
+/// Finished states of every verdict with places of every kind: both say the same again, whatever is lent, and the place
+/// with 7 to 14 and 23 alone.
+#[test]
+fn finished_states() {
+    let mut random = Random::seeded(39);
+    let mut compared = Compared::default();
+    for seed in 0..300 {
+        let (_, file) = build::any(seed);
+        let source = Source::new(&file);
+        for _ in 0..100 {
+            let (_, marks) = source.any_point(&mut random);
+            let made_up = source.finished(&mut random);
+            let (verdict, kept) = (made_up[0] as i32 - 1, u64::from(made_up[PLACE]));
+            let place = if matches!(verdict, 7..=14 | 23) { kept } else { 0 };
+            let lent = random.place(file.len());
+            for (file, steps) in [(&file[..], 0), (&file[..], 5), (&file[..lent], 1)] {
+                let mut pair = Pair::new(&made_up, marks);
+                let said = pair.grant(file, steps, &mut compared);
+                assert_eq!(said, Ok((verdict, 0, place)), "{made_up:?}");
+                assert_eq!((pair.state(), pair.marks()), (&made_up[..], &marks[..]));
+            }
+        }
+    }
+    let repeated: Vec<i32> = compared.repeated.keys().copied().collect();
+    assert_eq!(repeated, (7..=14).chain([23]).collect::<Vec<i32>>());
+    assert!(compared.answers.len() == 17 && compared.places.is_empty(), "{compared:?}");
 }
 
 /// States of the checks of deep files, changed in their levels and elsewhere.
@@ -174,7 +228,7 @@ fn numbers_at_random() {
             let made_up = source.anything(&mut random);
             let what = format!("seed {seed}");
             let nothing = Pair::new(&made_up, &marks).grant(&file, 0, &mut compared);
-            assert_eq!(nothing.map(|(_, steps)| steps), Ok(0), "{what}");
+            assert_eq!(nothing.map(|(_, steps, _)| steps), Ok(0), "{what}");
             agreed(&file, &made_up, &marks, &mut compared, &what);
         }
     }
@@ -194,9 +248,8 @@ fn files_that_are_too_short() {
             let mut made_up = source.in_range(&mut random);
             made_up[1] = length;
             let mut pair = Pair::new(&made_up, &vec![1; length as usize]);
-            let (answer, steps) =
-                pair.grant(&file[..length as usize], 1, &mut compared).expect("the same");
-            assert!(length >= 372 || (answer, steps) == (20, 1), "{made_up:?}");
+            let granted = pair.grant(&file[..length as usize], 1, &mut compared).expect("the same");
+            assert!(length >= 372 || granted == (20, 1, 0), "{made_up:?}");
         }
     }
     assert_eq!(out_of_range(&compared), (1..=8).collect::<Vec<u32>>());
@@ -211,7 +264,7 @@ fn states_of_another_length() {
         for number in [0, 1, 21, u32::MAX] {
             for grant in [0, 1, u64::MAX] {
                 let mut pair = Pair::new(&vec![number; length], &marks);
-                assert_eq!(pair.grant(&file, grant, &mut compared), Ok((20, 0)));
+                assert_eq!(pair.grant(&file, grant, &mut compared), Ok((20, 0, 0)));
                 assert!(pair.state() == vec![number; length] && pair.marks() == marks);
             }
         }

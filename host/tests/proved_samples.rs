@@ -1,6 +1,6 @@
 //! The proved checker on the sample files: every line of the lists of checks and every ring.
 
-use tlepozaluh_host::bindings::{check_grant, fresh, from_bytes, run, to_bytes};
+use tlepozaluh_host::bindings::{check_grant, fresh, from_bytes, run, to_bytes, Granted};
 use tlepozaluh_host::build::random::Random;
 use tlepozaluh_host::samples::{self, CheckLine, CHECKS};
 use tlepozaluh_host::second::check;
@@ -21,25 +21,39 @@ fn lines_and_files() -> Vec<(CheckLine, Vec<u8>, u8)> {
 fn every_line_in_one_run() {
     for (line, file, first_mark) in lines_and_files() {
         let mut marks = vec![first_mark; file.len()];
-        assert_eq!(run(&file, &mut marks), (line.verdict, line.steps), "{}", line.name);
+        let answer = run(&file, &mut marks);
+        assert!(line.says(answer), "{line:?}: {answer:?}");
         assert_eq!(samples::fnv1a(&marks), line.marks, "marks of {}", line.name);
     }
 }
 
-/// Grants from 0 to `greatest` steps, the state kept as bytes between them; verdict and steps.
-fn in_grants(file: &[u8], marks: &mut [u8], random: &mut Random, greatest: i64) -> (i32, u64) {
+/// Grants from 0 to `greatest` steps, the state kept as bytes between them: verdict, steps and place, which are then given
+/// again, whatever is granted and lent.
+fn in_grants(file: &[u8], marks: &mut [u8], random: &mut Random, greatest: i64) -> Granted {
     let mut kept = to_bytes(&fresh());
     let mut made = 0;
     loop {
-        let mut state = from_bytes(&kept).expect("132 bytes");
+        let mut state = from_bytes(&kept).expect("136 bytes");
         let grant = random.between(0, greatest) as u64;
-        let (answer, steps) = check_grant(file, marks, &mut state, grant);
+        let (answer, steps, place) = check_grant(file, marks, &mut state, grant);
         assert!(steps == grant || steps < grant && answer != RUNNING);
         kept = to_bytes(&state);
         made += steps;
         if answer != RUNNING {
-            return (answer, made);
+            said_again(file, &kept, (answer, 0, place));
+            return (answer, made, place);
         }
+        assert_eq!(place, 0);
+    }
+}
+
+/// A finished check says verdict and place again, and its state stays.
+fn said_again(file: &[u8], kept: &[u8], again: Granted) {
+    let shorter = file.get(1..).unwrap_or(&[]);
+    for (lent, grant) in [(file, 0), (file, 1), (shorter, 0), (shorter, 7), (&[], u64::MAX)] {
+        let mut state = from_bytes(kept).expect("136 bytes");
+        assert_eq!(check_grant(lent, &mut [], &mut state, grant), again);
+        assert_eq!(to_bytes(&state), kept);
     }
 }
 
@@ -50,7 +64,7 @@ fn every_line_in_random_grants() {
         for greatest in [1, 2, 5, 40] {
             let mut marks = vec![first_mark; file.len()];
             let answer = in_grants(&file, &mut marks, &mut random, greatest);
-            assert_eq!(answer, (line.verdict, line.steps), "{}", line.name);
+            assert!(line.says(answer), "{line:?}: {answer:?}");
             assert_eq!(samples::fnv1a(&marks), line.marks, "marks of {}", line.name);
         }
     }
@@ -64,11 +78,12 @@ fn every_ring_is_refused_in_a_few_steps() {
         let path = found.expect("a file").path();
         let file = std::fs::read(&path).expect("its bytes");
         let mut marks = vec![0x77; file.len()];
-        let (verdict, steps) = run(&file, &mut marks);
+        let (verdict, steps, place) = run(&file, &mut marks);
         assert!((7..=9).contains(&verdict) && steps <= 30, "{path:?}: {verdict} at {steps}");
         let mut other_marks = vec![0x77; file.len()];
         let other = check::run(&file, &mut other_marks);
-        assert_eq!((verdict, steps, marks), (other.verdict, other.steps, other_marks), "{path:?}");
+        let others = (other.verdict, other.steps, other.place);
+        assert_eq!(((verdict, steps, place), marks), (others, other_marks), "{path:?}");
         refused += 1;
     }
     assert_eq!(refused, 11);

@@ -4,8 +4,14 @@ use tlepozaluh_host::build::in_order;
 use tlepozaluh_host::build::model::{Attribute, Entry, File, Index, IndexEntry, Lower};
 use tlepozaluh_host::build::model::{Values, Variable};
 use tlepozaluh_host::build::records::put;
-use tlepozaluh_host::second::check::{run, Granted};
+use tlepozaluh_host::second::check::run;
 use tlepozaluh_host::second::tables::{data_type, encoding, DataType};
+
+/// Verdict and steps of a whole check; tests/places.rs has the places.
+fn checked(file: &[u8], mut marks: Vec<u8>) -> (i32, u64) {
+    let answer = run(file, &mut marks);
+    (answer.verdict, answer.steps)
+}
 
 fn base() -> File {
     File::base(encoding(6).expect("encoding 6"))
@@ -31,9 +37,9 @@ fn try_cases(name: &str, file: &[u8], cases: &[Case]) {
     for (changes, verdict, steps) in cases {
         let mut changed = file.to_vec();
         changes.iter().for_each(|(at, value)| put(&mut changed, *at, *value));
-        let expected = Granted { verdict: *verdict, steps: *steps };
-        for mut marks in [vec![0; changed.len()], vec![1; changed.len() + 20]] {
-            assert_eq!(run(&changed, &mut marks), expected, "{name} with {changes:?}");
+        for marks in [vec![0; changed.len()], vec![1; changed.len() + 20]] {
+            let answer = checked(&changed, marks);
+            assert_eq!(answer, (*verdict, *steps), "{name} with {changes:?}");
         }
     }
 }
@@ -275,7 +281,7 @@ fn levels_of_one_entry() {
         file.z_variables.push(variable(2, vec![index]));
         let file = in_order(&file);
         let (verdict, steps) = if levels < 9 { (0, 12 + 3 * levels as u64) } else { (23, 26) };
-        assert_eq!(run(&file, &mut vec![0; file.len()]), Granted { verdict, steps }, "{levels}");
+        assert_eq!(checked(&file, vec![0; file.len()]), (verdict, steps), "{levels}");
         if levels == 8 {
             try_cases("eight levels", &file, &EIGHT_LEVELS);
         }
@@ -405,14 +411,14 @@ fn short_variable_records() {
         let mut file = file_h();
         put(&mut file, 400, flags);
         rest(size).iter().for_each(|(at, value)| put(&mut file, *at, *value));
-        let answer = run(&file, &mut vec![0; 550]);
-        assert_eq!(answer, Granted { verdict, steps: 10 }, "VDR of {size} bytes, flags {flags}");
+        let answer = checked(&file, vec![0; 550]);
+        assert_eq!(answer, (verdict, 10), "VDR of {size} bytes, flags {flags}");
     }
     let mut file = file_h();
     let two = [(372, 28), (400, 12), (404, -1), (412, 92), (416, -1)];
     two.iter().for_each(|(at, value)| put(&mut file, *at, *value));
-    let answer = run(&file, &mut vec![0; 550]);
-    assert_eq!(answer, Granted { verdict: 10, steps: 11 }, "12 at place 28 has bit 2 set");
+    let answer = checked(&file, vec![0; 550]);
+    assert_eq!(answer, (10, 11), "12 at place 28 has bit 2 set");
 }
 
 /// Each record type with less than the fields it is judged by, at the head of its list.
@@ -424,8 +430,8 @@ fn records_of_eight_bytes() {
         let mut file = in_order(&file);
         put(&mut file, 376, record_type);
         put(&mut file, head, 372);
-        let answer = run(&file, &mut vec![0; 380]);
-        assert_eq!(answer, Granted { verdict: 10, steps }, "type {record_type}");
+        let answer = checked(&file, vec![0; 380]);
+        assert_eq!(answer, (10, steps), "type {record_type}");
     }
 }
 
@@ -445,8 +451,8 @@ fn record_bytes() {
         let plain = Variable::plain(of_type(number), sizes.clone());
         file.z_variables.push(Variable { variances, ..plain });
         let file = in_order(&file);
-        let answer = run(&file, &mut vec![0; file.len()]);
-        assert_eq!(answer, Granted { verdict, steps }, "{sizes:?} of type {number}");
+        let answer = checked(&file, vec![0; file.len()]);
+        assert_eq!(answer, (verdict, steps), "{sizes:?} of type {number}");
     }
 }
 
@@ -458,7 +464,7 @@ fn a_gdr_inside_another_record() {
     let mut file = in_order(&file);
     file.copy_within(312..372, 384);
     put(&mut file, 16, 384);
-    assert_eq!(run(&file, &mut vec![0; 452]), Granted { verdict: 8, steps: 5 });
+    assert_eq!(checked(&file, vec![0; 452]), (8, 5));
 }
 
 #[test]
@@ -468,7 +474,7 @@ fn second_descriptor_records_are_unclaimed() {
         file.unlisted_unused = vec![8];
         let mut file = in_order(&file);
         put(&mut file, 376, record_type);
-        let answer = run(&file, &mut vec![0; 380]);
-        assert_eq!(answer, Granted { verdict: 13, steps: 9 }, "type {record_type}");
+        let answer = checked(&file, vec![0; 380]);
+        assert_eq!(answer, (13, 9), "type {record_type}");
     }
 }

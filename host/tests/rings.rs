@@ -2,22 +2,22 @@
 
 use tlepozaluh_host::build::records::put;
 use tlepozaluh_host::samples;
-use tlepozaluh_host::second::check::run;
+use tlepozaluh_host::second::check::{run, Granted};
 use tlepozaluh_host::second::read::{attribute, levels, read_entry, read_value, variable};
 
-/// File, verdict, step of the refusal.
-const RINGS: [(&str, i32, u64); 11] = [
-    ("record_size_0", 7, 4),
-    ("ring_adr", 9, 30),
-    ("ring_entry_back_to_first", 9, 24),
-    ("ring_entry_count_2147483647", 9, 24),
-    ("ring_entry_short_of_count", 9, 23),
-    ("ring_uir", 9, 12),
-    ("ring_vdr_count_100000000", 9, 19),
-    ("ring_vdr_self", 9, 19),
-    ("ring_vxr_self", 9, 18),
-    ("ring_vxr_two", 9, 16),
-    ("vxr_entry_is_itself", 9, 17),
+/// File, verdict, step and place of the refusal.
+const RINGS: [(&str, i32, u64, u64); 11] = [
+    ("record_size_0", 7, 4, 372),
+    ("ring_adr", 9, 30, 831),
+    ("ring_entry_back_to_first", 9, 24, 776),
+    ("ring_entry_count_2147483647", 9, 24, 776),
+    ("ring_entry_short_of_count", 9, 23, 721),
+    ("ring_uir", 9, 12, 388),
+    ("ring_vdr_count_100000000", 9, 19, 372),
+    ("ring_vdr_self", 9, 19, 372),
+    ("ring_vxr_self", 9, 18, 504),
+    ("ring_vxr_two", 9, 16, 548),
+    ("vxr_entry_is_itself", 9, 17, 504),
 ];
 
 fn ring(name: &str) -> Vec<u8> {
@@ -29,10 +29,10 @@ fn ring(name: &str) -> Vec<u8> {
 fn every_ring_is_refused() {
     let found = std::fs::read_dir(samples::directory().join("rings")).expect("samples/rings");
     assert_eq!(found.count(), RINGS.len());
-    for (name, verdict, steps) in RINGS {
+    for (name, verdict, steps, place) in RINGS {
         let file = ring(name);
         let answer = run(&file, &mut vec![0; file.len()]);
-        assert_eq!((answer.verdict, answer.steps), (verdict, steps), "{name}");
+        assert_eq!(answer, Granted { verdict, steps, place }, "{name}");
     }
 }
 

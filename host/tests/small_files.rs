@@ -12,8 +12,8 @@ const UNTOUCHED: u8 = 0xAA;
 /// Offset and mark.
 type Mark = (usize, u8);
 
-/// Name, file, length, verdict, steps, marks.
-type Row = (&'static str, Vec<u8>, usize, i32, u64, &'static [Mark]);
+/// Name, file, length, verdict, steps, place, marks.
+type Row = (&'static str, Vec<u8>, usize, i32, u64, u64, &'static [Mark]);
 
 fn base() -> File {
     File::base(encoding(6).expect("encoding 6"))
@@ -62,14 +62,14 @@ fn file_i() -> Vec<u8> {
     file
 }
 
-/// Verdict, steps, and the marks that the sweep set, those of 0 left out.
-fn checked(file: &[u8]) -> (i32, u64, Vec<Mark>) {
+/// What the check leaves, and the marks that the sweep set, those of 0 left out.
+fn checked(file: &[u8]) -> (Granted, Vec<Mark>) {
     let mut marks = vec![UNTOUCHED; file.len() + 3];
-    let Granted { verdict, steps } = run(file, &mut marks);
+    let granted = run(file, &mut marks);
     assert!(marks.iter().take(8).all(|mark| *mark == UNTOUCHED));
     assert!(marks.iter().skip(file.len()).all(|mark| *mark == UNTOUCHED));
     let own = marks.iter().copied().enumerate().take(file.len());
-    (verdict, steps, own.filter(|(_, mark)| ![0, UNTOUCHED].contains(mark)).collect())
+    (granted, own.filter(|(_, mark)| ![0, UNTOUCHED].contains(mark)).collect())
 }
 
 #[test]
@@ -77,19 +77,20 @@ fn files_a_to_i() {
     let a = in_order(&base());
     let cut = |length: usize| a[..length].to_vec();
     let table: [Row; 9] = [
-        ("A", a.clone(), 372, 0, 8, &[(8, 1), (312, 2)]),
-        ("B", cut(0), 0, 3, 1, &[]),
-        ("C", cut(371), 371, 3, 1, &[]),
-        ("D", with_unused(&[], &[8]), 380, 0, 9, &[(8, 1), (312, 2), (372, 1)]),
-        ("E", file_e(), 380, 13, 9, &[(8, 1), (312, 2), (372, 1)]),
-        ("F", with_unused(&[16], &[]), 388, 0, 10, &[(8, 1), (312, 2), (372, 2)]),
-        ("G", file_g(), 388, 9, 10, &[(8, 1), (312, 2), (372, 2)]),
-        ("H", file_h(), 550, 0, 15, &[(8, 1), (312, 2), (372, 2), (504, 2), (536, 2)]),
-        ("I", file_i(), 551, 10, 11, &[(8, 1), (312, 2), (372, 2), (504, 2), (536, 1)]),
+        ("A", a.clone(), 372, 0, 8, 0, &[(8, 1), (312, 2)]),
+        ("B", cut(0), 0, 3, 1, 0, &[]),
+        ("C", cut(371), 371, 3, 1, 0, &[]),
+        ("D", with_unused(&[], &[8]), 380, 0, 9, 0, &[(8, 1), (312, 2), (372, 1)]),
+        ("E", file_e(), 380, 13, 9, 372, &[(8, 1), (312, 2), (372, 1)]),
+        ("F", with_unused(&[16], &[]), 388, 0, 10, 0, &[(8, 1), (312, 2), (372, 2)]),
+        ("G", file_g(), 388, 9, 10, 372, &[(8, 1), (312, 2), (372, 2)]),
+        ("H", file_h(), 550, 0, 15, 0, &[(8, 1), (312, 2), (372, 2), (504, 2), (536, 2)]),
+        ("I", file_i(), 551, 10, 11, 536, &[(8, 1), (312, 2), (372, 2), (504, 2), (536, 1)]),
     ];
-    for (name, file, length, verdict, steps, marks) in table {
+    for (name, file, length, verdict, steps, place, marks) in table {
         assert_eq!(file.len(), length, "{name}");
-        assert_eq!(checked(&file), (verdict, steps, marks.to_vec()), "{name}");
+        let granted = Granted { verdict, steps, place };
+        assert_eq!(checked(&file), (granted, marks.to_vec()), "{name}");
     }
 }
 

@@ -95,14 +95,17 @@ fn refuses(file: &[u8], marks: &[u8], numbers: Numbers, number: i32) {
     refuses_from(file, marks, state(numbers, &[]), number);
 }
 
-/// One step that refuses with this number: the state is finished with it, and no mark changes.
+/// One step that refuses with this number: the state is finished with it and with the place that is given, and no mark
+/// changes. tests/places.rs has the places.
 fn refuses_from(file: &[u8], marks: &[u8], state: State, number: i32) {
-    let mut finished = [0; STATE_LENGTH];
-    finished[0] = number as u32 + 1;
     let mut pair = Pair::new(&state, marks);
     let second = Check::load(state).step(file, &mut marks.to_vec());
     assert_eq!(second, number, "the second one, from {state:?}");
-    assert_eq!(pair.grant(file, 1, &mut Compared::default()), Ok((number, 1)));
+    let granted = pair.grant(file, 1, &mut Compared::default());
+    let (answer, steps, place) = granted.unwrap_or_else(|wrong| panic!("{wrong}"));
+    assert_eq!((answer, steps), (number, 1), "from {state:?}");
+    let mut finished = [0; STATE_LENGTH];
+    (finished[0], finished[33]) = (number as u32 + 1, place as u32);
     assert_eq!((pair.state(), pair.marks()), (finished.as_slice(), marks));
 }
 
@@ -118,7 +121,7 @@ fn goes_from(file: &[u8], marks: &[u8], state: State, next: State, claimed: Opti
     let mut pair = Pair::new(&state, marks);
     let second = Check::load(state).step(file, &mut marks.to_vec());
     assert_eq!(second, -1, "the second one, from {state:?}");
-    assert_eq!(pair.grant(file, 1, &mut Compared::default()), Ok((-1, 1)));
+    assert_eq!(pair.grant(file, 1, &mut Compared::default()), Ok((-1, 1, 0)));
     assert_eq!((pair.state(), pair.marks()), (next.as_slice(), after.as_slice()));
 }
 
@@ -128,9 +131,9 @@ fn a_vdr_made_shorter_before_an_index_entry() {
     let file = file_h();
     let mut pair = Pair::fresh(&[0; 550]);
     let mut compared = Compared::default();
-    assert_eq!(pair.grant(&file, 10, &mut compared), Ok((-1, 10)));
+    assert_eq!(pair.grant(&file, 10, &mut compared), Ok((-1, 10, 0)));
     let shorter = changed(&file, &[(372, 100)]);
-    assert_eq!(pair.grant(&shorter, 1, &mut compared), Ok((10, 1)));
+    assert_eq!(pair.grant(&shorter, 1, &mut compared), Ok((10, 1, 536)));
 }
 
 /// Flags bit 2 is looked at where the VDR is claimed, and no more at its index entries.
@@ -319,7 +322,7 @@ fn steps_of_levels() {
         let file = file_of(2, Index::of_levels(vec![values(0, 3)], levels));
         let mut pair = Pair::fresh(&vec![0; file.len()]);
         let answer = pair.grant(&file, u64::MAX, &mut Compared::default());
-        assert_eq!(answer, Ok((0, 15 + 3 * (levels as u64 - 1))), "{levels} levels");
+        assert_eq!(answer, Ok((0, 15 + 3 * (levels as u64 - 1), 0)), "{levels} levels");
     }
 }
 
@@ -330,7 +333,8 @@ fn nine_levels() {
     let ninth = 504 + 8 * 32;
     for file in [file.clone(), changed(&file, &[(ninth + 8, 1), (ninth + 12, 7)])] {
         let mut pair = Pair::fresh(&vec![0; file.len()]);
-        assert_eq!(pair.grant(&file, u64::MAX, &mut Compared::default()), Ok((23, 26)));
+        let granted = pair.grant(&file, u64::MAX, &mut Compared::default());
+        assert_eq!(granted, Ok((23, 26, ninth as u64)));
         assert_eq!((pair.state()[0], pair.marks()[ninth]), (24, 1));
     }
 }
@@ -416,7 +420,7 @@ fn a_lower_record_before_its_next() {
 fn a_lower_next_on_the_claim() {
     let file = changed(&file_of_two_levels(), &[(544, 504)]);
     let mut pair = Pair::fresh(&vec![0; file.len()]);
-    assert_eq!(pair.grant(&file, u64::MAX, &mut Compared::default()), Ok((11, 13)));
+    assert_eq!(pair.grant(&file, u64::MAX, &mut Compared::default()), Ok((11, 13, 536)));
     assert_eq!((pair.marks()[504], pair.marks()[536]), (2, 1));
 }
 
@@ -486,25 +490,34 @@ fn holes_among_levels() {
     }
 }
 
-/// States of twelve numbers, fresh, under way or finished, are 20 in 0 steps, and neither they nor the marks change.
+/// States of twelve and of 33 numbers, fresh, under way or finished, are 20 in 0 steps and without a place, and neither
+/// they nor the marks change.
 #[test]
-fn states_of_twelve_numbers() {
-    let file = file_h();
-    let marks = swept(&file);
+fn older_states() {
     let mut states = vec![[0; 12], [0, 550, 5, 8, 0, 0, 3, 372, 504, 0, 0, 0]];
     states.extend((1..=24).map(|verdict| [verdict, 0, 0, 0, 0, 0, 0, 0, 0, 0, 0, 0]));
-    for old in states {
-        for steps in [0, 1, u64::MAX] {
-            let mut pair = Pair::new(&old, &marks);
-            assert_eq!(pair.grant(&file, steps, &mut Compared::default()), Ok((20, 0)));
-            assert_eq!((pair.state(), pair.marks()), (old.as_slice(), marks.as_slice()));
-            let (mut lent, mut second) = (marks.clone(), old);
-            let granted = check::grant(&file, &mut lent, &mut second, steps);
-            assert_eq!((granted.verdict, granted.steps, second, lent), (20, 0, old, marks.clone()));
+    for numbers in states {
+        for length in [12, 33] {
+            is_too_old(state(numbers, &[])[..length].to_vec());
         }
-        let mut begun = old;
-        assert_eq!((bindings::check_begin(&mut begun), begun), (20, old));
     }
+}
+
+/// A state is 20 in 0 steps, by both, and cannot be begun.
+fn is_too_old(old: Vec<u32>) {
+    let file = file_h();
+    let marks = swept(&file);
+    for steps in [0, 1, u64::MAX] {
+        let mut pair = Pair::new(&old, &marks);
+        assert_eq!(pair.grant(&file, steps, &mut Compared::default()), Ok((20, 0, 0)));
+        assert_eq!((pair.state(), pair.marks()), (old.as_slice(), marks.as_slice()));
+        let (mut lent, mut second) = (marks.clone(), old.clone());
+        let granted = check::grant(&file, &mut lent, &mut second, steps);
+        assert_eq!((granted.verdict, granted.steps, granted.place), (20, 0, 0));
+        assert_eq!((&second, &lent), (&old, &marks));
+    }
+    let mut begun = old.clone();
+    assert_eq!((bindings::check_begin(&mut begun), begun), (20, old));
 }
 
 /// Below the top chain a next that is not zero is 11 at once, also if it leads to an index record.
@@ -575,7 +588,9 @@ fn an_empty_lower_record() {
 /// MaxRec in the range of an entry that names an index record is not covered by it.
 #[test]
 fn max_rec_in_a_gap_below() {
-    for (max_rec, answer) in [(-1, (0, 20)), (1, (0, 20)), (2, (12, 17)), (5, (12, 17))] {
+    let accepted = (0, 20, 0);
+    let refused = (12, 17, 504);
+    for (max_rec, answer) in [(-1, accepted), (1, accepted), (2, refused), (5, refused)] {
         let file = changed(&file_of_two_levels(), &[(388, max_rec)]);
         let mut pair = Pair::fresh(&vec![0; file.len()]);
         let whole = pair.grant(&file, u64::MAX, &mut Compared::default());
@@ -688,7 +703,7 @@ fn a_gdr_that_passes_eof() {
         let other = changed(&file, &[(332, eof)]);
         refuses(&other, &marks, unused, last);
         let opened = Pair::fresh(&marks).grant(&other, 1, &mut Compared::default());
-        assert_eq!(opened, Ok(if eof >= 380 { (-1, 1) } else { (6, 1) }), "{eof}");
+        assert_eq!(opened, Ok(if eof >= 380 { (-1, 1, 0) } else { (6, 1, 0) }), "{eof}");
     }
 }
 
@@ -773,11 +788,13 @@ fn an_unclaimed_record_in_the_padding() {
 #[test]
 fn lengths_of_a_padded_file() {
     let file = padded_h(140);
-    for (marks, answer) in [(550, (2, 1)), (689, (2, 1)), (690, (-1, 1)), (700, (-1, 1))] {
+    let (short, goes_on) = ((2, 1, 0), (-1, 1, 0));
+    for (marks, answer) in [(550, short), (689, short), (690, goes_on), (700, goes_on)] {
         let granted = Pair::fresh(&vec![0; marks]).grant(&file, 1, &mut Compared::default());
         assert_eq!(granted, Ok(answer), "{marks} marks");
     }
-    for (noted, marks, answer) in [(550, 690, (21, 0)), (690, 689, (21, 0)), (690, 690, (-1, 1))] {
+    let other = (21, 0, 0);
+    for (noted, marks, answer) in [(550, 690, other), (690, 689, other), (690, 690, goes_on)] {
         let mut numbers = sweep_at(8);
         numbers[1] = noted;
         let mut pair = Pair::new(&state(numbers, &[]), &vec![0; marks]);

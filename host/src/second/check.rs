@@ -27,8 +27,12 @@ const FIRST_RECORD: i64 = 8;
 /// How a step finishes the check.
 #[derive(Clone, Copy, Debug, PartialEq, Eq)]
 pub enum End {
-    /// 0, or the number of a refusal that speaks of the file.
-    Verdict(i32),
+    /// 0.
+    Accepted,
+    /// The number of a refusal that speaks of the file as a whole, or of its CDR or GDR at the opening.
+    OfFile(i32),
+    /// The number of a refusal that speaks of a record, and the record's file offset.
+    At(i32, i64),
     /// 20: a saved number is out of its range.
     OutOfRange,
     /// 20: what is named here lies past the file's end.
@@ -39,17 +43,25 @@ impl End {
     /// The verdict that the check is finished with.
     pub fn verdict(self) -> i32 {
         match self {
-            End::Verdict(verdict) => verdict,
+            End::Accepted => ACCEPTED,
+            End::OfFile(number) | End::At(number, _) => number,
             End::OutOfRange | End::PastEnd(_) => BAD_STATE,
         }
     }
-}
 
-impl From<Breach> for End {
-    fn from(breach: Breach) -> End {
+    /// The file offset of the record at fault, 0 if there is none.
+    pub fn place(self) -> u32 {
+        match self {
+            End::At(_, offset) => u32::try_from(offset).unwrap_or(0),
+            _ => 0,
+        }
+    }
+
+    /// What a breach of a rule is for the record that breaks it.
+    pub(super) fn of_record(breach: Breach, offset: i64) -> End {
         match breach {
-            Breach::Rule => End::Verdict(10),
-            Breach::Ranges => End::Verdict(12),
+            Breach::Rule => End::At(10, offset),
+            Breach::Ranges => End::At(12, offset),
             Breach::PastEnd(what) => End::PastEnd(what),
         }
     }
@@ -62,6 +74,8 @@ pub struct Granted {
     pub verdict: i32,
     /// Steps made in this grant.
     pub steps: u64,
+    /// File offset of the record at fault; 0 without a refusal, or where the refusal is of no record.
+    pub place: u64,
 }
 
 /// A check under way: its saved state, and the steps made since it began or was loaded.
@@ -98,6 +112,11 @@ impl Check {
         state::verdict(&self.state).unwrap_or(RUNNING)
     }
 
+    /// File offset of the record at fault, 0 if there is none.
+    pub fn place(&self) -> u64 {
+        u64::from(state::place(&self.state))
+    }
+
     /// Steps made since the check began or was loaded, the finishing one included.
     pub fn steps(&self) -> u64 {
         self.steps
@@ -116,7 +135,7 @@ impl Check {
     }
 }
 
-/// The whole check at once: verdict and steps.
+/// The whole check at once: verdict, steps and place.
 pub fn run(file: &[u8], marks: &mut [u8]) -> Granted {
     Check::fresh().grant(file, marks, u64::MAX)
 }
@@ -135,25 +154,26 @@ pub fn watched_grant(
     watch: &mut dyn FnMut(&State, Option<End>),
 ) -> Granted {
     let Ok(state) = <&mut State>::try_from(state) else {
-        return Granted { verdict: BAD_STATE, steps: 0 };
+        return Granted { verdict: BAD_STATE, steps: 0, place: 0 };
     };
-    if let Some(verdict) = state::verdict(state) {
-        return Granted { verdict, steps: 0 };
-    }
-    if steps == 0 {
-        return Granted { verdict: RUNNING, steps: 0 };
-    }
-    if is_other_file(file, marks, state) {
-        return Granted { verdict: OTHER_FILE, steps: 0 };
+    let is_running = state::verdict(state).is_none();
+    if is_running && steps > 0 && is_other_file(file, marks, state) {
+        return Granted { verdict: OTHER_FILE, steps: 0, place: 0 };
     }
     let mut made = 0;
     while made < steps && state::verdict(state).is_none() {
         let after = step(file, marks, state);
         watch(state, after.err());
-        *state = after.unwrap_or_else(|end| state::finished(end.verdict()));
+        *state = after.unwrap_or_else(|end| state::finished(end.verdict(), end.place()));
         made += 1;
     }
-    Granted { verdict: state::verdict(state).unwrap_or(RUNNING), steps: made }
+    said(state, made)
+}
+
+/// What a state says after so many steps.
+fn said(state: &State, steps: u64) -> Granted {
+    let verdict = state::verdict(state).unwrap_or(RUNNING);
+    Granted { verdict, steps, place: u64::from(state::place(state)) }
 }
 
 /// 21: looked for once a length is noted.
@@ -176,22 +196,24 @@ fn step(file: &[u8], marks: &mut [u8], state: &State) -> Result<State, End> {
 /// The opening: 1, 2, then 3, 4, 5, 14, 6.
 fn open(file: &[u8], marks: &[u8]) -> Result<Point, End> {
     if !rules::length_carried(file) {
-        return Err(End::Verdict(1));
+        return Err(End::OfFile(1));
     }
     if marks.len() < file.len() {
-        return Err(End::Verdict(2));
+        return Err(End::OfFile(2));
     }
-    rules::opening(file).map_err(End::Verdict)?;
+    rules::opening(file).map_err(End::OfFile)?;
     Ok(Point::new(length(file), Phase::Sweep, 0, FIRST_RECORD))
 }
 
-/// One step of the sweep over the body of a file: 7, then 14 for types 10 to 13, then the record's marks.
+/// One step of the sweep over the body of a file: 7, then 14 for types 10 to 13, each of the place that is swept; then the
+/// record's marks.
 fn sweep(body: &[u8], marks: &mut [u8], now: &Point) -> Result<Point, End> {
-    let record = Record::at(body, now.link).filter(Record::is_inside).ok_or(End::Verdict(7))?;
+    let refused = |number: i32| End::At(number, now.link);
+    let record = Record::at(body, now.link).filter(Record::is_inside).ok_or(refused(7))?;
     match record.record_type {
         Some(-1 | 1..=9) => {}
-        Some(10..=13) => return Err(End::Verdict(14)),
-        _ => return Err(End::Verdict(7)),
+        Some(10..=13) => return Err(refused(14)),
+        _ => return Err(refused(7)),
     }
     let end = record.offset.saturating_add(record.size);
     set_marks(marks, record.offset, end);

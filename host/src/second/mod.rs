@@ -1,5 +1,5 @@
-//! The second implementation of document 01, of lower index records and of padded files, with the saved state of
-//! docs/STATE.md.
+//! The second implementation of document 01, of lower index records, of padded files and of the places of refusals, with
+//! the saved state of docs/STATE.md.
 //!
 //! `bytes`, `tables` and `rules` say what fields, numbers and records are;
 //! `check` makes the steps from one saved state (`state`) to the next, `read`

@@ -1,7 +1,7 @@
-//! The saved state of a check: 33 numbers, with the names, phases and ranges of docs/STATE.md.
+//! The saved state of a check: 34 numbers, with the names, phases and ranges of docs/STATE.md.
 
 /// How many numbers a saved state has.
-pub const STATE_LENGTH: usize = 33;
+pub const STATE_LENGTH: usize = 34;
 
 /// Where the levels begin in a state, and how many numbers each has.
 pub const FIRST_LEVEL: usize = 12;
@@ -9,6 +9,8 @@ pub const FIRST_LEVEL: usize = 12;
 pub const LEVEL_LENGTH: usize = 3;
 /// How many index records there may be above the one that is walked.
 pub const MOST_LEVELS: usize = 7;
+/// The number that keeps the place of a refusal; it stands behind the levels.
+pub const PLACE: usize = FIRST_LEVEL + LEVEL_LENGTH * MOST_LEVELS;
 
 /// A saved state of the right length.
 pub type State = [u32; STATE_LENGTH];
@@ -28,10 +30,11 @@ const SHORTEST_FILE: u32 = 372;
 /// The least offset of a record.
 const FIRST_RECORD: u32 = 8;
 
-/// The state of a finished check.
-pub fn finished(verdict: i32) -> State {
+/// The state of a finished check: its verdict, and the place of its refusal if it has one.
+pub fn finished(verdict: i32, place: u32) -> State {
     let mut state = FRESH;
     state[0] = u32::try_from(verdict).map_or(u32::MAX, |verdict| verdict + 1);
+    state[PLACE] = place;
     state
 }
 
@@ -40,6 +43,14 @@ pub fn verdict(state: &State) -> Option<i32> {
     match state[0] {
         1..=15 | 21 | 24 => i32::try_from(state[0] - 1).ok(),
         _ => None,
+    }
+}
+
+/// The place that a grant gives with a state: of one finished with 7 to 14 or 23 the number that it keeps, of any other 0.
+pub fn place(state: &State) -> u32 {
+    match verdict(state) {
+        Some(7..=14 | 23) => state[PLACE],
+        _ => 0,
     }
 }
 
@@ -84,7 +95,7 @@ pub const LEVEL_RANGES: [(u32, u32); LEVEL_LENGTH] =
 /// How many levels a state has, by their `next`; nothing if a number of a level is out of its range, or if there is a
 /// level below one that is not there.
 pub fn level_count(state: &State) -> Option<usize> {
-    let levels = state[FIRST_LEVEL..].chunks_exact(LEVEL_LENGTH);
+    let levels = state[FIRST_LEVEL..PLACE].chunks_exact(LEVEL_LENGTH);
     let count = levels.clone().take_while(|level| level[1] != 0).count();
     let within = |(number, (least, most)): (&u32, (u32, u32))| (least..=most).contains(number);
     let right = |level: &[u32]| level.iter().zip(LEVEL_RANGES).all(within);
@@ -103,7 +114,8 @@ pub fn is_in_range(state: &State) -> bool {
     let rest = state.iter().skip(4).zip(greatest(phase)).all(|(number, most)| *number <= most);
     let swept = phase != 1 || link >= FIRST_RECORD;
     let levels = level_count(state).is_some_and(|count| count <= most_levels(phase));
-    verdict == 0 && phase <= 8 && noted && kinds(phase).contains(&kind) && rest && swept && levels
+    let unfinished = verdict == 0 && state[PLACE] == 0;
+    unfinished && phase <= 8 && noted && kinds(phase).contains(&kind) && rest && swept && levels
 }
 
 /// What the next step does.
@@ -170,7 +182,7 @@ impl Levels {
     /// The levels that a state says.
     fn load(state: &State) -> Levels {
         let mut levels = Levels::default();
-        let numbers = state[FIRST_LEVEL..].chunks_exact(LEVEL_LENGTH);
+        let numbers = state[FIRST_LEVEL..PLACE].chunks_exact(LEVEL_LENGTH);
         for (place, level) in levels.0.iter_mut().zip(numbers) {
             let [record, next, last] = [level[0], level[1], level[2]].map(i64::from);
             *place = (next != 0).then_some(Level { record, next, last });
