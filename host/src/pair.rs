@@ -138,6 +138,9 @@ impl Pair {
         if answer != second {
             return Some(format!("proved {answer:?}, second {second:?}"));
         }
+        if answer.2 != 0 && !matches!(answer.0, 7..=14 | 23) {
+            return Some(format!("{answer:?} has a place"));
+        }
         if self.state != self.second_state {
             return Some(format!("proved leaves {:?}, second {:?}", self.state, self.second_state));
         }
@@ -203,6 +206,7 @@ mod tests {
     use super::*;
     use crate::build;
     use crate::damage::{damaged, Damage};
+    use crate::second::state::{finished, PLACE};
 
     /// Every difference is found: in the answer, the steps, each number of the state and any mark.
     #[test]
@@ -239,5 +243,10 @@ mod tests {
         let (marks, state) = (&mut refused.second_marks, &mut refused.second_state);
         watched_grant(&file, marks, state, u64::MAX, &mut |_, _| {});
         assert!(refused.grant(&other, 1, &mut compared).is_err(), "answers");
+        let mut elsewhere = Pair::new(&finished(9, 504), &[]);
+        assert_eq!(elsewhere.grant(&file, 0, &mut compared), Ok((9, 0, 504)));
+        elsewhere.second_state[PLACE] = 505;
+        let found = elsewhere.grant(&file, 0, &mut compared).expect_err("places");
+        assert!(found.contains("(9, 0, 504)") && found.contains("(9, 0, 505)"), "{found}");
     }
 }
