@@ -9,11 +9,11 @@ const CDR: i64 = 8;
 
 /// A record of the tiling.
 #[derive(Clone, Copy, Debug, PartialEq, Eq)]
-pub struct Tile {
+struct Tile {
     /// File offset of its start.
-    pub offset: i64,
+    offset: i64,
     /// Its type.
-    pub record_type: i64,
+    record_type: i64,
 }
 
 /// A link: what stands there, the types of records that it may lead to, and whether it may be 0.
@@ -24,7 +24,7 @@ struct Link {
 }
 
 /// A file's records from offset 8 on.
-pub struct Places<'a> {
+struct Places<'a> {
     body: &'a [u8],
     tiles: Vec<Tile>,
     stop: Stop,
@@ -32,7 +32,7 @@ pub struct Places<'a> {
 
 /// Where the records stop, and why.
 #[derive(Clone, Copy, Debug, PartialEq, Eq)]
-pub enum Stop {
+enum Stop {
     /// The file ends.
     AtEnd,
     /// There is no record here.
@@ -43,7 +43,7 @@ pub enum Stop {
 
 impl<'a> Places<'a> {
     /// The records of a file, up to the first place where there is none that is carried.
-    pub fn of(file: &'a [u8]) -> Places<'a> {
+    fn of(file: &'a [u8]) -> Places<'a> {
         let body = body(file);
         let (mut tiles, mut offset) = (Vec::new(), CDR);
         let stop = loop {
@@ -62,16 +62,6 @@ impl<'a> Places<'a> {
             }
         };
         Places { body, tiles, stop }
-    }
-
-    /// The records.
-    pub fn tiles(&self) -> &[Tile] {
-        &self.tiles
-    }
-
-    /// Where the records stop.
-    pub fn stop(&self) -> Stop {
-        self.stop
     }
 
     fn field(&self, offset: i64) -> i64 {
@@ -117,7 +107,8 @@ impl<'a> Places<'a> {
     /// A link does not lead to a record that it may lead to.
     fn is_broken(&self, link: &Link) -> bool {
         let leads = self.tile_at(link.to).is_some_and(|to| link.wanted.contains(&to.record_type));
-        !leads && !(link.may_end && link.to == 0)
+        let ends = link.may_end && link.to == 0;
+        !leads && !ends
     }
 
     /// A record holds a link that leads nowhere.
@@ -133,7 +124,7 @@ impl<'a> Places<'a> {
     }
 
     /// The offsets of the records that links lead to from the CDR on.
-    pub fn reached(&self) -> BTreeSet<i64> {
+    fn reached(&self) -> BTreeSet<i64> {
         let mut reached = BTreeSet::new();
         let mut open: Vec<&Tile> = self.tile_at(CDR).into_iter().collect();
         while let Some(tile) = open.pop() {
@@ -146,7 +137,7 @@ impl<'a> Places<'a> {
     }
 
     /// The first record in use that no link leads to.
-    pub fn first_unclaimed(&self) -> Option<i64> {
+    fn first_unclaimed(&self) -> Option<i64> {
         let reached = self.reached();
         let in_use = self.tiles.iter().filter(|tile| tile.record_type != -1);
         in_use.map(|tile| tile.offset).find(|offset| !reached.contains(offset))
