@@ -3,7 +3,7 @@
  *
  *     bench            builds large files and prints median times and their ratio, proved / C; then the clearing of marks by
  *                      itself, and how the time grows
- *     bench FILE..     no times: compares verdict, steps and marks, and the answers to many reads, on each file
+ *     bench FILE..     no times: compares verdict, steps, place and marks, and the answers to many reads, on each file
  */
 #include "check.h"
 #include "clearing.h"
@@ -19,26 +19,27 @@
 
 enum { REPEATS = 15 };
 
-static int32_t proved_check(const uint8_t *file, size_t file_len, uint8_t *marks, size_t marks_len, uint64_t *steps)
+static int32_t proved_check(const uint8_t *file, size_t file_len, uint8_t *marks, size_t marks_len, uint64_t *steps,
+                            uint64_t *where)
 {
     uint32_t state[TLZ_STATE_LEN];
     int32_t begun = tlz_check_begin(state, TLZ_STATE_LEN);
     if (begun != TLZ_RUNNING)
         return begun;
-    return tlz_check_grant(file, file_len, marks, marks_len, state, TLZ_STATE_LEN, UINT64_MAX, steps);
+    return tlz_check_grant(file, file_len, marks, marks_len, state, TLZ_STATE_LEN, UINT64_MAX, steps, where);
 }
 
-/* The two agree on a file in verdict, steps and marks; gives the verdict, or -1 if they do not. */
+/* The two agree on a file in verdict, steps, place and marks; gives the verdict, or -1 if they do not. */
 static int32_t agreed(const struct file *file, const char *name)
 {
     uint8_t *marks = allocated(file->length), *other = allocated(file->length);
-    uint64_t steps = 0, other_steps = 0;
-    int32_t verdict = proved_check(file->bytes, file->length, marks, file->length, &steps);
-    int32_t plain = plain_check(file->bytes, file->length, other, file->length, &other_steps);
-    int same = verdict == plain && steps == other_steps && memcmp(marks, other, file->length) == 0;
+    uint64_t steps = 0, other_steps = 0, where = 1, other_where = 1;
+    int32_t verdict = proved_check(file->bytes, file->length, marks, file->length, &steps, &where);
+    int32_t plain = plain_check(file->bytes, file->length, other, file->length, &other_steps, &other_where);
+    int same = verdict == plain && steps == other_steps && where == other_where && memcmp(marks, other, file->length) == 0;
     if (!same)
-        fprintf(stderr, "%s: proved %d in %" PRIu64 ", C %d in %" PRIu64 "\n", name, (int)verdict, steps, (int)plain,
-                other_steps);
+        fprintf(stderr, "%s: proved %d in %" PRIu64 " at %" PRIu64 ", C %d in %" PRIu64 " at %" PRIu64 "\n", name, (int)verdict,
+                steps, where, (int)plain, other_steps, other_where);
     free(marks);
     free(other);
     return same ? verdict : -1;
@@ -49,14 +50,14 @@ static void timed(const char *name, struct file file)
 {
     double proved[REPEATS], plain[REPEATS], cleared[REPEATS];
     uint8_t *marks = allocated(file.length);
-    uint64_t steps = 0;
+    uint64_t steps = 0, where = 0;
     if (agreed(&file, name) != TLZ_ACCEPTED)
         exit(1);
     for (int i = 0; i < REPEATS; i++) {
         double a = now();
-        proved_check(file.bytes, file.length, marks, file.length, &steps);
+        proved_check(file.bytes, file.length, marks, file.length, &steps, &where);
         double b = now();
-        plain_check(file.bytes, file.length, marks, file.length, &steps);
+        plain_check(file.bytes, file.length, marks, file.length, &steps, &where);
         double c = now();
         memset(marks, i, file.length);
         double d = now();

@@ -23,7 +23,7 @@ extern "C" {
 #endif
 
 /* How many numbers of 32 bits a saved state has. */
-#define TLZ_STATE_LEN 33
+#define TLZ_STATE_LEN 34
 
 /* The longest file that is checked, in bytes; a longer one is TLZ_TOO_LONG. */
 #define TLZ_LONGEST_FILE 2147483647
@@ -68,7 +68,7 @@ extern "C" {
 /*
  * Pointers. No pointer is null, also where a length is 0; each is valid for its length and aligned for its type. A buffer
  * of length 0 is not read or written. All buffers are the caller's before, during and after a call. What a call may write
- * (state, marks, *steps, the numbers that the reader sets) overlaps no other buffer or number of that call.
+ * (state, marks, *steps, *where, the numbers that the reader sets) overlaps no other buffer or number of that call.
  */
 
 /*
@@ -91,6 +91,7 @@ int32_t tlz_check_begin(uint32_t *state, size_t state_len);
  *   state, state_len   the state, made fresh by tlz_check_begin or kept from an earlier grant; TLZ_STATE_LEN numbers
  *   grant              the most steps to make
  *   steps              set to the steps made, in every case: 0 to grant
+ *   where              set to the place, in every case: the file offset of the record at fault, or 0
  *
  * Gives:
  *   TLZ_RUNNING        all granted steps were made and the check is not finished: grant more
@@ -101,9 +102,19 @@ int32_t tlz_check_begin(uint32_t *state, size_t state_len);
  *   TLZ_OTHER_FILE     not finished: file_len is not the length noted at opening, or marks_len is below it. 0 steps, state
  *                      and marks unchanged; the check goes on when the right buffers are lent.
  *
+ * The place, by the answer:
+ *   7, 14 in the sweep   the swept record; where fewer than 8 bytes are left, the offset at which they begin
+ *   8, 9, 12             the record that holds the link: for an index entry its index record; 8 for the CDR's link
+ *   11 at a list's end,  the record that holds the zero link: the list's last member, or the one with the list's head where
+ *   12 of MaxRec         the list is empty
+ *   10, 23, and 14 and   the record that the link leads to
+ *   11 on a claim
+ *   13                   the first record in use that is on no list
+ *   all others           0: -1, 0, 1 to 6, 14 at the opening, 20, 21
+ *
  * What a refusal leaves: the refusing step is counted, changes no mark, and leaves a state that says no more than the
- * verdict. A finished state gives its verdict again, in 0 steps and whatever is lent; no mark changes. Begin again to check
- * another file with it. A grant of 0 changes nothing and gives TLZ_RUNNING or the verdict.
+ * verdict and the place. A finished state gives both again, in 0 steps and whatever is lent; no mark changes. Begin again to
+ * check another file with it. A grant of 0 changes nothing and gives TLZ_RUNNING, or the verdict and the place.
  *
  * TLZ_ACCEPTED comes only from a check that made all its steps: an unfinished one that was stopped, was lent another length
  * or was granted 0 steps never gives it, nor does a state of a wrong length. State and marks are believed, though:
@@ -116,14 +127,14 @@ int32_t tlz_check_begin(uint32_t *state, size_t state_len);
  * A worked loop, over a file in memory:
  *
  *     uint32_t state[TLZ_STATE_LEN];
- *     uint64_t steps = 0, all = 0;
+ *     uint64_t steps = 0, all = 0, where = 0;
  *     int32_t answer = tlz_check_begin(state, TLZ_STATE_LEN);
  *     uint8_t *marks = malloc(file_len + 1);
  *
  *     if (marks == NULL)
  *         ... out of memory ...
  *     while (answer == TLZ_RUNNING) {
- *         answer = tlz_check_grant(file, file_len, marks, file_len, state, TLZ_STATE_LEN, 10000, &steps);
+ *         answer = tlz_check_grant(file, file_len, marks, file_len, state, TLZ_STATE_LEN, 10000, &steps, &where);
  *         all += steps;
  *         ... other work; or save state and marks here and go on another day ...
  *     }
@@ -131,10 +142,10 @@ int32_t tlz_check_begin(uint32_t *state, size_t state_len);
  *     if (answer == TLZ_ACCEPTED)
  *         ... the file keeps every rule ...
  *     else
- *         ... refused with this number, at step `all` ...
+ *         ... refused with this number, at step `all`, because of the record at `where`, if that is not 0 ...
  */
 int32_t tlz_check_grant(const uint8_t *file, size_t file_len, uint8_t *marks, size_t marks_len, uint32_t *state,
-                        size_t state_len, uint64_t grant, uint64_t *steps);
+                        size_t state_len, uint64_t grant, uint64_t *steps, uint64_t *where);
 
 /*
  * ---- The reader
