@@ -19,8 +19,8 @@ PACKAGES = build/tlepozaluh.pc build/tlepozaluh_read.pc
 # The programs, each tools/NAME.c, with what they share and their own parts; each has a manual page man/NAME.1.
 # cdfread is made of the reader alone.
 PROGRAMS = cdfcheck cdfnight cdfread
-SHARED = $(addprefix tools/,console.c input.c job.c options.c print.c saved.c text.c window.c words.c)
-READING = $(addprefix tools/,attribute.c console.c input.c options.c text.c values.c variable.c window.c words.c)
+SHARED = $(addprefix tools/,console.c input.c job.c options.c print.c record.c saved.c text.c window.c words.c)
+READING = $(addprefix tools/,attribute.c console.c input.c look.c options.c record.c text.c values.c variable.c window.c words.c)
 HEADERS = include/tlepozaluh.h $(wildcard tools/*.h)
 
 run: tools

@@ -2,6 +2,7 @@
 #include "attribute.h"
 #include "console.h"
 #include "input.h"
+#include "look.h"
 #include "options.h"
 #include "text.h"
 #include "variable.h"
@@ -14,10 +15,12 @@
 static const char help[] =
     "Usage: cdfread [OPTION].. FILE\n"
     "       cdfread [OPTION].. FILE r|z NUMBER [RECORD]..\n"
+    "       cdfread [OPTION].. FILE --at OFFSET\n"
     "Shows what a CDF file holds (single file, uncompressed, versions 2.6 and 2.7): its variables, attributes and entries;\n"
     "or the values of an rVariable or zVariable, of the records that are named or of all. The file is read, not checked.\n"
     "\n"
-    "  --json         JSON: one object for a file, one a record for values\n"
+    "  --at OFFSET    show the record at this offset, field by field, whatever the file; 0x.. is hexadecimal\n"
+    "  --json         JSON: one object for a file or a record at an offset, one a record for values\n"
     "  --help         this text\n"
     "  --version      the version\n"
     "\n"
@@ -173,6 +176,8 @@ int main(int count, char **words)
 
     if (first >= count)
         options_fail(&program, "no file is named", NULL);
+    if (options.look && first + 1 < count)
+        options_fail(&program, "a record at an offset is of no variable", words[first + 1]);
     check_words(count - first - 1, words + first + 1);
     why = input_read(words[first], &input);
     if (why != NULL) {
@@ -180,7 +185,9 @@ int main(int count, char **words)
         return 2;
     }
     struct source source = { .file = input.bytes, .length = input.length, .json = options.json };
-    if (first + 1 < count)
+    if (options.look)
+        source.cut = !look_at(&source, options.at);
+    else if (first + 1 < count)
         list_values(&source, count - first - 1, words + first + 1);
     else
         list_file(&source);

@@ -1,6 +1,7 @@
 #include "job.h"
 
 #include "console.h"
+#include "record.h"
 #include "saved.h"
 #include "sum.h"
 #include "window.h"
@@ -17,6 +18,8 @@ static void set(struct job *job, enum outcome outcome, int32_t number, const cha
 {
     job->outcome = outcome;
     job->number = number;
+    job->place = 0;
+    job->record = NULL;
     snprintf(job->why, sizeof job->why, "%s", why);
 }
 
@@ -42,12 +45,16 @@ static void drop(struct job *job)
     job->open = false;
 }
 
+/* How many bytes the file's body has. */
+static size_t body(const struct job *job)
+{
+    return job->input.length - (job->padding == NO_PADDING ? 0 : (size_t)job->padding);
+}
+
 /* Where an unfinished check stands, in words. */
 static void say_where(struct job *job)
 {
-    size_t padding = job->padding == NO_PADDING ? 0 : (size_t)job->padding;
-
-    words_of_state(job->state, job->input.length - padding, job->why, sizeof job->why);
+    words_of_state(job->state, body(job), job->why, sizeof job->why);
 }
 
 /* Padding, marks and state, fresh or kept; NULL, or why not. */
@@ -84,8 +91,8 @@ void job_open(struct job *job, const struct manner *manner)
     drop(job);
 }
 
-/* Takes what a grant answered. 20 and 21 speak of the state and not of the file, so it was not checked. */
-static void take(struct job *job, int32_t answer)
+/* Takes what a grant answered, and its place. 20 and 21 speak of the state and not of the file, so it was not checked. */
+static void take(struct job *job, int32_t answer, uint64_t place)
 {
     if (answer == TLZ_RUNNING)
         say_where(job);
@@ -95,6 +102,10 @@ static void take(struct job *job, int32_t answer)
         set(job, REFUSED, answer, words_of_number(answer));
     else
         set(job, UNCHECKED, answer, words_of_number(answer));
+    if (place != 0 && job->outcome == REFUSED) {
+        job->place = place;
+        job->record = record_words(job->input.bytes, body(job), place);
+    }
 }
 
 /* Shows where a long check stands. */
@@ -115,10 +126,12 @@ void job_grant(struct job *job, const struct manner *manner)
     double start = window_clock();
     uint64_t left = manner->limit - (job->steps - job->before);
     uint64_t grant = left < manner->grant ? left : manner->grant;
-    uint64_t steps = 0;
+    uint64_t steps = 0, place = 0;
     size_t length = job->input.length;
+    int32_t answer = tlz_check_grant(job->input.bytes, length, job->marks, length, job->state, TLZ_STATE_LEN, grant, &steps,
+                                     &place);
 
-    take(job, tlz_check_grant(job->input.bytes, length, job->marks, length, job->state, TLZ_STATE_LEN, grant, &steps));
+    take(job, answer, place);
     job->steps += steps;
     job->seconds += window_clock() - start;
     show(job, manner);

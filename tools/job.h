@@ -27,6 +27,8 @@ struct job {
     enum outcome outcome;
     int32_t number;
     char why[WHY_ROOM]; /* in words, unless it is accepted */
+    uint64_t place;     /* of a refusal: the file offset of the record at fault, or 0 .. */
+    const char *record; /* .. and in words what stands there; NULL where it is 0 */
     uint64_t marks_sum; /* of the marks at the end, if asked for */
     bool open;          /* holds its buffers, and can be granted steps */
 };

@@ -11,7 +11,7 @@
 #include <stdlib.h>
 #include <unistd.h>
 
-enum { GRANT = 1, LIMIT, SECONDS, SAVE, RESUME, JSON, QUIET, MARKS, PROGRESS, HELP, VERSION_OF, UNTIL, MEMORY };
+enum { GRANT = 1, LIMIT, SECONDS, SAVE, RESUME, JSON, QUIET, MARKS, PROGRESS, HELP, VERSION_OF, UNTIL, MEMORY, AT };
 
 static const struct option known[] = {
     { "grant", required_argument, NULL, GRANT },     { "limit", required_argument, NULL, LIMIT },
@@ -20,7 +20,8 @@ static const struct option known[] = {
     { "quiet", no_argument, NULL, QUIET },           { "marks", no_argument, NULL, MARKS },
     { "progress", no_argument, NULL, PROGRESS },     { "help", no_argument, NULL, HELP },
     { "version", no_argument, NULL, VERSION_OF },    { "until", required_argument, NULL, UNTIL },
-    { "memory", required_argument, NULL, MEMORY },   { NULL, 0, NULL, 0 },
+    { "memory", required_argument, NULL, MEMORY },   { "at", required_argument, NULL, AT },
+    { NULL, 0, NULL, 0 },
 };
 
 void options_fail(const struct program *program, const char *what, const char *word)
@@ -60,6 +61,9 @@ static bool read_value(int option, const char *word, struct options *options)
             return false;
         options->memory = megabytes << 20;
         return true;
+    case AT:
+        options->look = true;
+        return text_offset(word, &options->at);
     case SAVE:
         options->manner.save = word;
         return word[0] != '\0';
@@ -104,6 +108,8 @@ static bool has(const struct program *program, int option)
         return true;
     if (option == UNTIL || option == MEMORY)
         return program->work == NIGHT;
+    if (option == AT)
+        return program->work == READ;
     return option != '?' && program->work != READ;
 }
 

@@ -10,11 +10,13 @@ struct options {
     int hour;       /* when the window ends, below 0 if no time of day is given .. */
     int minute;     /* .. and the minute */
     uint64_t memory; /* bytes of files and marks that are held at a time */
+    uint64_t at; /* the offset of the record to be looked at .. */
+    bool look;   /* .. if one is to be */
     bool json;
     bool quiet;
 };
 
-/* Which options a program has: those of a check, also those of a night, or --json, --help and --version alone. */
+/* Which options a program has: those of a check, also those of a night, or --at, --json, --help and --version alone. */
 enum work { CHECK, NIGHT, READ };
 
 /* A program: its name, its help, and its options. */

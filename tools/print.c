@@ -17,7 +17,10 @@ void print_line(const struct job *job, bool marks)
     text_name(stdout, job->path);
     if (job->padding > 0)
         printf(" (%" PRId32 " byte%s of padding)", job->padding, job->padding == 1 ? "" : "s");
-    printf("%s%s\n", job->why[0] == '\0' ? "" : ": ", job->why);
+    printf("%s%s", job->why[0] == '\0' ? "" : ": ", job->why);
+    if (job->place != 0)
+        printf(": %s at 0x%" PRIx64 " (%" PRIu64 ")", job->record, job->place, job->place);
+    printf("\n");
 }
 
 /* A number as a member of a JSON object, or null where it is the one that stands for none. */
@@ -27,6 +30,16 @@ static void print_number(const char *name, int32_t number, int32_t none)
         printf(", \"%s\": null", name);
     else
         printf(", \"%s\": %" PRId32, name, number);
+}
+
+/* The place of a refusal, in both forms, and what stands there. */
+static void print_place(const struct job *job)
+{
+    if (job->place == 0)
+        printf(", \"place\": null, \"place_hex\": null, \"record\": null");
+    else
+        printf(", \"place\": %" PRIu64 ", \"place_hex\": \"0x%" PRIx64 "\", \"record\": \"%s\"", job->place, job->place,
+               job->record);
 }
 
 void print_json(const struct job *job, bool marks)
@@ -41,6 +54,7 @@ void print_json(const struct job *job, bool marks)
     print_number("number", job->number, NO_NUMBER);
     printf(", \"words\": ");
     text_json(stdout, job->why);
+    print_place(job);
     printf(", \"steps\": %" PRIu64 ", \"steps_before\": %" PRIu64, job->steps, job->before);
     printf(", \"seconds\": %.6f", job->seconds);
     print_number("padding", job->padding, NO_PADDING);

@@ -4,7 +4,10 @@
 
 #include "job.h"
 
-/* One line: outcome, number, steps, seconds, name, padding if there is any, and in words why it is not accepted. */
+/*
+ * One line: outcome, number, steps, seconds, name, padding if there is any, and in words why it is not accepted, with the
+ * record at fault and its place if there is one.
+ */
 void print_line(const struct job *job, bool marks);
 
 /* The same as a JSON object on one line. */

@@ -16,8 +16,8 @@
 static const char magic[] = "TLZSAVE1";
 static const char damaged[] = "the saved check is damaged";
 
-/* How many numbers a state had before indexes had levels. */
-enum { OLDER_STATE_LEN = 12 };
+/* How many numbers a state had before indexes had levels, and before refusals had places. */
+enum { STATE_WITHOUT_LEVELS = 12, STATE_WITHOUT_PLACE = 33 };
 
 enum { MAGIC = 8, SUM = 8, HEADER = MAGIC + 4 + 4 * TLZ_STATE_LEN + 6 * 8, ROOM = 4096, PIECE = 65536 };
 
@@ -204,6 +204,16 @@ static bool sums_agree(FILE *in, uint64_t length)
     return fread(piece, 1, SUM, in) == SUM && get(&end, SUM) == sum;
 }
 
+/* NULL, or why a state of so many numbers cannot be used. */
+static const char *other_state(uint32_t count)
+{
+    if (count == STATE_WITHOUT_LEVELS)
+        return "the saved check is of an older form, with a state of 12 numbers";
+    if (count == STATE_WITHOUT_PLACE)
+        return "the saved check is of an older form, with a state of 33 numbers";
+    return count == TLZ_STATE_LEN ? NULL : "the saved check has a state of another length";
+}
+
 /* Reads the header of a file that is whole; NULL, or why it cannot be used. */
 static const char *read_header(FILE *in, struct header *header)
 {
@@ -219,10 +229,8 @@ static const char *read_header(FILE *in, struct header *header)
     if (fread(bytes, 1, HEADER, in) < MAGIC + 4 || memcmp(bytes, magic, MAGIC) != 0)
         return damaged;
     unpack(bytes, header);
-    if (header->count == OLDER_STATE_LEN)
-        return "the saved check is of an older form, with a state of 12 numbers";
-    if (header->count != TLZ_STATE_LEN)
-        return "the saved check has a state of another length";
+    if (other_state(header->count) != NULL)
+        return other_state(header->count);
     if (header->state[0] != 0 || header->path_length >= ROOM)
         return damaged;
     if ((uint64_t)found.st_size != HEADER + header->path_length + header->length + SUM)

@@ -9,7 +9,7 @@
  *     then      its path, from the root; the marks, as many as the file has bytes
  *     8         the sum of all that stands before
  *
- * The sums are FNV-1a of 64 bits. In an older form the state has 12 numbers; such a check cannot be gone on with.
+ * The sums are FNV-1a of 64 bits. In older forms the state has 12 or 33 numbers; such a check cannot be gone on with.
  */
 #ifndef TOOLS_SAVED_H
 #define TOOLS_SAVED_H

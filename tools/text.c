@@ -70,15 +70,28 @@ void text_hex(FILE *out, const char *string)
         fprintf(out, "%02x", *at);
 }
 
-bool text_number(const char *word, uint64_t *number)
+/* A whole number of these digits and no other characters. */
+static bool number_of(const char *word, const char *digits, int base, uint64_t *number)
 {
     char *end = NULL;
 
-    if (word[0] == '\0' || word[strspn(word, "0123456789")] != '\0')
+    if (word[0] == '\0' || word[strspn(word, digits)] != '\0')
         return false;
     errno = 0;
-    *number = strtoumax(word, &end, 10);
+    *number = strtoumax(word, &end, base);
     return errno == 0 && *end == '\0';
+}
+
+bool text_number(const char *word, uint64_t *number)
+{
+    return number_of(word, "0123456789", 10, number);
+}
+
+bool text_offset(const char *word, uint64_t *number)
+{
+    if (word[0] == '0' && (word[1] == 'x' || word[1] == 'X'))
+        return number_of(word + 2, "0123456789abcdefABCDEF", 16, number);
+    return text_number(word, number);
 }
 
 bool text_seconds(const char *word, double *seconds)

@@ -18,6 +18,9 @@ void text_hex(FILE *out, const char *string);
 /* A whole number, digits only; false if it is none or does not fit. */
 bool text_number(const char *word, uint64_t *number);
 
+/* A whole number in decimal, or in hexadecimal with 0x before it; false if it is none or does not fit. */
+bool text_offset(const char *word, uint64_t *number);
+
 /* Seconds, 0 or more, with or without a fraction; false if it is no such number. */
 bool text_seconds(const char *word, double *seconds);
 

@@ -81,7 +81,7 @@ const char *words_of_encoding(int32_t encoding)
 }
 
 /* Places of a state; a level has three numbers, and its second is 0 where there is none. */
-enum { PHASE = 2, KIND = 3, LINK = 4, COUNT = 5, ENTRY = 9, LEVELS = 12, OF_A_LEVEL = 3 };
+enum { PHASE = 2, KIND = 3, LINK = 4, COUNT = 5, ENTRY = 9, LEVELS = 12, OF_A_LEVEL = 3, BEHIND_LEVELS = 33 };
 
 /* Phases of a check. */
 enum { FRESH, SWEEP, START, VARIABLES, CHAIN, INDEX_ENTRY, ATTRIBUTES, ENTRIES, UNUSED };
@@ -91,7 +91,7 @@ static void words_of_index(const uint32_t *state, const char *variable, char *wo
 {
     int level = 1;
 
-    for (int i = LEVELS; i < TLZ_STATE_LEN && state[i + 1] != 0; i += OF_A_LEVEL)
+    for (int i = LEVELS; i < BEHIND_LEVELS && state[i + 1] != 0; i += OF_A_LEVEL)
         level++;
     if (level == 1)
         snprintf(words, room, "all bytes swept, in the index of %s %" PRIu32, variable, state[COUNT]);
