@@ -24,8 +24,8 @@ static const char help[] =
     "  --help         this text\n"
     "  --version      the version\n"
     "\n"
-    "Exit status: 0 all that was asked for was shown; 1 something was refused or not looked at, which is said in its place;\n"
-    "2 the file cannot be read, or the command line is wrong.\n";
+    "Exit status: 0 all that was asked for was shown; 1 something was refused or not looked at, which is said in its place,\n"
+    "or there is a note about the record at an offset; 2 the file cannot be read, or the command line is wrong.\n";
 
 static const struct program program = { "cdfread", help, READ };
 

@@ -1,7 +1,7 @@
-"""Changes a saved check (tools/saved.h) and makes its last sum right again: patch.py FILE OFFSET HEX.. [cut N] [older]
+"""Changes a saved check (tools/saved.h) and makes its last sum right again: patch.py FILE OFFSET HEX.. [cut N] [older N]
 
-Each OFFSET HEX pair writes bytes. With `cut N` the last N bytes before the sum are dropped. With `older` the state keeps its first
-12 numbers, as in the older form.
+Each OFFSET HEX pair writes bytes. With `cut N` the last N bytes before the sum are dropped. With `older N` the state keeps its first
+N numbers, as in the older forms of 12 and 33.
 """
 import sys
 
@@ -19,10 +19,11 @@ with open(name, "rb") as saved:
 for place, value in zip(words[::2], words[1::2]):
     if place == "cut":
         del body[len(body) - int(value):]
+    elif place == "older":
+        kept = int(value)
+        body[8:12 + 4 * int.from_bytes(body[8:12], "little")] = kept.to_bytes(4, "little") + body[12:12 + 4 * kept]
     else:
         new = bytes.fromhex(value)
         body[int(place):int(place) + len(new)] = new
-if words[-1] == "older":
-    body[8:12 + 4 * int.from_bytes(body[8:12], "little")] = (12).to_bytes(4, "little") + body[12:60]
 with open(name, "wb") as saved:
     saved.write(body + fnv1a(body).to_bytes(8, "little"))
