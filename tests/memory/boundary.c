@@ -1,8 +1,8 @@
 /*
  * boundary ROUNDS FILE..: calls the library with heap buffers of exactly the lengths that it is told, to be run under a memory
  * checker. Fresh checks get marks that were never written; made-up states get made-up marks. Files are also damaged and padded;
- * their padding was never written. Prints how many grants were made; exits with 1 if an answer, the steps or a byte that must
- * not change is wrong.
+ * their padding was never written. Prints how many grants were made; exits with 1 if an answer, the steps, the place or a byte
+ * that must not change is wrong.
  */
 #include "common.h"
 #include "tlepozaluh.h"
@@ -14,14 +14,14 @@
 #define MISSING 0
 #endif
 
-/* How many numbers of a state come before its levels. */
-enum { PLAIN = 12 };
+/* How many numbers of a state come before its levels; which number is the place. */
+enum { PLAIN = 12, PLACE = 33 };
 
 /* Buffers of one check, each an allocation of its own. */
 struct lent {
     uint8_t *file, *marks;
     uint32_t *state;
-    uint64_t *steps;
+    uint64_t *steps, *where;
     size_t length, end, marks_len, state_len;
 };
 
@@ -37,6 +37,7 @@ static struct lent lend(const uint8_t *file, size_t length, size_t marks_len, si
     lent.marks = exactly(marks_len - missing);
     lent.state = exactly(state_len * sizeof *lent.state);
     lent.steps = exactly(sizeof *lent.steps);
+    lent.where = exactly(sizeof *lent.where);
     memcpy(lent.file, file, lent.end);
     return lent;
 }
@@ -47,6 +48,7 @@ static void give_back(struct lent *lent)
     free(lent->marks);
     free(lent->state);
     free(lent->steps);
+    free(lent->where);
 }
 
 static void expect(int right, const char *what)
@@ -57,11 +59,17 @@ static void expect(int right, const char *what)
     fprintf(stderr, "wrong: %s\n", what);
 }
 
-/* A grant whose answer and steps are what they can be. */
+/* Verdicts that a finished state has a place for; 14 may have none. */
+static int has_place(int32_t answer)
+{
+    return (answer >= TLZ_NOT_TILED && answer <= TLZ_NOT_CARRIED) || answer == TLZ_TOO_DEEP;
+}
+
+/* A grant whose answer, steps and place are what they can be. */
 static int32_t grant(struct lent *lent, uint64_t steps)
 {
     int32_t answer = tlz_check_grant(lent->file, lent->length, lent->marks, lent->marks_len, lent->state, lent->state_len, steps,
-                                     lent->steps);
+                                     lent->steps, lent->where);
 
     grants++;
     expect((answer >= TLZ_RUNNING && answer <= TLZ_NOT_CARRIED) || answer == TLZ_BAD_STATE || answer == TLZ_OTHER_FILE ||
@@ -69,7 +77,17 @@ static int32_t grant(struct lent *lent, uint64_t steps)
            "answer");
     expect(*lent->steps <= steps, "steps");
     expect(answer != TLZ_RUNNING || *lent->steps == steps, "fewer steps and not finished");
+    expect(*lent->where == (has_place(answer) ? lent->state[PLACE] : 0), "place");
     return answer;
+}
+
+/* A finished check gives its verdict and place again, in 0 steps. */
+static void repeats(struct lent *lent, int32_t verdict)
+{
+    uint64_t where = *lent->where;
+
+    for (uint64_t steps = 0; steps < 3; steps++)
+        expect(grant(lent, steps) == verdict && *lent->steps == 0 && *lent->where == where, "a repeated verdict");
 }
 
 /* A fresh check in grants of up to `most` steps, on marks that were never written. */
@@ -82,6 +100,9 @@ static void fresh_check(const uint8_t *file, size_t length, uint64_t most)
     while (answer == TLZ_RUNNING)
         answer = grant(&lent, 1 + any(most));
     expect(answer != TLZ_OTHER_FILE && answer != TLZ_BAD_STATE, "a fresh check's verdict");
+    expect(!has_place(answer) || (*lent.where >= 8 && *lent.where < lent.end) || (answer == TLZ_NOT_CARRIED && *lent.where == 0),
+           "a fresh check's place");
+    repeats(&lent, answer);
     expect(memcmp(lent.file, file, lent.end) == 0, "the file was written");
     give_back(&lent);
 }
@@ -137,6 +158,38 @@ static uint32_t made_up_number(size_t length)
     }
 }
 
+/* Finished states with any other numbers: they repeat verdict and place, and stay as they are. */
+static void finished(const uint8_t *file, size_t length)
+{
+    static const uint32_t firsts[] = { 1, 2, 3, 4, 5, 6, 7, 8, 9, 10, 11, 12, 13, 14, 15, 21, 24 };
+
+    for (size_t k = 0; k < sizeof firsts / sizeof *firsts; k++) {
+        struct lent lent = lend(file, length, length, TLZ_STATE_LEN);
+        uint32_t before[TLZ_STATE_LEN] = { firsts[k] };
+        for (int i = 1; i < TLZ_STATE_LEN; i++)
+            before[i] = made_up_number(length);
+        memcpy(lent.state, before, sizeof before);
+        expect(grant(&lent, any(3)) == (int32_t)firsts[k] - 1 && *lent.steps == 0, "a finished state's verdict");
+        repeats(&lent, (int32_t)firsts[k] - 1);
+        expect(memcmp(lent.state, before, sizeof before) == 0, "a finished state was written");
+        give_back(&lent);
+    }
+}
+
+/* An unfinished state with a place is out of range. */
+static void place_too_early(const uint8_t *file, size_t length)
+{
+    struct lent lent = lend(file, length, length, TLZ_STATE_LEN);
+
+    memset(lent.state, 0, TLZ_STATE_LEN * sizeof *lent.state);
+    lent.state[PLACE] = 1 + (uint32_t)any(UINT32_MAX);
+    expect(grant(&lent, 0) == TLZ_RUNNING, "a place in an unfinished state, not looked at");
+    expect(grant(&lent, 1 + any(9)) == TLZ_BAD_STATE && *lent.steps == 1, "a place in an unfinished state");
+    expect(lent.state[0] == TLZ_BAD_STATE + 1 && lent.state[PLACE] == 0, "20 has no place");
+    repeats(&lent, TLZ_BAD_STATE);
+    give_back(&lent);
+}
+
 /* Levels of an index, none to seven; now and then one is missing, or has any numbers. */
 static void make_up_levels(uint32_t *state, size_t length)
 {
@@ -165,6 +218,7 @@ static void make_up(uint32_t *state, size_t length, size_t end)
     state[1] = phase == 0 ? 0 : (uint32_t)length;
     state[2] = phase;
     state[11] &= 1;
+    state[PLACE] = any(50) == 0 ? made_up_number(end) : 0;
     if (phase >= 3 && phase <= 5)
         state[3] = any(2) ? 3 : 8;
     if (phase == 7)
@@ -193,6 +247,8 @@ static void made_up(const uint8_t *file, size_t length)
     for (size_t most = 2 * length + 100; answer == TLZ_RUNNING && most > 0; most--)
         answer = grant(&lent, 1 + any(9));
     expect(answer != TLZ_RUNNING, "a made-up state goes on for ever");
+    if (answer != TLZ_OTHER_FILE)
+        repeats(&lent, answer);
     outside_stays(&lent, outside);
     give_back(&lent);
 }
@@ -216,6 +272,8 @@ static void try_file(const uint8_t *bytes, size_t length, uint64_t rounds)
     fresh_check(bytes, length, 1000000);
     short_marks(bytes, length);
     other_lengths(bytes, length);
+    finished(bytes, length);
+    place_too_early(bytes, length);
     for (uint64_t i = 0; i < rounds; i++) {
         memcpy(copy, bytes, length);
         size_t padded = pad(copy, length);

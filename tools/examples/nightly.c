@@ -9,7 +9,7 @@ struct job {
     uint8_t *file, *marks; /* the caller's; null if the file could not be read */
     size_t length;
     uint32_t state[TLZ_STATE_LEN];
-    uint64_t steps;
+    uint64_t steps, where; /* steps made; the offset of the record at fault, or 0 */
     int32_t answer;
 };
 
@@ -39,14 +39,15 @@ static void begin(struct job *job, const char *name)
         fclose(in);
 }
 
-/* A turn of up to 1000 steps. A finished check repeats its verdict, in 0 steps. */
+/* A turn of up to 1000 steps. A finished check repeats its verdict and its place, in 0 steps. */
 static void turn(struct job *job)
 {
     uint64_t made = 0;
 
     if (job->file == NULL)
         return;
-    job->answer = tlz_check_grant(job->file, job->length, job->marks, job->length, job->state, TLZ_STATE_LEN, 1000, &made);
+    job->answer = tlz_check_grant(job->file, job->length, job->marks, job->length, job->state, TLZ_STATE_LEN, 1000, &made,
+                                  &job->where);
     job->steps += made;
 }
 
@@ -59,7 +60,10 @@ static int report(const struct job *job)
         word = "accepted";
     else if (job->answer == TLZ_RUNNING)
         word = job->file == NULL ? "unchecked" : "unfinished";
-    printf("%s %" PRId32 " %" PRIu64 " %s\n", word, job->answer, job->steps, job->name);
+    printf("%s %" PRId32 " %" PRIu64 " %s", word, job->answer, job->steps, job->name);
+    if (job->where != 0)
+        printf(", record at %" PRIu64, job->where);
+    printf("\n");
     return job->answer != TLZ_ACCEPTED;
 }
 
