@@ -1,4 +1,4 @@
-# Tlepozaluh. `make run`: the tools on a good file and on rings, then the worked examples. `make test`: the gate.
+# Tlepozaluh. `make run`: the tools on a good file, on rings and on a record at fault, then the worked examples. `make test`: the gate.
 # `make lib`: the static libraries for C. `make tools`: the programs. `make bench`: the speed of check and reader against the
 # same in plain C. `make install`: header, libraries, programs and manual pages below PREFIX, with DESTDIR before it.
 # `make neighbours`: each must-fail edit is refused, and its true neighbour is not.
@@ -26,6 +26,7 @@ HEADERS = include/tlepozaluh.h $(wildcard tools/*.h)
 run: tools
 	build/cdfcheck samples/01_base_A.cdf samples/02_h_le.cdf
 	! build/cdfcheck samples/rings/ring_entry_back_to_first.cdf samples/rings/ring_uir.cdf
+	build/cdfread samples/rings/ring_entry_back_to_first.cdf --at 0x308
 	build/cdfread samples/02_h_le.cdf
 	build/cdfread samples/02_h_le.cdf z 0
 	$(MAKE) examples

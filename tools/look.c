@@ -14,12 +14,12 @@ enum { MOST_BYTES = 256, A_LINE = 16, MOST_ENTRIES = 64, MOST_NOTES = 8, NOTE_RO
 /* What is looked at. */
 struct look {
     const struct source *source;
-    uint64_t eof;            /* where the file ends by what it says of itself, or its length if it does not open */
+    uint64_t eof; /* where the file ends by what it says of itself, or its length if it does not open */
     uint64_t offset;
-    const uint8_t *bytes;    /* the first of them, */
-    uint64_t have;           /* and how many are there: not behind the file's length, nor the record's size if it can be one */
-    const struct kind *kind; /* NULL if there is no such type, or the size cannot be one */
+    const uint8_t *bytes; /* from the offset on .. */
+    uint64_t have;        /* .. and how many: not behind the file's length, nor behind the record's size if it can be one */
     int32_t size, type;
+    const struct kind *kind; /* NULL if there is no such type, or the size cannot be one */
     char notes[MOST_NOTES][NOTE_ROOM]; /* what is wrong */
     int noted;
     bool any;   /* a field was shown .. */

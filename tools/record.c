@@ -1,41 +1,41 @@
 #include "record.h"
 
 static const struct field cdr[] = {
-    { 8, 4, "GDRoffset", AS_HEX },     { 12, 4, "Version", AS_NUMBER },     { 16, 4, "Release", AS_NUMBER },
-    { 20, 4, "Encoding", AS_ENCODING }, { 24, 4, "Flags", AS_HEX },         { 28, 4, "rfuA", AS_NUMBER },
-    { 32, 4, "rfuB", AS_NUMBER },      { 36, 4, "Increment", AS_NUMBER },   { 40, 4, "rfuD", AS_NUMBER },
-    { 44, 4, "rfuE", AS_NUMBER },      { 48, 256, "Copyright", AS_STRING },
+    { 8, 4, "GDRoffset", AS_HEX },      { 12, 4, "Version", AS_NUMBER },     { 16, 4, "Release", AS_NUMBER },
+    { 20, 4, "Encoding", AS_ENCODING }, { 24, 4, "Flags", AS_HEX },          { 28, 4, "rfuA", AS_NUMBER },
+    { 32, 4, "rfuB", AS_NUMBER },       { 36, 4, "Increment", AS_NUMBER },   { 40, 4, "rfuD", AS_NUMBER },
+    { 44, 4, "rfuE", AS_NUMBER },       { 48, 256, "Copyright", AS_STRING },
 };
 
 static const struct field gdr[] = {
-    { 8, 4, "rVDRhead", AS_HEX },    { 12, 4, "zVDRhead", AS_HEX },   { 16, 4, "ADRhead", AS_HEX },
-    { 20, 4, "eof", AS_HEX },        { 24, 4, "NrVars", AS_NUMBER },  { 28, 4, "NumAttr", AS_NUMBER },
+    { 8, 4, "rVDRhead", AS_HEX },    { 12, 4, "zVDRhead", AS_HEX },    { 16, 4, "ADRhead", AS_HEX },
+    { 20, 4, "eof", AS_HEX },        { 24, 4, "NrVars", AS_NUMBER },   { 28, 4, "NumAttr", AS_NUMBER },
     { 32, 4, "rMaxRec", AS_NUMBER }, { 36, 4, "rNumDims", AS_NUMBER }, { 40, 4, "NzVars", AS_NUMBER },
-    { 44, 4, "UIRhead", AS_HEX },    { 48, 4, "rfuC", AS_NUMBER },    { 52, 4, "rfuD", AS_NUMBER },
+    { 44, 4, "UIRhead", AS_HEX },    { 48, 4, "rfuC", AS_NUMBER },     { 52, 4, "rfuD", AS_NUMBER },
     { 56, 4, "rfuE", AS_NUMBER },
 };
 
 static const struct field adr[] = {
-    { 8, 4, "ADRnext", AS_HEX },         { 12, 4, "AgrEDRhead", AS_HEX },    { 16, 4, "Scope", AS_NUMBER },
-    { 20, 4, "Num", AS_NUMBER },         { 24, 4, "NgrEntries", AS_NUMBER }, { 28, 4, "MAXgrEntry", AS_NUMBER },
-    { 32, 4, "rfuA", AS_NUMBER },        { 36, 4, "AzEDRhead", AS_HEX },     { 40, 4, "NzEntries", AS_NUMBER },
-    { 44, 4, "MAXzEntry", AS_NUMBER },   { 48, 4, "rfuE", AS_NUMBER },       { 52, 64, "Name", AS_STRING },
+    { 8, 4, "ADRnext", AS_HEX },       { 12, 4, "AgrEDRhead", AS_HEX },    { 16, 4, "Scope", AS_NUMBER },
+    { 20, 4, "Num", AS_NUMBER },       { 24, 4, "NgrEntries", AS_NUMBER }, { 28, 4, "MAXgrEntry", AS_NUMBER },
+    { 32, 4, "rfuA", AS_NUMBER },      { 36, 4, "AzEDRhead", AS_HEX },     { 40, 4, "NzEntries", AS_NUMBER },
+    { 44, 4, "MAXzEntry", AS_NUMBER }, { 48, 4, "rfuE", AS_NUMBER },       { 52, 64, "Name", AS_STRING },
 };
 
 static const struct field aedr[] = {
-    { 8, 4, "AEDRnext", AS_HEX },      { 12, 4, "Num", AS_NUMBER },      { 16, 4, "DataType", AS_TYPE },
-    { 20, 4, "EntryNum", AS_NUMBER },  { 24, 4, "NumElems", AS_NUMBER }, { 28, 4, "rfuA", AS_NUMBER },
-    { 32, 4, "rfuB", AS_NUMBER },      { 36, 4, "rfuC", AS_NUMBER },     { 40, 4, "rfuD", AS_NUMBER },
+    { 8, 4, "AEDRnext", AS_HEX },     { 12, 4, "Num", AS_NUMBER },      { 16, 4, "DataType", AS_TYPE },
+    { 20, 4, "EntryNum", AS_NUMBER }, { 24, 4, "NumElems", AS_NUMBER }, { 28, 4, "rfuA", AS_NUMBER },
+    { 32, 4, "rfuB", AS_NUMBER },     { 36, 4, "rfuC", AS_NUMBER },     { 40, 4, "rfuD", AS_NUMBER },
     { 44, 4, "rfuE", AS_NUMBER },
 };
 
 /* The last row is a zVDR's alone. */
 static const struct field vdr[] = {
-    { 8, 4, "VDRnext", AS_HEX },           { 12, 4, "DataType", AS_TYPE },         { 16, 4, "MaxRec", AS_NUMBER },
-    { 20, 4, "VXRhead", AS_HEX },          { 24, 4, "VXRtail", AS_HEX },           { 28, 4, "Flags", AS_HEX },
-    { 32, 4, "sRecords", AS_NUMBER },      { 36, 4, "rfuB", AS_NUMBER },           { 40, 4, "rfuC", AS_NUMBER },
-    { 44, 4, "rfuF", AS_NUMBER },          { 48, 4, "NumElems", AS_NUMBER },       { 52, 4, "Num", AS_NUMBER },
-    { 56, 4, "CPRorSPRoffset", AS_HEX },   { 60, 4, "BlockingFactor", AS_NUMBER }, { 64, 64, "Name", AS_STRING },
+    { 8, 4, "VDRnext", AS_HEX },         { 12, 4, "DataType", AS_TYPE },         { 16, 4, "MaxRec", AS_NUMBER },
+    { 20, 4, "VXRhead", AS_HEX },        { 24, 4, "VXRtail", AS_HEX },           { 28, 4, "Flags", AS_HEX },
+    { 32, 4, "sRecords", AS_NUMBER },    { 36, 4, "rfuB", AS_NUMBER },           { 40, 4, "rfuC", AS_NUMBER },
+    { 44, 4, "rfuF", AS_NUMBER },        { 48, 4, "NumElems", AS_NUMBER },       { 52, 4, "Num", AS_NUMBER },
+    { 56, 4, "CPRorSPRoffset", AS_HEX }, { 60, 4, "BlockingFactor", AS_NUMBER }, { 64, 64, "Name", AS_STRING },
     { 128, 4, "zNumDims", AS_NUMBER },
 };
 

@@ -190,6 +190,42 @@ static void place_too_early(const uint8_t *file, size_t length)
     give_back(&lent);
 }
 
+/* How far a head stands from its record's start, by phase and kind; the number of a state that is 0 while none is taken. */
+static const struct head {
+    uint32_t phase, kind, taken, from;
+} heads[] = { { 3, 3, 5, 8 },  { 3, 8, 5, 12 }, { 4, 3, 8, 20 }, { 4, 8, 8, 20 },
+              { 6, 0, 5, 16 }, { 7, 5, 9, 12 }, { 7, 9, 9, 36 }, { 8, 0, 8, 44 } };
+
+/* A link to 7, which is no record, anywhere but in what gives the file's end: its holder is found from the state. */
+static void holder(const uint8_t *file, size_t length, const struct head *head, uint32_t taken)
+{
+    struct lent lent = lend(file, length, length, TLZ_STATE_LEN);
+    size_t link = 20 + any(lent.end - 23), from = taken > 0 ? 8 : head->from;
+    int64_t gdr = control(lent.file, 16) < 0 ? 1 : control(lent.file, 16); /* docs/STATE.md: a negative link stands for 1 */
+
+    memset(lent.state, 0, TLZ_STATE_LEN * sizeof *lent.state);
+    lent.state[1] = (uint32_t)length;
+    lent.state[2] = head->phase;
+    lent.state[3] = head->kind;
+    lent.state[4] = (uint32_t)link;
+    lent.state[head->taken] = taken;
+    memcpy(lent.file + link, "\0\0\0\7", 4);
+    if ((int64_t)link + 3 < gdr + 20 || (int64_t)link > gdr + 23) {
+        expect(grant(&lent, 1) == TLZ_BAD_LINK, "a link to 7");
+        expect(*lent.where == (link < from ? 0 : link - from), "the holder of a link to 7");
+    }
+    give_back(&lent);
+}
+
+static void holders(const uint8_t *file, size_t length)
+{
+    if (length < 372 || end_of(file, length) < 372)
+        return;
+    for (size_t k = 0; k < sizeof heads / sizeof *heads; k++)
+        for (uint32_t taken = 0; taken < 3; taken++)
+            holder(file, length, &heads[k], taken);
+}
+
 /* Levels of an index, none to seven; now and then one is missing, or has any numbers. */
 static void make_up_levels(uint32_t *state, size_t length)
 {
@@ -281,6 +317,7 @@ static void try_file(const uint8_t *bytes, size_t length, uint64_t rounds)
         if (any(2) == 0)
             damage(copy, padded);
         made_up(copy, padded);
+        holders(copy, padded);
         damage(copy, padded);
         fresh_check(copy, padded, 20);
     }
