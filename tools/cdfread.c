@@ -177,7 +177,7 @@ int main(int count, char **words)
     if (first >= count)
         options_fail(&program, "no file is named", NULL);
     if (options.look && first + 1 < count)
-        options_fail(&program, "a record at an offset is of no variable", words[first + 1]);
+        options_fail(&program, "--at takes a file and no more words", words[first + 1]);
     check_words(count - first - 1, words + first + 1);
     why = input_read(words[first], &input);
     if (why != NULL) {
