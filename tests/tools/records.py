@@ -19,11 +19,11 @@ KINDS = {
     3: ("rVDR", "rVariable record", RVDR, "PadValue"),
     4: ("ADR", "attribute record", "ADRnext* AgrEDRhead* Scope Num NgrEntries MAXgrEntry rfuA AzEDRhead* NzEntries MAXzEntry rfuE "
         "Name:64", "bytes"),
-    5: ("AgrEDR", "g/rEntry record", AEDR, "Value"),
+    5: ("AgrEDR", "g/r entry record", AEDR, "Value"),
     6: ("VXR", "index record", "VXRnext* Nentries NusedEntries", "bytes"),
     7: ("VVR", "values record", "", "Records"),
     8: ("zVDR", "zVariable record", RVDR + " zNumDims", "PadValue"),
-    9: ("AzEDR", "zEntry record", AEDR, "Value"),
+    9: ("AzEDR", "z entry record", AEDR, "Value"),
     10: ("CCR", "compressed file record", "CPRoffset* uSize rfuA", "data"),
     11: ("CPR", "compression parameters record", "cType rfuA pCount", "bytes"),
     12: ("SPR", "sparseness parameters record", "sArraysType rfuA pCount", "bytes"),

@@ -21,7 +21,7 @@ use Rattle.checker.proofs.Outcomes.{at}
 use Rattle.format.proofs.Tests.{both}
 use Rattle.faults.specs.Fault.{faultAt, anywhere, keptPlace}
 use Rattle.faults.proofs.Kept.{kept-fault}
-use Rattle.checker.specs.Ready.{Told, Kept, Loaded}
+use Rattle.checker.specs.Ready.{Kept, Loaded}
 
 -- ---- what a load makes of any numbers
 loaded-range : (n : ℕ) (g : Stage) → stageRange n g ≡ true → Loaded n g

@@ -1,16 +1,15 @@
 -- The numbers that a step of the walk can refuse with: those before the place of a link is looked at have a fact E if 0, 12 and 20 have it,
--- those of a list's end a fact L if 0, 11, 12 and 20 have it, the others a fact Q if 0, 8, 10, 11, 14, 20 and 23 have it. Assumes nothing.
-use mathlib.Core.Path.{refl}
-use mathlib.Core.Bool.{Bool, true, cond, not, _&&_, _||_}
+-- those of a list's end a fact L if 0, 11, 12 and 20 have it, the others a fact Q if 0, 8, 10, 11, 20, 14 of a record with Flags
+-- bit 2 and 23 of an index record have it. Assumes nothing.
+use mathlib.Core.Path.{_≡_, refl}
+use mathlib.Core.Bool.{Bool, true, false, cond, _&&_, _||_}
 use mathlib.Core.List.{List, [], _∷_}
 use Prim.Native.Nat.{ℕ, zero, suc, _+_, _-_, _*_}
-use lib.ListN.{length}
-use lib.Dec.{ltb, leb, eqb}
+use lib.Dec.{ltb, eqb}
 use lib.IntN.{ℤ, pos, negsuc}
 use Rattle.format.specs.Fields.{endOf, isAt, sameAt, linkAt, bitAt, before}
 use Rattle.records.specs.Rules.{sizeAt, reachOf, judged}
-use Rattle.records.specs.Opening.{tooLong, whollyCompressed, cdrRight, singleFile, gdrAt, gdrRight, magicsRight, opening}
-use Rattle.records.specs.Tiles.{tileRight, typeUncarried, tile}
+use Rattle.records.specs.Opening.{gdrAt}
 use Rattle.records.specs.Attributes.{adrRight, adrRule, aedrRight, aedrRule}
 use Rattle.records.specs.Index.{entriesAt, firstPlace, lastPlace, offsetPlace, rises, closes, rangeNumber, entryOf, indexAt, vxrRight, vxrRule, vvrRule}
 use Rattle.records.specs.Unused.{uirRule}
@@ -19,16 +18,14 @@ use Rattle.variables.specs.declared.vdr.Variable.{Variable}
 use Rattle.variables.specs.declared.vdr.Layout.{Layout}
 use Rattle.variables.specs.Vdr.{carriedOf, vdrFields, headOf, countPlace, countRight, layoutOf, sizeExact, dimensionsRight, recordBytes, vdrFault, dimensioned, variableOf}
 use Rattle.walk.specs.Numbers.{first, unless}
-use Rattle.walk.specs.Walk.{typeNumber, followed, gdrNamed, fieldNumber, tallied, tallyPlace, numNumber, varsTally, varNumber, chainTally, valuesNumber, lowerNumber, attrNumber, entriesTally, entryNumber, unusedNumber, turnBy}
+use Rattle.walk.specs.Walk.{typeNumber, followed, gdrNamed, fieldNumber, tallied, tallyPlace, numNumber, varsTally, varNumber, chainTally, valuesNumber, lowerNumber, attrNumber, entriesTally, entryNumber, unusedNumber, lowerTurn, valuesTurn, entryTurn, turnBy}
 use Rattle.walk.specs.Levels.{isNone, mostOf}
 use Rattle.walk.specs.declared.places.Level.{Level}
+use Rattle.walk.specs.declared.places.Var.{Var}
 use Rattle.walk.specs.declared.places.Walk as W
 use Rattle.walk.specs.declared.places.Walk.the-variants.{Start, Vars, Chain, Entry, Attrs, Entries, Unused}
 use Rattle.walk.specs.declared.places.Turn as T
 use Rattle.walk.specs.declared.places.Turn.the-variants.{Over, End, Take, Down, Up}
-use Rattle.marks.specs.Marks.{unclaimedAt, followedAt, leftFrom, leftOf}
-use Rattle.checker.specs.Ready.{Told}
-use Rattle.checker.specs.Step.{openNumber}
 use Rattle.walk.proofs.Closed.{cond-keeps, link-keeps}
 
 abbrev pub All : (ℕ → Type 0) → List ℕ → Type 0
@@ -41,46 +38,29 @@ first-has Q z [] h = z
 first-has Q z (zero ∷ vs) h = first-has Q z vs (h .1)
 first-has Q z (suc v ∷ vs) h = h .0
 
--- the numbers of a step of the walk
-abbrev pub TurnNumbers : (ℕ → Type 0) → (ℕ → Type 0) → (ℕ → Type 0) → T.Turn → Type 0
+-- the numbers of a step of the walk; those of a link have their fact together with the record that it leads to
+abbrev pub TurnNumbers : (ℕ → Type 0) → (ℕ → Type 0) → (ℕ → ℕ → Type 0) → T.Turn → Type 0
 TurnNumbers E L Q (Over w v) = L v
 TurnNumbers E L Q (End v) = L v
-TurnNumbers E L Q (Take w early t typed late) = E early × Q typed × Q late
-TurnNumbers E L Q (Down w t typed l) = Q typed
+TurnNumbers E L Q (Take w early t typed late) = E early × Q t typed × Q t late
+TurnNumbers E L Q (Down w t typed l) = Q t typed
 TurnNumbers E L Q (Up w) = Unit {0}
 
-pub record TurnHas (E L Q : ℕ → Type 0) (t : T.Turn) : Type 0 where
+pub record TurnHas (E L : ℕ → Type 0) (Q : ℕ → ℕ → Type 0) (t : T.Turn) : Type 0 where
   pub told : TurnNumbers E L Q t
 
-module _ (E L Q : ℕ → Type 0) (early-0 : E 0) (early-12 : E 12) (early-20 : E 20) (ends-0 : L 0) (ends-11 : L 11) (ends-12 : L 12) (ends-20 : L 20)
-    (has-0 : Q 0) (has-8 : Q 8) (has-10 : Q 10) (has-11 : Q 11) (has-14 : Q 14) (has-20 : Q 20) (has-23 : Q 23) where
+module _ (f : List ℕ) (E L : ℕ → Type 0) (Q : ℕ → ℕ → Type 0) (early-0 : E 0) (early-12 : E 12) (early-20 : E 20) (ends-0 : L 0) (ends-11 : L 11)
+    (ends-12 : L 12) (ends-20 : L 20) (has-0 : (t : ℕ) → Q t 0) (has-8 : (t : ℕ) → Q t 8) (has-10 : (t : ℕ) → Q t 10) (has-11 : (t : ℕ) → Q t 11)
+    (has-14 : (t : ℕ) → bitAt f (t + 28) 4 ≡ true → Q t 14) (has-20 : (t : ℕ) → Q t 20) (has-23 : (t : ℕ) → indexAt f t ≡ true → Q t 23) where
   -- what both branches have, a test between them has
   early-cond : (b : Bool) {x y : ℕ} → E x → E y → E (cond b x y)
   early-cond b p q = cond-keeps E b p q
-
-  has-cond : (b : Bool) {x y : ℕ} → Q x → Q y → Q (cond b x y)
-  has-cond b p q = cond-keeps Q b p q
 
   ends-cond : (b : Bool) {x y : ℕ} → L x → L y → L (cond b x y)
   ends-cond b p q = cond-keeps L b p q
 
   ends-first : (vs : List ℕ) → All L vs → L (first vs)
   ends-first vs h = first-has L ends-0 vs h
-
-  has-unless : (v : ℕ) (b : Bool) → Q v → Q (unless v b)
-  has-unless v b h = has-cond b has-0 h
-
-  has-first : (vs : List ℕ) → All Q vs → Q (first vs)
-  has-first vs h = first-has Q has-0 vs h
-
-  record VarHas (v : Variable) : Type 0 where
-    told : Q (v .fault)
-
-  var-fault : (v : ℕ) → Q v → VarHas (vdrFault v)
-  var-fault v h = record { told = h }
-
-  var-cond : (b : Bool) {x y : Variable} → VarHas x → VarHas y → VarHas (cond b x y)
-  var-cond b p q = cond-keeps VarHas b p q
 
   record EntryHas (e : I.Entry) : Type 0 where
     told : E (e .fault)
@@ -91,167 +71,200 @@ module _ (E L Q : ℕ → Type 0) (early-0 : E 0) (early-12 : E 12) (early-20 : 
   end-told : {v : ℕ} → L v → TurnHas E L Q (End v)
   end-told h = record { told = h }
 
-  take-told : {early t typed late : ℕ} {w : W.Walk} → E early → Q typed → Q late → TurnHas E L Q (Take w early t typed late)
+  take-told : {early t typed late : ℕ} {w : W.Walk} → E early → Q t typed → Q t late → TurnHas E L Q (Take w early t typed late)
   take-told a b c = record { told = (a, b, c) }
 
-  module _ (f : List ℕ) where
-    has-type : (o : ℕ) (t : ℤ) → Q (typeNumber f o t)
-    unfolding typeNumber
-    has-type o t = has-cond (ltb (endOf f) (o + 8)) has-20 (has-unless 8 (isAt f (o + 4) t) has-8)
+  -- ---- before a link, and at a list's end
+  ends-field : (p : ℕ) (z : ℤ) → L (fieldNumber f p z)
+  unfolding fieldNumber
+  ends-field p z = ends-cond (ltb (endOf f) (p + 4)) ends-20 (ends-cond (isAt f p z) ends-0 ends-11)
 
-    has-reach : (o n : ℕ) → Q (reachOf f o n)
+  ends-tally : (p n q greatest : ℕ) → L (tallied f p n q greatest)
+  unfolding tallied
+  ends-tally p n q greatest =
+      ends-first (fieldNumber f p (pos n) ∷ fieldNumber f q (before greatest) ∷ []) (ends-field p (pos n), (ends-field q (before greatest), tt))
+
+  ends-vars : (k n greatest : ℕ) → L (varsTally f k n greatest)
+  unfolding varsTally
+  ends-vars k n greatest = ends-cond (eqb k 8) (ends-field (gdrAt f + 40) (pos n)) (ends-tally (gdrAt f + 24) n (gdrAt f + 32) greatest)
+
+  ends-chain : (v last : ℕ) (covered : Bool) → L (chainTally f v last covered)
+  unfolding chainTally
+  ends-chain v last covered =
+      ends-first (fieldNumber f (v + 24) (pos last) ∷ unless 12 (isAt f (v + 16) (negsuc 0) || covered) ∷ [])
+      (ends-field (v + 24) (pos last), (ends-cond (isAt f (v + 16) (negsuc 0) || covered) ends-0 ends-12, tt))
+
+  early-range : (first last offset floor most : ℕ) → E (rangeNumber f first last offset floor most)
+  unfolding rangeNumber
+  early-range first last offset floor most =
+      early-cond (rises f first floor)
+      (early-cond (ltb (endOf f) (last + 4)) early-20 (early-cond (closes f first last most) (early-cond (ltb (endOf f) (offset + 4)) early-20 early-0) early-12))
+      early-12
+
+  early-entry : (x i floor most : ℕ) → EntryHas (entryOf f x i floor most)
+  unfolding entryOf
+  early-entry x i floor most =
+      let first = firstPlace x i in
+      let last = lastPlace x (entriesAt f x) i in
+      let offset = offsetPlace x (entriesAt f x) i in
+      cond-keeps EntryHas (ltb (endOf f) (first + 4)) (record { told = early-20 })
+      (cond-keeps EntryHas (eqb (rangeNumber f first last offset floor most) 0)
+      (record { told = early-0 }) (record { told = early-range first last offset floor most }))
+
+  ends-entries : (k a n greatest : ℕ) → L (entriesTally f k a n greatest)
+  unfolding entriesTally
+  ends-entries k a n greatest = let p = a + tallyPlace k in ends-tally p n (p + 4) greatest
+
+  -- ---- a link to t
+  module _ (t : ℕ) where
+    has-cond : (b : Bool) {x y : ℕ} → Q t x → Q t y → Q t (cond b x y)
+    has-cond b p q = cond-keeps (Q t) b p q
+
+    has-unless : (v : ℕ) (b : Bool) → Q t v → Q t (unless v b)
+    has-unless v b h = has-cond b (has-0 t) h
+
+    has-first : (vs : List ℕ) → All (Q t) vs → Q t (first vs)
+    has-first vs h = first-has (Q t) (has-0 t) vs h
+
+    record VarHas (v : Variable) : Type 0 where
+      told : Q t (v .fault)
+
+    var-fault : (v : ℕ) → Q t v → VarHas (vdrFault v)
+    var-fault v h = record { told = h }
+
+    var-cond : (b : Bool) {x y : Variable} → VarHas x → VarHas y → VarHas (cond b x y)
+    var-cond b p q = cond-keeps VarHas b p q
+
+    has-type : (o : ℕ) (z : ℤ) → Q t (typeNumber f o z)
+    unfolding typeNumber
+    has-type o z = has-cond (ltb (endOf f) (o + 8)) (has-20 t) (has-unless 8 (isAt f (o + 4) z) (has-8 t))
+
+    has-reach : (o n : ℕ) → Q t (reachOf f o n)
     unfolding reachOf
     has-reach o n =
-        has-cond (ltb (endOf f) (o + 4)) has-20 (has-cond (ltb (sizeAt f o) n) has-10 (has-cond (ltb (endOf f) (o + n)) has-20 has-0))
+        has-cond (ltb (endOf f) (o + 4)) (has-20 t) (has-cond (ltb (sizeAt f o) n) (has-10 t) (has-cond (ltb (endOf f) (o + n)) (has-20 t) (has-0 t)))
 
-    has-judged : (o n : ℕ) (right : Bool) → Q (judged f o n right)
+    has-judged : (o n : ℕ) (right : Bool) → Q t (judged f o n right)
     unfolding judged
-    has-judged o n right = has-cond (eqb (reachOf f o n) 0) (has-cond right has-0 has-10) (has-reach o n)
+    has-judged o n right = has-cond (eqb (reachOf f o n) 0) (has-cond right (has-0 t) (has-10 t)) (has-reach o n)
 
-    -- ---- variables
     has-dimensioned : (o : ℕ) (l : Layout) → VarHas (dimensioned f o l)
     unfolding dimensioned
     has-dimensioned o l =
         var-cond (sizeExact f o l)
-        (var-cond (ltb (endOf f) (l .sizes + 4 * l .count)) (var-fault 20 has-20)
-        (var-cond (ltb (endOf f) (l .variances + 4 * l .count)) (var-fault 20 has-20)
+        (var-cond (ltb (endOf f) (l .sizes + 4 * l .count)) (var-fault 20 (has-20 t))
+        (var-cond (ltb (endOf f) (l .variances + 4 * l .count)) (var-fault 20 (has-20 t))
         (var-cond (dimensionsRight f l)
-        (var-cond (ltb 2147483647 (recordBytes f o l)) (var-fault 10 has-10) (record { told = has-0 }))
-        (var-fault 10 has-10))))
-        (var-fault 10 has-10)
+        (var-cond (ltb 2147483647 (recordBytes f o l)) (var-fault 10 (has-10 t)) (record { told = (has-0 t) }))
+        (var-fault 10 (has-10 t)))))
+        (var-fault 10 (has-10 t))
 
     has-variable : (k o : ℕ) → VarHas (variableOf f k o)
     unfolding variableOf
     has-variable k o =
         var-cond (eqb (reachOf f o (headOf k)) 0)
         (var-cond (vdrFields f o)
-        (var-cond (ltb (endOf f) (countPlace f k o + 4)) (var-fault 20 has-20)
-        (var-cond (countRight f (countPlace f k o)) (has-dimensioned o (layoutOf f k o)) (var-fault 10 has-10)))
-        (var-fault 10 has-10))
+        (var-cond (ltb (endOf f) (countPlace f k o + 4)) (var-fault 20 (has-20 t))
+        (var-cond (countRight f (countPlace f k o)) (has-dimensioned o (layoutOf f k o)) (var-fault 10 (has-10 t))))
+        (var-fault 10 (has-10 t)))
         (var-fault (reachOf f o (headOf k)) (has-reach o (headOf k)))
 
-    has-carried : (o : ℕ) → Q (carriedOf f o)
+    has-carried : Q t (carriedOf f t)
     unfolding carriedOf
-    has-carried o =
-        has-cond (ltb (endOf f) (o + 32)) has-0 (has-cond (ltb (sizeAt f o) 32) has-0 (has-cond (bitAt f (o + 28) 4) has-14 has-0))
+    has-carried = has-cond (ltb (endOf f) (t + 32)) (has-0 t) (has-cond (ltb (sizeAt f t) 32) (has-0 t) (flagged (bitAt f (t + 28) 4) refl))
+      where
+        flagged : (b : Bool) → bitAt f (t + 28) 4 ≡ b → Q t (cond b 14 0)
+        flagged true e = has-14 t e
+        flagged false e = has-0 t
 
-    has-var : (k n o : ℕ) → Q (varNumber f k n o)
+    has-var : (k n : ℕ) → Q t (varNumber f k n t)
     unfolding varNumber
-    has-var k n o =
-        has-first (carriedOf f o ∷ variableOf f k o .fault ∷ unless 11 (isAt f (o + 52) (pos n)) ∷ [])
-        (has-carried o, (has-variable k o .told, (has-unless 11 (isAt f (o + 52) (pos n)) has-11, tt)))
+    has-var k n =
+        has-first (carriedOf f t ∷ variableOf f k t .fault ∷ unless 11 (isAt f (t + 52) (pos n)) ∷ [])
+        (has-carried, (has-variable k t .told, (has-unless 11 (isAt f (t + 52) (pos n)) (has-11 t), tt)))
 
-    ends-field : (p : ℕ) (z : ℤ) → L (fieldNumber f p z)
-    unfolding fieldNumber
-    ends-field p z = ends-cond (ltb (endOf f) (p + 4)) ends-20 (ends-cond (isAt f p z) ends-0 ends-11)
-
-    ends-tally : (p n q greatest : ℕ) → L (tallied f p n q greatest)
-    unfolding tallied
-    ends-tally p n q greatest =
-        ends-first (fieldNumber f p (pos n) ∷ fieldNumber f q (before greatest) ∷ []) (ends-field p (pos n), (ends-field q (before greatest), tt))
-
-    ends-vars : (k n greatest : ℕ) → L (varsTally f k n greatest)
-    unfolding varsTally
-    ends-vars k n greatest = ends-cond (eqb k 8) (ends-field (gdrAt f + 40) (pos n)) (ends-tally (gdrAt f + 24) n (gdrAt f + 32) greatest)
-
-    ends-chain : (v last : ℕ) (covered : Bool) → L (chainTally f v last covered)
-    unfolding chainTally
-    ends-chain v last covered =
-        ends-first (fieldNumber f (v + 24) (pos last) ∷ unless 12 (isAt f (v + 16) (negsuc 0) || covered) ∷ [])
-        (ends-field (v + 24) (pos last), (ends-cond (isAt f (v + 16) (negsuc 0) || covered) ends-0 ends-12, tt))
-
-    has-vxr : (o : ℕ) → Q (vxrRule f o)
+    has-vxr : (o : ℕ) → Q t (vxrRule f o)
     unfolding vxrRule
     has-vxr o = has-judged o 20 (vxrRight f o)
 
-    has-vvr : (o n bytes : ℕ) → Q (vvrRule f o n bytes)
+    has-vvr : (o n bytes : ℕ) → Q t (vvrRule f o n bytes)
     unfolding vvrRule
     has-vvr o n bytes = has-judged o 8 (eqb (sizeAt f o) (8 + n * bytes))
 
-    has-values : (v : Variable) (e : I.Entry) → VarHas v → Q (valuesNumber f v e)
+    has-values : (v : Variable) (e : I.Entry) → VarHas v → Q t (valuesNumber f v e)
     unfolding valuesNumber
     has-values v e h =
         has-first (reachOf f (e .link) 8 ∷ v .fault ∷ vvrRule f (e .link) (e .last - e .first + 1) (v .bytes) ∷ [])
         (has-reach (e .link) 8, (h .told, (has-vvr (e .link) (e .last - e .first + 1) (v .bytes), tt)))
 
-    early-range : (first last offset floor most : ℕ) → E (rangeNumber f first last offset floor most)
-    unfolding rangeNumber
-    early-range first last offset floor most =
-        early-cond (rises f first floor)
-        (early-cond (ltb (endOf f) (last + 4)) early-20 (early-cond (closes f first last most) (early-cond (ltb (endOf f) (offset + 4)) early-20 early-0) early-12))
-        early-12
-
-    early-entry : (x i floor most : ℕ) → EntryHas (entryOf f x i floor most)
-    unfolding entryOf
-    early-entry x i floor most =
-        let first = firstPlace x i in
-        let last = lastPlace x (entriesAt f x) i in
-        let offset = offsetPlace x (entriesAt f x) i in
-        cond-keeps EntryHas (ltb (endOf f) (first + 4)) (record { told = early-20 })
-        (cond-keeps EntryHas (eqb (rangeNumber f first last offset floor most) 0)
-        (record { told = early-0 }) (record { told = early-range first last offset floor most }))
-
-    has-lower : (o : ℕ) → Q (lowerNumber f o)
+    has-lower : (o : ℕ) → Q t (lowerNumber f o)
     unfolding lowerNumber
     has-lower o =
-        has-first (vxrRule f o ∷ unless 11 (isAt f (o + 8) (pos 0)) ∷ []) (has-vxr o, (has-unless 11 (isAt f (o + 8) (pos 0)) has-11, tt))
+        has-first (vxrRule f o ∷ unless 11 (isAt f (o + 8) (pos 0)) ∷ []) (has-vxr o, (has-unless 11 (isAt f (o + 8) (pos 0)) (has-11 t), tt))
 
-    -- ---- attributes and unused records
-    has-attr : (n o : ℕ) → Q (attrNumber f n o)
+    has-attr : (n o : ℕ) → Q t (attrNumber f n o)
     unfolding attrNumber adrRule
     has-attr n o =
         has-first (adrRule f o ∷ unless 11 (isAt f (o + 20) (pos n)) ∷ [])
-        (has-judged o 116 (adrRight f o), (has-unless 11 (isAt f (o + 20) (pos n)) has-11, tt))
+        (has-judged o 116 (adrRight f o), (has-unless 11 (isAt f (o + 20) (pos n)) (has-11 t), tt))
 
-    has-aedr : (a o : ℕ) → Q (entryNumber f a o)
+    has-aedr : (a o : ℕ) → Q t (entryNumber f a o)
     unfolding entryNumber aedrRule numNumber
     has-aedr a o =
         has-first (aedrRule f o ∷ numNumber f a o ∷ []) (
           has-judged o 48 (aedrRight f o),
-          (has-cond (ltb (endOf f) (a + 24)) has-20 (has-unless 11 (sameAt f (o + 12) (a + 20)) has-11), tt),
+          (has-cond (ltb (endOf f) (a + 24)) (has-20 t) (has-unless 11 (sameAt f (o + 12) (a + 20)) (has-11 t)), tt),
         )
 
-    ends-entries : (k a n greatest : ℕ) → L (entriesTally f k a n greatest)
-    unfolding entriesTally
-    ends-entries k a n greatest = let p = a + tallyPlace k in ends-tally p n (p + 4) greatest
-
-    has-unused : (b o : ℕ) → Q (unusedNumber f b o)
+    has-unused : (b o : ℕ) → Q t (unusedNumber f b o)
     unfolding unusedNumber uirRule
     has-unused b o =
         has-first (uirRule f o ∷ unless 11 (isAt f (o + 12) (pos b)) ∷ [])
-        (has-judged o 16 true, (has-unless 11 (isAt f (o + 12) (pos b)) has-11, tt))
+        (has-judged o 16 true, (has-unless 11 (isAt f (o + 12) (pos b)) (has-11 t), tt))
 
-    -- ---- a step of the walk
-    pub has-turn : (near : Level) (room : Bool) (w : W.Walk) → TurnHas E L Q (turnBy f near room w)
-    unfolding turnBy followed
-    has-turn near room Start =
-        cond-keeps (TurnHas E L Q) (gdrNamed f) (take-told early-0 (has-type (gdrAt f) (pos 2)) has-0) (end-told ends-20)
-    has-turn near room (Vars k p n greatest) =
-        link-keeps f (TurnHas E L Q) p (end-told ends-20)
-        (cond-keeps (TurnHas E L Q) (gdrNamed f) (over-told (ends-vars k n greatest)) (end-told ends-20))
-        (take-told early-0 (has-type (linkAt f p) (pos k)) (has-var k n (linkAt f p)))
-    has-turn near room (Chain u p x floor covered) =
-        link-keeps f (TurnHas E L Q) p (end-told ends-20)
-        (cond-keeps (TurnHas E L Q) (isNone near) (over-told (ends-chain (u .vdr) x covered))
-        (cond-keeps (TurnHas E L Q) (ltb (endOf f) (near .vxr + 20)) (end-told ends-20) (record { told = tt })))
-        (cond-keeps (TurnHas E L Q) (isNone near)
-        (take-told early-0 (has-type (linkAt f p) (pos 6)) (has-vxr (linkAt f p))) (end-told ends-11))
-    has-turn near room (Entry u x i floor covered) =
-        let e = entryOf f x i floor (mostOf near) in
-        let fault = early-entry x i floor (mostOf near) .told in
-        let deep = has-unless 23 room has-23 in
-        cond-keeps (TurnHas E L Q) (indexAt f (e .link))
-        (cond-keeps (TurnHas E L Q) (eqb (e .fault) 0 && eqb (lowerNumber f (e .link)) 0)
-        (record { told = deep }) (take-told fault deep (has-lower (e .link))))
-        (take-told fault (has-type (e .link) (pos 7))
-        (has-values (variableOf f (u .kind) (u .vdr)) e (has-variable (u .kind) (u .vdr))))
-    has-turn near room (Attrs p n) =
-        link-keeps f (TurnHas E L Q) p (end-told ends-20)
-        (cond-keeps (TurnHas E L Q) (gdrNamed f) (over-told (ends-field (gdrAt f + 28) (pos n))) (end-told ends-20))
-        (take-told early-0 (has-type (linkAt f p) (pos 4)) (has-attr n (linkAt f p)))
-    has-turn near room (Entries k a n p e greatest) =
-        link-keeps f (TurnHas E L Q) p (end-told ends-20) (over-told (ends-entries k a e greatest))
-        (take-told early-0 (has-type (linkAt f p) (pos k)) (has-aedr a (linkAt f p)))
-    has-turn near room (Unused p b) =
-        link-keeps f (TurnHas E L Q) p (end-told ends-20) (end-told ends-0)
-        (take-told early-0 (has-type (linkAt f p) (negsuc 0)) (has-unused b (linkAt f p)))
+  -- ---- a step of the walk
+  -- a link of an index, to lower records or to values
+  has-entry : (near : Level) (room : Bool) (u : Var) (x i : ℕ) (c : Bool) (e : I.Entry) → E (e .fault) → TurnHas E L Q (entryTurn f u x i c room e)
+  has-entry near room u x i c e fault = go (indexAt f (e .link)) refl
+    where
+      o : ℕ
+      o = e .link
+
+      go : (b : Bool) → indexAt f (e .link) ≡ b → TurnHas E L Q (cond b (lowerTurn f u x i c room e) (valuesTurn f u x i c e))
+      go true h =
+          let deep = has-unless o 23 room (has-23 o h) in
+          cond-keeps (TurnHas E L Q) (eqb (e .fault) 0 && eqb (lowerNumber f o) 0) (record { told = deep }) (take-told fault deep (has-lower o o))
+      go false h =
+          take-told fault (has-type o o (pos 7)) (has-values o (variableOf f (u .kind) (u .vdr)) e (has-variable o (u .kind) (u .vdr)))
+
+  pub has-turn : (near : Level) (room : Bool) (w : W.Walk) → TurnHas E L Q (turnBy f near room w)
+  unfolding turnBy followed
+  has-turn near room Start =
+      let o = gdrAt f in
+      cond-keeps (TurnHas E L Q) (gdrNamed f) (take-told early-0 (has-type o o (pos 2)) (has-0 o)) (end-told ends-20)
+  has-turn near room (Vars k p n greatest) =
+      let o = linkAt f p in
+      link-keeps f (TurnHas E L Q) p (end-told ends-20)
+      (cond-keeps (TurnHas E L Q) (gdrNamed f) (over-told (ends-vars k n greatest)) (end-told ends-20))
+      (take-told early-0 (has-type o o (pos k)) (has-var o k n))
+  has-turn near room (Chain u p x floor covered) =
+      let o = linkAt f p in
+      link-keeps f (TurnHas E L Q) p (end-told ends-20)
+      (cond-keeps (TurnHas E L Q) (isNone near) (over-told (ends-chain (u .vdr) x covered))
+      (cond-keeps (TurnHas E L Q) (ltb (endOf f) (near .vxr + 20)) (end-told ends-20) (record { told = tt })))
+      (cond-keeps (TurnHas E L Q) (isNone near) (take-told early-0 (has-type o o (pos 6)) (has-vxr o o)) (end-told ends-11))
+  has-turn near room (Entry u x i floor covered) =
+      has-entry near room u x i covered (entryOf f x i floor (mostOf near)) (early-entry x i floor (mostOf near) .told)
+  has-turn near room (Attrs p n) =
+      let o = linkAt f p in
+      link-keeps f (TurnHas E L Q) p (end-told ends-20)
+      (cond-keeps (TurnHas E L Q) (gdrNamed f) (over-told (ends-field (gdrAt f + 28) (pos n))) (end-told ends-20))
+      (take-told early-0 (has-type o o (pos 4)) (has-attr o n o))
+  has-turn near room (Entries k a n p e greatest) =
+      let o = linkAt f p in
+      link-keeps f (TurnHas E L Q) p (end-told ends-20) (over-told (ends-entries k a e greatest))
+      (take-told early-0 (has-type o o (pos k)) (has-aedr o a o))
+  has-turn near room (Unused p b) =
+      let o = linkAt f p in
+      link-keeps f (TurnHas E L Q) p (end-told ends-20) (end-told ends-0)
+      (take-told early-0 (has-type o o (negsuc 0)) (has-unused o b o))

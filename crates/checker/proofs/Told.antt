@@ -1,30 +1,19 @@
 -- The numbers that a step can refuse with are verdicts. Assumes nothing.
 use mathlib.Core.Path.{_≡_, refl}
-use mathlib.Core.Bool.{Bool, true, cond, not, _&&_, _||_}
+use mathlib.Core.Bool.{Bool, true, cond, not, _&&_}
 use mathlib.Core.List.{List, [], _∷_}
-use Prim.Native.Nat.{ℕ, zero, suc, _+_, _-_, _*_}
+use Prim.Native.Nat.{ℕ, zero, suc, _+_, _-_}
 use lib.ListN.{length}
 use lib.Dec.{ltb, leb, eqb}
-use lib.IntN.{ℤ, pos, negsuc}
-use Rattle.format.specs.Fields.{endOf, isAt, sameAt, linkAt, bitAt, before}
-use Rattle.records.specs.Rules.{sizeAt, reachOf, judged}
+use Rattle.format.specs.Fields.{endOf}
+use Rattle.records.specs.Rules.{sizeAt}
 use Rattle.records.specs.Opening.{tooLong, whollyCompressed, cdrRight, singleFile, gdrAt, gdrRight, magicsRight, opening}
 use Rattle.records.specs.Tiles.{tileRight, typeUncarried, tile}
-use Rattle.records.specs.Attributes.{adrRight, adrRule, aedrRight, aedrRule}
-use Rattle.records.specs.Index.{entriesAt, firstPlace, lastPlace, offsetPlace, rises, closes, rangeNumber, entryOf, indexAt, vxrRight, vxrRule, vvrRule}
-use Rattle.records.specs.Unused.{uirRule}
-use Rattle.records.specs.declared.index.Entry as E
-use Rattle.variables.specs.declared.vdr.Variable.{Variable}
-use Rattle.variables.specs.declared.vdr.Layout.{Layout}
-use Rattle.variables.specs.Vdr.{carriedOf, vdrFields, headOf, countPlace, countRight, layoutOf, sizeExact, dimensionsRight, recordBytes, vdrFault, dimensioned, variableOf}
 use Rattle.walk.specs.Numbers.{first, unless}
-use Rattle.walk.specs.Walk.{typeNumber, followed, gdrNamed, fieldNumber, tallied, tallyPlace, numNumber, varsTally, varNumber, chainTally, valuesNumber, lowerNumber, attrNumber, entriesTally, entryNumber, unusedNumber, turnBy}
-use Rattle.walk.specs.Levels.{isNone, mostOf}
+use Rattle.walk.specs.Walk.{turnBy}
 use Rattle.walk.specs.declared.places.Level.{Level}
 use Rattle.walk.specs.declared.places.Walk as W
-use Rattle.walk.specs.declared.places.Walk.the-variants.{Start, Vars, Chain, Entry, Attrs, Entries, Unused}
 use Rattle.walk.specs.declared.places.Turn as T
-use Rattle.walk.specs.declared.places.Turn.the-variants.{Over, End, Take, Down, Up}
 use Rattle.marks.specs.Marks.{unclaimedAt, followedAt, found, leftFrom, leftOf}
 use Rattle.marks.specs.declared.Found.{Found}
 use Rattle.checker.specs.Saved.{verdictRange}
@@ -50,7 +39,7 @@ pub told-first : (vs : List ℕ) → All Told vs → Told (first vs)
 told-first vs h = first-has Told told-0 vs h
 
 abbrev pub TurnTold : T.Turn → Type 0
-TurnTold t = TurnHas Told Told Told t
+TurnTold t = TurnHas Told Told (λ o. Told) t
 
 module _ (f : List ℕ) where
   told-opening : Told (opening f)
@@ -94,5 +83,6 @@ module _ (f : List ℕ) where
 
   pub told-turn : (near : Level) (room : Bool) (w : W.Walk) → TurnTold (turnBy f near room w)
   told-turn near room w =
-      has-turn Told Told Told told-0 (told 12 refl) told-20 told-0 (told 11 refl) (told 12 refl) told-20 told-0 (told 8 refl) (told 10 refl) (told 11 refl)
-      (told 14 refl) told-20 (told 23 refl) f near room w
+      let all : (v : ℕ) → verdictRange v ≡ true → (o : ℕ) → Told v = λ v e o. told v e in
+      has-turn f Told Told (λ o. Told) told-0 (told 12 refl) told-20 told-0 (told 11 refl) (told 12 refl) told-20 (all 0 refl) (all 8 refl) (all 10 refl)
+      (all 11 refl) (λ o e. told 14 refl) (all 20 refl) (λ o e. told 23 refl) near room w

@@ -1,19 +1,18 @@
 -- WHERE A REFUSAL LIES: that of a link is at a record of the file, that of the sweep where the tiles stop, 13 at the first record that no
 -- link reaches. Assumes nothing.
 use mathlib.Core.Path.{_≡_, refl, sym, ap, _∙_, subst}
-use mathlib.Core.Logic.{_↔_, _≢_, _⊎_, inl, inr}
+use mathlib.Core.Logic.{_≢_, _⊎_, inl, inr}
 use mathlib.Core.Bool.{Bool, true, false, cond, not, _&&_, _||_, true≢false, and-false}
 use mathlib.Core.List.{List, [], _∷_}
 use Prim.Native.Nat.{ℕ, zero, suc, _+_, _/_, _≤_, _<_}
-use native.Mathlib.Nat.{le-refl}
 use native.Mathlib.Omega.{arith}
 use lib.Dec.{ltb, leb, eqb}
+use lib.IntN.{pos}
 use lib.ListN.{length, set}
-use lib.IntN.{negsuc}
 use borrow.Author.Tests.{eqb-true, eqb-false, eq-eqb, ne-eqb, leb-true, leb-false, le-leb, lt-leb, not-true}
 use Rattle.format.specs.Fields.{endOf}
 use Rattle.format.proofs.Tests.{both}
-use Rattle.records.specs.Rules.{sizeAt, typedAt}
+use Rattle.records.specs.Rules.{typedAt}
 use Rattle.records.specs.Opening.{bodyOf}
 use Rattle.records.specs.Tiles.{tileRight, tileFields, typeUncarried, tile}
 use Rattle.records.proofs.Bodies.{body-le}
@@ -27,20 +26,20 @@ use Rattle.faults.specs.Fault.{ending, claiming, leaving, faultAt}
 use Rattle.checker.specs.Step.{conf, doneBy, linkNumber}
 use Rattle.checker.specs.declared.state.Stage.the-variants.{Sweep, Done}
 use Rattle.checker.proofs.Passed.{started}
-use Rattle.demands.specs.Acceptance.{_∈_, Opening, TiledTo, Tiled, Lists, ListsRight, reached}
+use Rattle.demands.specs.Acceptance.{_∈_, reached}
 use Rattle.demands.specs.Demands.{endStage}
-use Rattle.demands.specs.Places.{Opens, below, NoRecord, NotCarried, TilesStop, RecordAt, FirstUnreached, OfLink, Places, WhereItLies}
+use Rattle.demands.specs.Places.{Opens, below, NoRecord, NotCarried, TilesStop, RecordAt, CompressedAt, FirstUnreached, OfLink, Places, WhereItLies}
 use Rattle.demands.proofs.Laws.{first-five}
 use Rattle.demands.proofs.Plain.{plain}
-use Rattle.demands.proofs.Places.{Place, top, Move, passes, stops, takes, moveOf, walkAt, stopped, moved, step-moves}
-use Rattle.demands.proofs.Moves.{Early, AtEnd, MoveHas, move-numbers, not-7, end-other, link-other}
+use Rattle.demands.proofs.Places.{Place, top, Move, passes, stops, takes, moveOf, walkAt, moved, step-moves}
+use Rattle.demands.proofs.Moves.{Early, AtEnd, OfTarget, MoveHas, move-numbers, not-7, early-target, link-target}
 use Rattle.demands.proofs.Standing.{PlaceStands, MoveStands, move-stands, top-stands}
 use Rattle.demands.proofs.Claims.{mem, mark, at, inUse, Comes, comes-done, comes-settled, Last, TilesTo, Tiles, firstIn, look, Marked, claimed, left-looks}
 use Rattle.demands.proofs.Looked.{unclaimed, in-use-claimed, claimed-closed, First, first-left, left-first}
-use Rattle.demands.proofs.Sweep.{Found, Stopped, Valid, sweep-cases, sweep-stops, found-marked, found-inside}
+use Rattle.demands.proofs.Sweep.{Found, Stopped, sweep-cases, sweep-stops, found-marked, found-inside}
 use Rattle.demands.proofs.Splits.{mem-in, in-mem}
 use Rattle.demands.proofs.Nested.{claimsOf}
-use Rattle.demands.proofs.Opened.{OpenNumber, run-opens, opens-run, body-opens, opening-makes}
+use Rattle.demands.proofs.Opened.{OpenNumber, run-opens, opens-run, body-opens}
 use Rattle.demands.proofs.NestedDemand.{NestedEnds, more-than-8, room-below, nested-reads, nested-makes}
 use Rattle.demands.proofs.Demand2.{tiles-tiled, tiled-tiles, listsOf, right-reads, right-makes, use-is, use-reads, below-is}
 
@@ -109,6 +108,16 @@ ends-at h v (inr (inl e)) l = absurd (walked-only v l .0 e)
 ends-at h v (inr (inr (inl e))) l = rw e
 ends-at h v (inr (inr (inr e))) l = absurd (walked-only v l .2 e)
 
+-- neither 14 nor 23 comes there, or names a holder
+end-target : (f : List ℕ) (t v : ℕ) → AtEnd v → OfTarget f t v
+end-target f t v (inl e) = record { other = rw e; flagged = λ z. absurd (omega arith); deep = λ z. absurd (omega arith) }
+end-target f t v (inr e) = early-target f t v e
+
+held-target : (f : List ℕ) (t v : ℕ) → Holds v → OfTarget f t v
+held-target f t v (inl e) = record { other = rw e; flagged = λ z. absurd (omega arith); deep = λ z. absurd (omega arith) }
+held-target f t v (inr (inl e)) = record { other = rw e; flagged = λ z. absurd (omega arith); deep = λ z. absurd (omega arith) }
+held-target f t v (inr (inr e)) = record { other = rw e; flagged = λ z. absurd (omega arith); deep = λ z. absurd (omega arith) }
+
 -- a link refused with a number that names the target leads to a start
 target-starts : (f m : List ℕ) (b t y l v : ℕ) → Early b → linkNumber f m b t y l ≡ v → Targets v → startAt f m t ≡ true
 unfolding linkNumber
@@ -136,7 +145,7 @@ module _ (f starts : List ℕ) (tiles : Tiles f 8 starts) (inside : (o : ℕ) �
 
     -- what is shown of a refusal of the walk
     abbrev AtStart : Type 0
-    AtStart = (v ≢ 7) × S o
+    AtStart = OfTarget f o v × S o
 
     low : (x : ℕ) → S x → 8 ≤ x
     low x s = inside x s .0
@@ -180,7 +189,7 @@ module _ (f starts : List ℕ) (tiles : Tiles f 8 starts) (inside : (o : ℕ) �
 
           -- refused at a list's end
           ends : (u : ℕ) → AtEnd u → u ≡ v → faultAt (ending h′) u ≡ o → AtStart
-          ends u a e q = (λ z. not-7 u (end-other u a) (e ∙ z), subst S (sym (ends-at h′ u a (rw e walked)) ∙ q) held)
+          ends u a e q = (subst (OfTarget f o) e (end-target f o u a), subst S (sym (ends-at h′ u a (rw e walked)) ∙ q) held)
 
           stop : (u : ℕ) → AtEnd u → (b : Bool)
               → Comes f v o k (conf (cond b (doneBy (leaving (leftOf f m .at)) (leftOf f m .number)) (doneBy (ending h′) u)) m) → AtStart
@@ -195,14 +204,15 @@ module _ (f starts : List ℕ) (tiles : Tiles f 8 starts) (inside : (o : ℕ) �
           stop u a false c = let d = comes-done f v o u (faultAt (ending h′) u) m k c in ends u a (d .0) (d .1)
 
           -- refused at a link to t
-          claims : (b t y l : ℕ) → Early b → linkNumber f m b t y l ≡ v → faultAt (claiming h′ t) v ≡ o → Holds v ⊎ Targets v → S o
-          claims b t y l e u q (inl w) = subst S (sym (held-at h′ t v w) ∙ q) held
-          claims b t y l e u q (inr w) =
+          claims : (b t y l : ℕ) → Early b → linkNumber f m b t y l ≡ v → faultAt (claiming h′ t) v ≡ o → OfTarget f t v → Holds v ⊎ Targets v → AtStart
+          claims b t y l e u q n (inl w) = (held-target f o v w, subst S (sym (held-at h′ t v w) ∙ q) held)
+          claims b t y l e u q n (inr w) =
               let s = marked-start cs m t g sub (target-starts f m b t y l v e u w) in
               let x = low t s in
-              subst S (sym (target-at h′ t v (λ z. omega arith) w) ∙ q) s
+              let i : t ≡ o = sym (target-at h′ t v (λ z. omega arith) w) ∙ q in
+              (subst (λ (x : ℕ). OfTarget f x v) i n, subst S i s)
 
-          go : (t : Move) → MoveHas t → MoveStands f S cdr low t → Comes f v o k (moved f m n h′ t) → Next → AtStart
+          go : (t : Move) → MoveHas f t → MoveStands f S cdr low t → Comes f v o k (moved f m n h′ t) → Next → AtStart
           go (passes u x) q s c ih = pick (comes-settled f v o (ending h′) u m (walkAt n x) m k c)
             where
               pick : ((u ≡ 0) × Comes f v o k (conf (walkAt n x) m)) ⊎ ((u ≢ 0) × (u ≡ v) × (faultAt (ending h′) u ≡ o)) → AtStart
@@ -222,8 +232,8 @@ module _ (f starts : List ℕ) (tiles : Tiles f 8 starts) (inside : (o : ℕ) �
                   more t s i true d j = rw (eqb-true i t d) s
                   more t s i false d j = sub i j
               pick (inr e) =
-                  let n = subst (λ (u : ℕ). u ≢ 7) (e .1) (not-7 (linkNumber f m b t y l) (link-other f m b t y l (q .has))) in
-                  (n, claims b t y l (q .has .0) (e .1) (rw (e .1) at (e .2)) (holds-or-targets v (walked-link v walked n)))
+                  let n = subst (OfTarget f t) (e .1) (link-target f m b t y l (q .has)) in
+                  claims b t y l (q .has .0) (e .1) (rw (e .1) at (e .2)) n (holds-or-targets v (walked-link v walked (not-7 v (n .other))))
 
     from-start : (k n : ℕ) (m : List ℕ) → Marked (endOf f) starts [] m → Comes f v o k (conf (walkAt n (top Start)) m) → AtStart
     from-start k n m g h = walk-places n k (top Start) [] m g (λ x i. absurd (true≢false (sym i))) (top-stands f S cdr low) h
@@ -237,10 +247,10 @@ module _ (f m : List ℕ) (p : ℕ) (long : length f ≤ length m) where
   Swept v = Opens f × (Found b v p (length f) 8 [] ⊎ Stopped b v p 8)
 
   -- the run is refused by the opening, or comes to its sweep, which ends well or stops
-  run-cases : (v : ℕ) → endStage f m ≡ Done v p → Swept v ⊎ (OpenNumber v × (v ≢ 0) × (p ≡ 0))
+  run-cases : (v : ℕ) → endStage f m ≡ Done v p → Swept v ⊎ (OpenNumber v × (v ≢ 0) × (p ≡ 0) × (Opens f → ⊥))
   run-cases v e = go (run-opens f m long v p e)
     where
-      go : (Opens f × Comes b v p (length f / 4) (at (length f) (Sweep 8) m)) ⊎ (OpenNumber v × (v ≢ 0) × (p ≡ 0)) → Swept v ⊎ (OpenNumber v × (v ≢ 0) × (p ≡ 0))
+      go : (Opens f × Comes b v p (length f / 4) (at (length f) (Sweep 8) m)) ⊎ (OpenNumber v × (v ≢ 0) × (p ≡ 0) × (Opens f → ⊥)) → Swept v ⊎ (OpenNumber v × (v ≢ 0) × (p ≡ 0) × (Opens f → ⊥))
       go (inl o) = inl (o .0, sweep-cases b v p (length f / 4) (length f) m (room-below f m long) (more-than-8 f (o .0 .opens)) (o .1))
       go (inr o) = inr o
 
@@ -285,12 +295,12 @@ module _ (f m : List ℕ) (p : ℕ) (long : length f ≤ length m) where
       (record { starts = s .starts; tiled = tiles-tiled b (s .starts) 8 p (s .tiles); fault = reads (s .number) (s .more) })
 
   -- ---- at a record
-  walk-refused : (v : ℕ) → Walked v → Opens f → Found b v p (length f) 8 [] → (v ≢ 7) × RecordAt (below f) p
+  walk-refused : (v : ℕ) → Walked v → Opens f → Found b v p (length f) 8 [] → OfTarget (below f) p v × RecordAt (below f) p
   walk-refused v l o r =
       let starts : List ℕ = 8 ∷ r .starts in
       let s = from-start b starts (r .tiles) (found-inside b v p (length f) r) (rw (eq-eqb 8 8 refl)) v p l (r .left) (length f) (r .marks) (found-marked b v p (length f) r) (r .rest) in
       let t = tiles-tiled b starts 8 (endOf b) (r .tiles) in
-      (s .0, subst (λ (x : List ℕ). RecordAt x p) (below-is f (o .opens)) (record { starts = starts; tiled = t; start = mem-in p starts (s .1) }))
+      (subst (λ (x : List ℕ). OfTarget x p v) (below-is f (o .opens)) (s .0), subst (λ (x : List ℕ). RecordAt x p) (below-is f (o .opens)) (record { starts = starts; tiled = t; start = mem-in p starts (s .1) }))
 
   -- ---- the first that no link reaches
   unreached-reads : NestedEnds f 13 p → FirstUnreached (below f) p
@@ -335,18 +345,24 @@ module _ (f m : List ℕ) (p : ℕ) (long : length f ≤ length m) where
 
   -- ---- all of it
   abbrev Refused : ℕ → Type 0
-  Refused v = Swept v ⊎ (OpenNumber v × (v ≢ 0) × (p ≡ 0))
+  Refused v = Swept v ⊎ (OpenNumber v × (v ≢ 0) × (p ≡ 0) × (Opens f → ⊥))
 
   seven-reads : (v : ℕ) → v ≡ 7 → Refused v → Opens f × TilesStop (below f) NoRecord p
-  seven-reads v e (inl (o, inl r)) = absurd (walk-refused v (inr e) o r .0 e)
+  seven-reads v e (inl (o, inl r)) = absurd (not-7 v (walk-refused v (inr e) o r .0 .other) e)
   seven-reads v e (inl (o, inr s)) = (o, stops-at v NoRecord (λ n. no-record (n ∙ e)) o s)
-  seven-reads v e (inr (inl n, x, z)) = absurd (omega arith)
-  seven-reads v e (inr (inr n, x, z)) = absurd (omega arith)
+  seven-reads v e (inr (inl n, x, z, u)) = absurd (omega arith)
+  seven-reads v e (inr (inr n, x, z, u)) = absurd (omega arith)
 
-  fourteen-reads : (v : ℕ) → v ≡ 14 → Refused v → (p ≡ 0) ⊎ (Opens f × (TilesStop (below f) NotCarried p ⊎ RecordAt (below f) p))
-  fourteen-reads v e (inl (o, inl r)) = inr (o, inr (walk-refused v (inl (inr e)) o r .1))
-  fourteen-reads v e (inl (o, inr s)) = inr (o, inl (stops-at v NotCarried (λ n x. uncarried (n ∙ e)) o s))
-  fourteen-reads v e (inr n) = inl (n .2)
+  fourteen-reads : (v : ℕ) → v ≡ 14 → Opens f → Refused v → TilesStop (below f) NotCarried p ⊎ CompressedAt (below f) p
+  fourteen-reads v e a (inl (o, inl r)) =
+      let w = walk-refused v (inl (inr e)) o r in
+      inr (record { record-at = w .1; flagged = w .0 .flagged e })
+  fourteen-reads v e a (inl (o, inr s)) = inl (stops-at v NotCarried (λ n x. uncarried (n ∙ e)) o s)
+  fourteen-reads v e a (inr n) = absurd (n .3 a)
+
+  unopened-reads : (v : ℕ) → (Opens f → ⊥) → Refused v → p ≡ 0
+  unopened-reads v n (inl o) = absurd (n (o .0))
+  unopened-reads v n (inr o) = o .2
 
   -- a number of a link is none of the sweep
   not-swept : (v : ℕ) → OfLink v → tile b p ≡ v → ⊥
@@ -361,13 +377,13 @@ module _ (f m : List ℕ) (p : ℕ) (long : length f ≤ length m) where
       go false y (inl l) e = omega arith
       go false y (inr l) e = omega arith
 
-  linked-reads : (v : ℕ) → OfLink v → Refused v → Opens f × RecordAt (below f) p
-  linked-reads v l (inl (o, inl r)) = (o, walk-refused v (inl (inl l)) o r .1)
+  linked-reads : (v : ℕ) → OfLink v → Refused v → Opens f × (OfTarget (below f) p v × RecordAt (below f) p)
+  linked-reads v l (inl (o, inl r)) = (o, walk-refused v (inl (inl l)) o r)
   linked-reads v l (inl (o, inr s)) = absurd (not-swept v l (s .number))
-  linked-reads v (inl l) (inr (inl n, x, z)) = absurd (omega arith)
-  linked-reads v (inl l) (inr (inr n, x, z)) = absurd (omega arith)
-  linked-reads v (inr l) (inr (inl n, x, z)) = absurd (omega arith)
-  linked-reads v (inr l) (inr (inr n, x, z)) = absurd (omega arith)
+  linked-reads v (inl l) (inr (inl n, x, z, u)) = absurd (omega arith)
+  linked-reads v (inl l) (inr (inr n, x, z, u)) = absurd (omega arith)
+  linked-reads v (inr l) (inr (inl n, x, z, u)) = absurd (omega arith)
+  linked-reads v (inr l) (inr (inr n, x, z, u)) = absurd (omega arith)
 
   stop-back : (Fault : List ℕ → ℕ → Type 0) → Opens f → TilesStop (below f) Fault p → TilesStop b Fault p
   stop-back Fault o s = subst (λ (x : List ℕ). TilesStop x Fault p) (sym (below-is f (o .opens))) s
@@ -384,12 +400,16 @@ module _ (f m : List ℕ) (p : ℕ) (long : length f ≤ length m) where
         let s = stop-back NotCarried o h in
         let t = carried-not (s .fault) in
         stop-makes 14 o (s .starts) (tiled-tiles b (s .starts) 8 p (s .tiled)) (t .0) (λ e. omega arith) (t .1);
-    fourteen = λ e. fourteen-reads 14 refl (run-cases 14 e);
-    linked = λ v l e. linked-reads v l (run-cases v e);
+    fourteen = λ o e. fourteen-reads 14 refl o (run-cases 14 e);
+    linked = λ v l e. let r = linked-reads v l (run-cases v e) in (r .0, r .1 .1);
+    deeper = λ e.
+        let i = linked-reads 23 (inr refl) (run-cases 23 e) .1 .0 .deep refl in
+        both (leb (p + 8) (endOf (below f))) (typedAt (below f) p (pos 6)) i .1;
     thirteen = (
       λ e. let n = nested-reads f m long 13 p (inr refl) e in (n .opens, unreached-reads n),
       λ h. nested-makes f m long 13 p (unreached-makes (h .0) (h .1)),
     );
+    unopened = λ v n e. unopened-reads v n (run-cases v e);
   }
 
 -- THE THEOREM

@@ -4,15 +4,14 @@ use mathlib.Core.Bool.{Bool, true, false, cond, not, _&&_, _||_, true≢false, o
 use mathlib.Core.List.{List, [], _∷_}
 use Prim.Native.Nat.{ℕ, _+_, _≤_, _<_}
 use native.Mathlib.Omega.{arith}
-use lib.Dec.{ltb, eqb}
-use borrow.Author.Tests.{eqb-true, eqb-false, eq-eqb, ltb-true, not-true}
+use lib.Dec.{eqb}
+use borrow.Author.Tests.{eqb-true, eq-eqb}
 use Rattle.format.specs.Fields.{endOf}
 use Rattle.records.specs.Rules.{sizeAt}
 use Rattle.marks.specs.Marks.{found}
 use Rattle.marks.specs.declared.Found.{Found}
-use Rattle.faults.specs.Fault.{leaving, faultAt}
-use Rattle.format.proofs.Tests.{both}
-use Rattle.demands.proofs.Claims.{mem, inUse, Tiles, fits, firstIn, look, Looks}
+use Rattle.faults.specs.Fault.{faultAt}
+use Rattle.demands.proofs.Claims.{mem, inUse, Tiles, fits, firstIn, Looks}
 
 -- ---- a search
 module _ (test : ℕ → Bool) (e : ℕ) where

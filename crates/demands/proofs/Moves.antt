@@ -1,11 +1,14 @@
 -- The numbers of a step of the walk: before the place of a link is looked at 12 and 20 alone, at the end of a list 11, 12 and 20, and
--- never 7 or 13. Assumes nothing.
+-- never 7 or 13; 14 of a record with Flags bit 2 alone, and 23 of an index record. Assumes nothing.
 use mathlib.Core.Path.{_≡_, refl}
 use mathlib.Core.Logic.{_≢_, _⊎_, inl, inr}
 use mathlib.Core.Bool.{true, false, true≢false, _||_}
 use mathlib.Core.List.{List, [], _∷_}
-use Prim.Native.Nat.{ℕ}
+use Prim.Native.Nat.{ℕ, _+_}
+use native.Mathlib.Omega.{arith}
 use lib.Dec.{eqb}
+use Rattle.format.specs.Fields.{bitAt}
+use Rattle.records.specs.Index.{indexAt}
 use lib.ListN.{getD}
 use Rattle.marks.specs.Marks.{startAt}
 use Rattle.walk.specs.Numbers.{unless}
@@ -27,7 +30,7 @@ Early v = (v ≡ 0) ⊎ ((v ≡ 12) ⊎ (v ≡ 20))
 abbrev pub AtEnd : ℕ → Type 0
 AtEnd v = (v ≡ 11) ⊎ Early v
 
--- all others
+-- all are others than these
 abbrev pub Other : ℕ → Type 0
 Other v = (eqb v 7 || eqb v 13) ≡ false
 
@@ -37,26 +40,42 @@ not-7 v h e = true≢false (rw e at h)
 pub not-13 : (v : ℕ) → Other v → v ≢ 13
 not-13 v h e = true≢false (rw e at h)
 
-abbrev MoveNumbers : Move → Type 0
-MoveNumbers (passes v p) = AtEnd v
-MoveNumbers (stops v) = AtEnd v
-MoveNumbers (takes b t k l p) = Early b × Other k × Other l
+-- those of a link to t
+pub record OfTarget (f : List ℕ) (t v : ℕ) : Type 0 where
+  pub other : Other v
+  pub flagged : v ≡ 14 → bitAt f (t + 28) 4 ≡ true
+  pub deep : v ≡ 23 → indexAt f t ≡ true
 
-pub record MoveHas (t : Move) : Type 0 where
-  pub has : MoveNumbers t
+-- one that is neither 14 nor 23
+plain : (f : List ℕ) (t v : ℕ) → Other v → v ≢ 14 → v ≢ 23 → OfTarget f t v
+plain f t v o a b = record { other = o; flagged = λ e. absurd (a e); deep = λ e. absurd (b e) }
 
-move-has : (up : Levels) (t : T.Turn) → TurnHas Early AtEnd Other t → MoveHas (moveBy up t)
-move-has up (Over w v) h = record { has = h .told }
-move-has up (End v) h = record { has = h .told }
-move-has up (Take w early t typed late) h = record { has = h .told }
-move-has up (Down w t typed l) h = record { has = (inl refl, h .told, refl) }
-move-has up (Up w) h = record { has = inr (inl refl) }
+abbrev MoveNumbers : List ℕ → Move → Type 0
+MoveNumbers f (passes v p) = AtEnd v
+MoveNumbers f (stops v) = AtEnd v
+MoveNumbers f (takes b t k l p) = Early b × OfTarget f t k × OfTarget f t l
 
-pub move-numbers : (f : List ℕ) (p : Place) → MoveHas (moveOf f p)
+pub record MoveHas (f : List ℕ) (t : Move) : Type 0 where
+  pub has : MoveNumbers f t
+
+none : (f : List ℕ) (t : ℕ) → OfTarget f t 0
+none f t = plain f t 0 refl (λ e. omega arith) (λ e. omega arith)
+
+move-has : (f : List ℕ) (up : Levels) (t : T.Turn) → TurnHas Early AtEnd (OfTarget f) t → MoveHas f (moveBy up t)
+move-has f up (Over w v) h = record { has = h .told }
+move-has f up (End v) h = record { has = h .told }
+move-has f up (Take w early t typed late) h = record { has = h .told }
+move-has f up (Down w t typed l) h = record { has = (inl refl, h .told, none f t) }
+move-has f up (Up w) h = record { has = inr (inl refl) }
+
+pub move-numbers : (f : List ℕ) (p : Place) → MoveHas f (moveOf f p)
 move-numbers f p =
-    move-has (p .up) (turnOf f (p .up) (p .walk))
-    (has-turn Early AtEnd Other (inl refl) (inr (inl refl)) (inr (inr refl)) (inr (inl refl)) (inl refl) (inr (inr (inl refl))) (inr (inr (inr refl)))
-    refl refl refl refl refl refl refl f (p .up .a) (roomBelow (p .up)) (p .walk))
+    move-has f (p .up) (turnOf f (p .up) (p .walk))
+    (has-turn f Early AtEnd (OfTarget f) (inl refl) (inr (inl refl)) (inr (inr refl)) (inr (inl refl)) (inl refl) (inr (inr (inl refl))) (inr (inr (inr refl)))
+    (none f) (λ t. plain f t 8 refl (λ e. omega arith) (λ e. omega arith)) (λ t. plain f t 10 refl (λ e. omega arith) (λ e. omega arith))
+    (λ t. plain f t 11 refl (λ e. omega arith) (λ e. omega arith)) (λ t h. record { other = refl; flagged = λ e. h; deep = λ e. absurd (omega arith) })
+    (λ t. plain f t 20 refl (λ e. omega arith) (λ e. omega arith)) (λ t h. record { other = refl; flagged = λ e. absurd (omega arith); deep = λ e. h })
+    (p .up .a) (roomBelow (p .up)) (p .walk))
 
 early-other : (v : ℕ) → Early v → Other v
 early-other v (inl e) = rw e
@@ -67,9 +86,20 @@ pub end-other : (v : ℕ) → AtEnd v → Other v
 end-other v (inl e) = rw e
 end-other v (inr e) = early-other v e
 
--- so is the number of a link
-pub link-other : (f m : List ℕ) (b t y l : ℕ) → Early b × Other y × Other l → Other (linkNumber f m b t y l)
+pub early-target : (f : List ℕ) (t v : ℕ) → Early v → OfTarget f t v
+early-target f t v (inl e) = plain f t v (rw e) (λ z. omega arith) (λ z. omega arith)
+early-target f t v (inr (inl e)) = plain f t v (rw e) (λ z. omega arith) (λ z. omega arith)
+early-target f t v (inr (inr e)) = plain f t v (rw e) (λ z. omega arith) (λ z. omega arith)
+
+-- so is the number of the link
+pub link-target : (f m : List ℕ) (b t y l : ℕ) → Early b × OfTarget f t y × OfTarget f t l → OfTarget f t (linkNumber f m b t y l)
 unfolding linkNumber
-link-other f m b t y l h =
-    first-has Other refl (b ∷ unless 8 (startAt f m t) ∷ y ∷ unless 9 (eqb (getD m t 0) 1) ∷ l ∷ [])
-    (early-other b (h .0), (cond-keeps Other (startAt f m t) refl refl, (h .1, (cond-keeps Other (eqb (getD m t 0) 1) refl refl, (h .2, tt)))))
+link-target f m b t y l h =
+    let at : (v : ℕ) → Other v → v ≢ 14 → v ≢ 23 → OfTarget f t v = plain f t in
+    first-has (OfTarget f t) (none f t) (b ∷ unless 8 (startAt f m t) ∷ y ∷ unless 9 (eqb (getD m t 0) 1) ∷ l ∷ []) (
+      early-target f t b (h .0),
+      (
+        cond-keeps (OfTarget f t) (startAt f m t) (none f t) (at 8 refl (λ e. omega arith) (λ e. omega arith)),
+        (h .1, (cond-keeps (OfTarget f t) (eqb (getD m t 0) 1) (none f t) (at 9 refl (λ e. omega arith) (λ e. omega arith)), (h .2, tt))),
+      ),
+    )

@@ -12,7 +12,7 @@ use Rattle.format.specs.Fields.{endOf, linkAt, afterAt}
 use Rattle.records.specs.Opening.{gdrAt}
 use Rattle.records.specs.Index.{usedAt, indexAt, entryOf, vxrRule}
 use Rattle.variables.specs.Vdr.{variableOf}
-use Rattle.walk.specs.Levels.{isNone, mostOf, noLevel, noLevels, pushed, popped, roomBelow}
+use Rattle.walk.specs.Levels.{isNone, mostOf, noLevel, roomBelow}
 use Rattle.walk.specs.Walk.{typeNumber, varNumber, valuesNumber, attrNumber, entryNumber, unusedNumber, followed, gdrNamed, entered, chainOver, lowerOver, indexOver, lowerNumber, covers, oneMore, turnBy, turnOf}
 use Rattle.walk.specs.declared.places.Var.{Var}
 use Rattle.walk.specs.declared.places.Level.{Level}

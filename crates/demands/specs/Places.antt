@@ -2,11 +2,11 @@
 use mathlib.Core.Path.{_≡_}
 use mathlib.Core.Logic.{_↔_, _≢_, _⊎_}
 use mathlib.Core.Bool.{true, false}
-use mathlib.Core.List.{List, []}
+use mathlib.Core.List.{List}
 use Prim.Native.Nat.{ℕ, _+_, _≤_, _<_}
-use lib.IntN.{negsuc}
+use lib.IntN.{pos, negsuc}
 use lib.ListN.{length, take}
-use Rattle.format.specs.Fields.{endOf}
+use Rattle.format.specs.Fields.{endOf, bitAt}
 use Rattle.records.specs.Rules.{typedAt}
 use Rattle.records.specs.Opening.{gdrAt, eofOf}
 use Rattle.records.specs.Tiles.{tileFields, typeUncarried}
@@ -14,12 +14,12 @@ use Rattle.checker.specs.declared.state.Stage.the-variants.{Done}
 use Rattle.demands.specs.Acceptance.{_∈_, Opening, TiledTo, Tiled, Lists, ListsRight, reached}
 use Rattle.demands.specs.Demands.{endStage}
 
--- a file that opens
+-- a file that opens: "1, 2, 3, 4, 5, 14, 6 in that order", and none of them
 pub record Opens (f : List ℕ) : Type 0 where
   pub short : length f ≤ 2147483647
   pub opens : Opening f
 
--- what lies below its eof
+-- "the sweep, links and indexes end at eof": what lies below it
 abbrev pub below : List ℕ → List ℕ
 below f = take (eofOf f (gdrAt f)) f
 
@@ -45,7 +45,8 @@ pub record RecordAt (f : List ℕ) (p : ℕ) : Type 0 where
   pub tiled : Tiled f 8 starts
   pub start : p ∈ starts
 
--- the lists of the bytes f obey the rules, and p is the first record start, other than 8 and not of type -1, that no link reaches
+-- the lists of the bytes f obey all rules but that of 13, and p is the first record start, other than 8 and not of type -1, that no link
+-- reaches
 pub record FirstUnreached (f : List ℕ) (p : ℕ) : Type 0 where
   pub lists : Lists
   pub right : ListsRight f lists
@@ -53,6 +54,11 @@ pub record FirstUnreached (f : List ℕ) (p : ℕ) : Type 0 where
   pub used : (p ≢ 8) × (typedAt f p (negsuc 0) ≡ false)
   pub unreached : p ∈ reached f lists → ⊥
   pub first : (o : ℕ) → o ∈ lists .starts → o < p → o ≢ 8 → typedAt f o (negsuc 0) ≡ false → o ∈ reached f lists
+
+-- 14: "variable Flags bit 2", of a record that starts at p
+pub record CompressedAt (f : List ℕ) (p : ℕ) : Type 0 where
+  pub record-at : RecordAt f p
+  pub flagged : bitAt f (p + 28) 4 ≡ true
 
 -- the numbers of a link, but for 14
 abbrev pub OfLink : ℕ → Type 0
@@ -64,12 +70,16 @@ pub record Places (f m : List ℕ) (p : ℕ) : Type 0 where
   pub seven : (endStage f m ≡ Done 7 p) ↔ (Opens f × TilesStop (below f) NoRecord p)
   -- "and for 14 in the sweep": so too
   pub swept : Opens f → TilesStop (below f) NotCarried p → endStage f m ≡ Done 14 p
-  -- 14 lies there, "14 .. on a claim" at a record; at the opening it has no place
-  pub fourteen : endStage f m ≡ Done 14 p → (p ≡ 0) ⊎ (Opens f × (TilesStop (below f) NotCarried p ⊎ RecordAt (below f) p))
+  -- after the opening 14 lies there, or, "14 .. on a claim", at a record that says of its values that they are compressed
+  pub fourteen : Opens f → endStage f m ≡ Done 14 p → TilesStop (below f) NotCarried p ⊎ CompressedAt (below f) p
   -- "the record holding the link", "the target": a record of the file
   pub linked : (v : ℕ) → OfLink v → endStage f m ≡ Done v p → Opens f × RecordAt (below f) p
+  -- "the target for .. 23": an index record
+  pub deeper : endStage f m ≡ Done 23 p → typedAt (below f) p (pos 6) ≡ true
   -- "the first unclaimed record for 13": the first that no link reaches
   pub thirteen : (endStage f m ≡ Done 13 p) ↔ (Opens f × FirstUnreached (below f) p)
+  -- "0 for the others": a refusal of the opening has no place
+  pub unopened : (v : ℕ) → (Opens f → ⊥) → endStage f m ≡ Done v p → p ≡ 0
 
 abbrev pub WhereItLies : Type 0
 WhereItLies = (f m : List ℕ) (p : ℕ) → length f ≤ length m → Places f m p

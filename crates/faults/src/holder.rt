@@ -23,6 +23,13 @@ fn link_in(taken: u32, head: u32) -> u32
     if taken == 0 { head } else { 8 }
 }
 
+// The record in which a link stands.
+fn standing(link: u32, taken: u32, head: u32) -> u32
+    ensures { λ r. ⌜ r ≡ link - linkIn taken head ⌝ }
+{
+    back(link, link_in(taken, head))
+}
+
 // One place if the kind is z, another elsewhere.
 fn by_kind(kind: u32, z: u32, there: u32, elsewhere: u32) -> u32
     ensures { λ r. ⌜ r ≡ cond (eqb kind z) there elsewhere ⌝ }
@@ -41,16 +48,16 @@ pub fn holder(w: Walk) -> u32
             link,
             count,
             ..
-        } => back(link, link_in(count, by_kind(kind, 8, 12, 8))),
-        Walk::Chain { link, before, .. } => back(link, link_in(before, 20)),
+        } => standing(link, count, by_kind(kind, 8, 12, 8)),
+        Walk::Chain { link, before, .. } => standing(link, before, 20),
         Walk::Entry { vxr, .. } => vxr,
-        Walk::Attrs { link, count } => back(link, link_in(count, 16)),
+        Walk::Attrs { link, count } => standing(link, count, 16),
         Walk::Entries {
             kind,
             link,
             count,
             ..
-        } => back(link, link_in(count, by_kind(kind, 9, 36, 12))),
-        Walk::Unused { link, before } => back(link, link_in(before, 44)),
+        } => standing(link, count, by_kind(kind, 9, 36, 12)),
+        Walk::Unused { link, before } => standing(link, before, 44),
     }
 }

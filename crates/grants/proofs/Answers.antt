@@ -1,5 +1,5 @@
 -- What a state that was loaded answers. Assumes nothing.
-use mathlib.Core.Path.{_≡_, refl, sym, ap}
+use mathlib.Core.Path.{_≡_, refl, sym, ap, _∙_}
 use mathlib.Core.Bool.{Bool, true, false, _||_, true≢false, or-true}
 use Prim.Native.Nat.{ℕ}
 use lib.Dec.{leb, eqb}
@@ -7,10 +7,11 @@ use lib.IntN.{pos}
 use borrow.Author.Tests.{ne-eqb}
 use Rattle.checker.specs.declared.state.Stage.{Stage}
 use Rattle.checker.specs.declared.state.Stage.the-variants.{Fresh, Sweep, Walking, Done, Strange}
+use Rattle.faults.specs.Fault.{faultAt, keptPlace}
 use Rattle.checker.specs.Step.{answerOf, placeIn}
 use Rattle.checker.proofs.Loads.{not-21}
 use Rattle.grants.specs.Lists.{refused21}
-use Rattle.grants.specs.Promises.{comesBack, placeRight}
+use Rattle.grants.specs.Promises.{comesBack, hasPlace}
 use Rattle.checker.specs.Ready.{Loaded}
 
 -- a grant that works or repeats a verdict does not answer 21
@@ -35,10 +36,19 @@ answer-comes n (Done v p) h = go (leb v 14) (eqb v 20) (eqb v 23) (h .1 .told .i
     go false false false e = absurd (true≢false (sym e))
 answer-comes n Strange h = refl
 
--- and its place goes with it
-pub place-comes : (n : ℕ) (g : Stage) → Loaded n g → placeRight (answerOf g) (placeIn g)
-place-comes n Fresh h = refl
-place-comes n (Sweep o) h = refl
-place-comes n (Walking w up) h = refl
-place-comes n (Done v p) h = h .1 .placed
-place-comes n Strange h = refl
+-- a number that no record is named for has no place
+other-number : (v : ℕ) → hasPlace (pos v) ≡ false → (k : ℕ) → hasPlace (pos k) ≡ true → eqb v k ≡ false
+other-number v h k e = ne-eqb v k (λ z. true≢false (sym e ∙ rw z at h))
+
+kept-other : (v p : ℕ) → hasPlace (pos v) ≡ false → keptPlace v p ≡ 0
+unfolding faultAt
+kept-other v p h =
+    let o : (k : ℕ) → hasPlace (pos k) ≡ true → eqb v k ≡ false = other-number v h in
+    rw (o 8 refl, o 9 refl, o 12 refl, o 11 refl, o 10 refl, o 23 refl, o 14 refl, o 7 refl, o 13 refl)
+
+pub no-place : (n : ℕ) (g : Stage) → Loaded n g → hasPlace (answerOf g) ≡ false → placeIn g ≡ 0
+no-place n Fresh h e = refl
+no-place n (Sweep o) h e = refl
+no-place n (Walking w up) h e = refl
+no-place n (Done v p) h e = sym (h .1 .placed) ∙ kept-other v p e
+no-place n Strange h e = refl

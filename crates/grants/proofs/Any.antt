@@ -1,5 +1,5 @@
 -- A grant on any state. Assumes nothing.
-use mathlib.Core.Path.{_≡_, refl, sym, ap, _∙_}
+use mathlib.Core.Path.{_≡_, refl, ap, _∙_}
 use mathlib.Core.Logic.{_⊎_, inl, inr}
 use mathlib.Core.Bool.{Bool, true, false}
 use mathlib.Core.List.{List}
@@ -32,10 +32,9 @@ use Rattle.checker.proofs.Runs.{run-keeps, made-le}
 use Rattle.checker.proofs.Loads.{load-is, load-save, length-save, not-21, accepted-is}
 use Rattle.checker.proofs.Sound.{SoundBy, Sound, Own, sound-step, sound-run, sound-loaded, loaded-sound}
 use Rattle.checker.proofs.Cases.{Case, idles, refuses, works, case-of, right-length, wrong-length, idle}
-use Rattle.faults.specs.Fault.{faultAt}
 use Rattle.faults.proofs.Kept.{kept-none}
-use Rattle.grants.specs.Promises.{comesBack, placeRight, EveryGrant}
-use Rattle.grants.proofs.Answers.{answer-comes, place-comes}
+use Rattle.grants.specs.Promises.{comesBack, hasPlace, EveryGrant}
+use Rattle.grants.proofs.Answers.{answer-comes, no-place}
 
 -- ---- marks outside the records of the file are kept
 module _ (f m : List ℕ) (i : ℕ) (out : (i < 8) ⊎ (fileEnd f ≤ i)) where
@@ -110,25 +109,24 @@ module _ (f m l : List ℕ) (n : ℕ) where
   record Fine (r : Granted) : Type 0 where
     few : r .steps ≤ n
     number : comesBack (r .answer) ≡ true
-    placed : placeRight (r .answer) (r .place)
+    placed : hasPlace (r .answer) ≡ false → r .place ≡ 0
     accepted : r .answer ≡ pos 0 → (length (r .state) ≡ stateLength) × (load (r .state) ≡ done 0 0)
     away : r .answer ≡ pos 21 → r ≡ granted (pos 21) 0 0 l m
     count : length (r .marks) ≡ length m
     mark : (i : ℕ) → (i < 8) ⊎ (fileEnd f ≤ i) → getD (r .marks) i 0 ≡ getD m i 0
 
   -- a grant that changes nothing
-  fine-still : (a : ℤ) (p : ℕ) → comesBack a ≡ true → placeRight a p → (a ≡ pos 0 → (length l ≡ stateLength) × (load l ≡ done 0 0))
+  fine-still : (a : ℤ) (p : ℕ) → comesBack a ≡ true → (hasPlace a ≡ false → p ≡ 0) → (a ≡ pos 0 → (length l ≡ stateLength) × (load l ≡ done 0 0))
       → Fine (granted a p 0 l m)
-  unfolding faultAt
   fine-still a p t k h = record { few = omega arith; number = t; placed = k; accepted = h; away = λ e. turned e; count = refl; mark = λ i o. refl }
     where
       turned : a ≡ pos 21 → granted a p 0 l m ≡ granted (pos 21) 0 0 l m
-      turned e = let z : placeRight (pos 21) p = rw e at k in let y : p ≡ 0 = sym z in rw (e, y)
+      turned e = let y : p ≡ 0 = k (rw e) in rw (e, y)
 
   fine-case : length l ≡ stateLength → Case f m l n (load l) → Fine (grantBy f m l n (load l))
   fine-case e (idles g w) =
-      rw g (fine-still (answerOf (load l .stage)) (placeIn (load l .stage)) (answer-comes (load l .length) (load l .stage) (load-is l)) (place-comes (load l .length) (load l .stage) (load-is l)) (λ a. (e, accepted-is (load l) (load-is l) a)))
-  fine-case e (refuses g o w) = rw g (fine-still (pos 21) 0 refl (kept-none 21) (λ a. let z : _≡_ {A = ℕ} 21 0 = cc in absurd (omega arith)))
+      rw g (fine-still (answerOf (load l .stage)) (placeIn (load l .stage)) (answer-comes (load l .length) (load l .stage) (load-is l)) (no-place (load l .length) (load l .stage) (load-is l)) (λ a. (e, accepted-is (load l) (load-is l) a)))
+  fine-case e (refuses g o w) = rw g (fine-still (pos 21) 0 refl (λ e. refl) (λ a. let z : _≡_ {A = ℕ} 21 0 = cc in absurd (omega arith)))
   fine-case e (works g o z w) =
       let s = load l in
       let r = runOf f (conf s m) n in
@@ -137,7 +135,7 @@ module _ (f m l : List ℕ) (n : ℕ) where
       rw g (record {
         few = made-le f (conf s m) n;
         number = answer-comes (r .at .state .length) (r .at .state .stage) d;
-        placed = place-comes (r .at .state .length) (r .at .state .stage) d;
+        placed = no-place (r .at .state .length) (r .at .state .stage) d;
         accepted = λ a. (
           length-save (r .at .state),
           ap (λ (s : State). load (save s)) (accepted-is (r .at .state) d a) ∙ load-save (done 0 0) (refl, record { told = told-0; placed = kept-none 0 }),
@@ -154,7 +152,7 @@ module _ (f m l : List ℕ) (n : ℕ) where
       go true h = let e = eqb-true (length l) stateLength h in rw (right-length f m l n e) (fine-case e (case-of f m l n (load l)))
       go false h =
           rw (wrong-length f m l n (eqb-false (length l) stateLength h))
-          (fine-still (pos 20) 0 refl (kept-none 20) (λ a. let z : _≡_ {A = ℕ} 20 0 = cc in absurd (omega arith)))
+          (fine-still (pos 20) 0 refl (λ e. refl) (λ a. let z : _≡_ {A = ℕ} 20 0 = cc in absurd (omega arith)))
 
 pub every-grant : EveryGrant
 every-grant f m l n =
@@ -162,7 +160,7 @@ every-grant f m l n =
     record {
       at-most = g .few;
       number = g .number;
-      place-kept = g .placed;
+      no-place = g .placed;
       other-length = wrong-length f m l n;
       of-none = λ e z. right-length f m l n e ∙ idle f m l n (load l) (inr z);
       repeats = λ e o. right-length f m l n e ∙ idle f m l n (load l) (inl o);

@@ -1,7 +1,7 @@
 -- What grants promise: a list of them from fresh, and each by itself on any state. Assumes nothing.
 use mathlib.Core.Path.{_≡_}
 use mathlib.Core.Logic.{_↔_, _≢_}
-use mathlib.Core.Bool.{Bool, true, _||_}
+use mathlib.Core.Bool.{Bool, true, false, _&&_, _||_}
 use mathlib.Core.Option.{some}
 use mathlib.Core.List.{List, _∷_, _++_}
 use Prim.Native.Nat.{ℕ, _+_, _/_, _≤_, _<_, min}
@@ -11,7 +11,6 @@ use lib.IntN.{ℤ, pos, negsuc}
 use Rattle.records.specs.Opening.{fileEnd, Unpadded}
 use Rattle.checker.specs.declared.state.Stage.{Stage}
 use Rattle.checker.specs.declared.state.Stage.the-variants.{Done, Strange}
-use Rattle.faults.specs.Fault.{keptPlace}
 use Rattle.checker.specs.Step.{done, fresh, finished, answerOf, placeIn, stepBy, plainRun}
 use Rattle.checker.specs.Saved.{stateLength, save, load}
 use Rattle.checker.specs.Grant.{Granted, granted, grantOf}
@@ -81,10 +80,10 @@ abbrev pub comesBack : ℤ → Bool
 comesBack (pos v) = leb v 14 || (eqb v 20 || (eqb v 21 || eqb v 23))
 comesBack (negsuc n) = eqb n 0
 
--- a place is given with a refusal that has one; -1 has none
-abbrev pub placeRight : ℤ → ℕ → Type 0
-placeRight (pos v) p = keptPlace v p ≡ p
-placeRight (negsuc n) p = p ≡ 0
+-- the numbers that request #107 names a record for
+abbrev pub hasPlace : ℤ → Bool
+hasPlace (pos v) = leb 7 v && leb v 14 || eqb v 23
+hasPlace (negsuc n) = false
 
 -- A GRANT on any state whatever, made up or not
 pub record AnyState (f m l : List ℕ) (n : ℕ) : Type 0 where
@@ -92,8 +91,8 @@ pub record AnyState (f m l : List ℕ) (n : ℕ) : Type 0 where
   pub at-most : grantOf f m l n .steps ≤ n
   -- "A refusal is one number of document 01's table"
   pub number : comesBack (grantOf f m l n .answer) ≡ true
-  -- "0 for the others": a place is given with a number that has one
-  pub place-kept : placeRight (grantOf f m l n .answer) (grantOf f m l n .place)
+  -- "0 for the others"
+  pub no-place : hasPlace (grantOf f m l n .answer) ≡ false → grantOf f m l n .place ≡ 0
   -- "one of another length than docs/ gives is 20 in 0 steps, and neither it nor the marks change"
   pub other-length : length l ≢ stateLength → grantOf f m l n ≡ granted (pos 20) 0 0 l m
   -- "a grant of 0 does nothing, and 21 is not looked for"
