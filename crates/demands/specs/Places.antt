@@ -60,7 +60,7 @@ pub record CompressedAt (f : List ℕ) (p : ℕ) : Type 0 where
   pub record-at : RecordAt f p
   pub flagged : bitAt f (p + 28) 4 ≡ true
 
--- the numbers of a link, but for 14
+-- the numbers of a link or a list's end, but for 14
 abbrev pub OfLink : ℕ → Type 0
 OfLink v = ((8 ≤ v) × (v ≤ 12)) ⊎ (v ≡ 23)
 

@@ -21,7 +21,7 @@ claiming h t = record { holder = h; target = t; swept = 0; unclaimed = 0 }
 abbrev pub leaving : ℕ → Involved
 leaving o = record { holder = 0; target = 0; swept = 0; unclaimed = o }
 
--- "on a claim": a target of 10, 11, 14 or 23 is a record, which none is at 0; a link to 0 or to no record is 8
+-- "on a claim": there is a target. None is at 0: a link to 0, or to no record, is 8
 abbrev pub claims : Involved → Bool
 claims r = not (eqb (r .target) 0)
 

@@ -11,8 +11,8 @@ abbrev pub linkIn : ℕ → ℕ → ℕ
 linkIn taken head = cond (eqb taken 0) head 8
 
 -- the record that a link at p stands in. The CDR, at 8, has the link to the GDR. "Heads: rVDR 8, zVDR 12, ADR 16, UIR 44"; "VXRhead 20";
--- "AgrEDR head 12, .. AzEDR head 36". An index entry stands in its VXR. A place
--- too low for that, which only numbers made up have, gives 0
+-- "AgrEDR head 12, .. AzEDR head 36". An index entry stands in its VXR. A place too low for that, which only
+-- numbers made up have, gives 0
 unfoldable pub holderOf : W.Walk → ℕ
 holderOf Start = 8
 holderOf (Vars k p n greatest) = p - linkIn n (cond (eqb k 8) 12 8)
