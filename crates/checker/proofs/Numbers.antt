@@ -224,8 +224,8 @@ module _ (f : List ℕ) (E L : ℕ → Type 0) (Q : ℕ → ℕ → Type 0) (ear
 
   -- ---- a step of the walk
   -- a link of an index, to lower records or to values
-  has-entry : (near : Level) (room : Bool) (u : Var) (x i : ℕ) (c : Bool) (e : I.Entry) → E (e .fault) → TurnHas E L Q (entryTurn f u x i c room e)
-  has-entry near room u x i c e fault = go (indexAt f (e .link)) refl
+  has-entry : (room : Bool) (u : Var) (x i : ℕ) (c : Bool) (e : I.Entry) → E (e .fault) → TurnHas E L Q (entryTurn f u x i c room e)
+  has-entry room u x i c e fault = go (indexAt f (e .link)) refl
     where
       o : ℕ
       o = e .link
@@ -254,7 +254,7 @@ module _ (f : List ℕ) (E L : ℕ → Type 0) (Q : ℕ → ℕ → Type 0) (ear
       (cond-keeps (TurnHas E L Q) (ltb (endOf f) (near .vxr + 20)) (end-told ends-20) (record { told = tt })))
       (cond-keeps (TurnHas E L Q) (isNone near) (take-told early-0 (has-type o o (pos 6)) (has-vxr o o)) (end-told ends-11))
   has-turn near room (Entry u x i floor covered) =
-      has-entry near room u x i covered (entryOf f x i floor (mostOf near)) (early-entry x i floor (mostOf near) .told)
+      has-entry room u x i covered (entryOf f x i floor (mostOf near)) (early-entry x i floor (mostOf near) .told)
   has-turn near room (Attrs p n) =
       let o = linkAt f p in
       link-keeps f (TurnHas E L Q) p (end-told ends-20)

@@ -20,7 +20,7 @@ use Rattle.marks.specs.Marks.{startAt, leftOf}
 use Rattle.marks.specs.declared.Found as F
 use Rattle.walk.specs.Numbers.{first, unless}
 use Rattle.walk.specs.declared.places.Walk.the-variants.{Start}
-use Rattle.walk.proofs.Closed.{cond-keeps, unless-zero}
+use Rattle.walk.proofs.Closed.{cond-keeps}
 use Rattle.faults.specs.Holder.{holderOf}
 use Rattle.faults.specs.Fault.{ending, claiming, leaving, faultAt}
 use Rattle.checker.specs.Step.{conf, doneBy, linkNumber}
@@ -29,12 +29,11 @@ use Rattle.checker.proofs.Passed.{started}
 use Rattle.demands.specs.Acceptance.{_∈_, reached}
 use Rattle.demands.specs.Demands.{endStage}
 use Rattle.demands.specs.Places.{Opens, below, NoRecord, NotCarried, TilesStop, RecordAt, CompressedAt, FirstUnreached, OfLink, Places, WhereItLies}
-use Rattle.demands.proofs.Laws.{first-five}
 use Rattle.demands.proofs.Plain.{plain}
 use Rattle.demands.proofs.Places.{Place, top, Move, passes, stops, takes, moveOf, walkAt, moved, step-moves}
-use Rattle.demands.proofs.Moves.{Early, AtEnd, OfTarget, MoveHas, move-numbers, not-7, early-target, link-target}
+use Rattle.demands.proofs.Moves.{Early, AtEnd, OfTarget, MoveHas, move-numbers, not-7, plain-number, early-target, link-target}
 use Rattle.demands.proofs.Standing.{PlaceStands, MoveStands, move-stands, top-stands}
-use Rattle.demands.proofs.Claims.{mem, mark, at, inUse, Comes, comes-done, comes-settled, Last, TilesTo, Tiles, firstIn, look, Marked, claimed, left-looks}
+use Rattle.demands.proofs.Claims.{mem, mark, at, inUse, Comes, comes-done, comes-settled, link-passed, Last, TilesTo, Tiles, firstIn, look, Marked, claimed, left-looks}
 use Rattle.demands.proofs.Looked.{unclaimed, in-use-claimed, claimed-closed, First, first-left, left-first}
 use Rattle.demands.proofs.Sweep.{Found, Stopped, sweep-cases, sweep-stops, found-marked, found-inside}
 use Rattle.demands.proofs.Splits.{mem-in, in-mem}
@@ -110,13 +109,13 @@ ends-at h v (inr (inr (inr e))) l = absurd (walked-only v l .2 e)
 
 -- neither 14 nor 23 comes there, or names a holder
 end-target : (f : List ℕ) (t v : ℕ) → AtEnd v → OfTarget f t v
-end-target f t v (inl e) = record { other = rw e; flagged = λ z. absurd (omega arith); deep = λ z. absurd (omega arith) }
+end-target f t v (inl e) = plain-number f t v (rw e) (λ z. omega arith) (λ z. omega arith)
 end-target f t v (inr e) = early-target f t v e
 
 held-target : (f : List ℕ) (t v : ℕ) → Holds v → OfTarget f t v
-held-target f t v (inl e) = record { other = rw e; flagged = λ z. absurd (omega arith); deep = λ z. absurd (omega arith) }
-held-target f t v (inr (inl e)) = record { other = rw e; flagged = λ z. absurd (omega arith); deep = λ z. absurd (omega arith) }
-held-target f t v (inr (inr e)) = record { other = rw e; flagged = λ z. absurd (omega arith); deep = λ z. absurd (omega arith) }
+held-target f t v (inl e) = plain-number f t v (rw e) (λ z. omega arith) (λ z. omega arith)
+held-target f t v (inr (inl e)) = plain-number f t v (rw e) (λ z. omega arith) (λ z. omega arith)
+held-target f t v (inr (inr e)) = plain-number f t v (rw e) (λ z. omega arith) (λ z. omega arith)
 
 -- a link refused with a number that names the target leads to a start
 target-starts : (f m : List ℕ) (b t y l v : ℕ) → Early b → linkNumber f m b t y l ≡ v → Targets v → startAt f m t ≡ true
@@ -128,13 +127,6 @@ target-starts f m b t y l v e n h = go (startAt f m t) e n
     go false (inl z) n = absurd (targets-only v h .0 (sym (rw z at n)))
     go false (inr (inl z)) n = absurd (targets-only v h .1 (sym (rw z at n)))
     go false (inr (inr z)) n = absurd (targets-only v h .2 (sym (rw z at n)))
-
--- a link that passes
-link-passed : (f m : List ℕ) (b t y l : ℕ) → linkNumber f m b t y l ≡ 0 → (startAt f m t ≡ true) × (eqb (mark m t) 1 ≡ true)
-unfolding linkNumber
-link-passed f m b t y l e =
-    let p = first-five b (unless 8 (startAt f m t)) y (unless 9 (eqb (mark m t) 1)) l e in
-    (unless-zero 7 (startAt f m t) (p .1), unless-zero 8 (eqb (mark m t) 1) (p .3))
 
 -- ---- the walk, over the marks of a tiling
 module _ (f starts : List ℕ) (tiles : Tiles f 8 starts) (inside : (o : ℕ) → mem o starts ≡ true → (8 ≤ o) × (o < endOf f)) (cdr : mem 8 starts ≡ true)
@@ -225,7 +217,7 @@ module _ (f starts : List ℕ) (tiles : Tiles f 8 starts) (inside : (o : ℕ) �
                   ⊎ ((linkNumber f m b t y l ≢ 0) × (linkNumber f m b t y l ≡ v) × (faultAt (claiming h′ t) (linkNumber f m b t y l) ≡ o)) → AtStart
               pick (inl e) =
                   let z = link-passed f m b t y l (e .0) in
-                  let c = claimed f starts tiles inside cs m t g (z .0) (z .1) in
+                  let c = claimed f starts tiles inside cs m t g (z .1) (z .3) in
                   ih x (t ∷ cs) (set m t 2) (c .2) (λ i j. more t (c .0) i (eqb i t) refl j) (s (c .0)) (e .1)
                 where
                   more : (t : ℕ) → S t → (i : ℕ) (q : Bool) → eqb i t ≡ q → (q || mem i cs) ≡ true → S i
@@ -317,7 +309,7 @@ module _ (f m : List ℕ) (p : ℕ) (long : length f ≤ length m) where
         start = mem-in p starts (r .there);
         used = use-reads b p (u .0);
         unreached = λ i. true≢false (sym (in-mem p cs i) ∙ not-true (mem p cs) (u .1));
-        first = λ o i l x t. mem-in o cs (in-use-claimed b starts (λ o. mem o cs) o (r .earlier o (in-mem o starts i) l) (use-is b o x t));
+        first = λ o i l x t. mem-in o cs (in-use-claimed b starts (λ o. mem o cs) o (r .earlier o (in-mem o starts i) (omega (arith, l))) (use-is b o x t));
       })
 
   unreached-makes : Opens f → FirstUnreached (below f) p → NestedEnds f 13 p
@@ -331,7 +323,7 @@ module _ (f m : List ℕ) (p : ℕ) (long : length f ≤ length m) where
         there = in-mem p (l .starts) (y .start);
         passes = rw (use-is b p (y .used .0) (y .used .1), not-in p ds (y .unreached));
         earlier = λ s i h. claimed-closed b (l .starts) (λ o. mem o ds) s (λ u.
-            let q = use-reads b s u in in-mem s ds (y .first s (mem-in s (l .starts) i) h (q .0) (q .1)));
+            let q = use-reads b s u in in-mem s ds (y .first s (mem-in s (l .starts) i) (omega (arith, h)) (q .0) (q .1)));
       } in
       let looks = left-first b (l .starts) (λ o. mem o ds) p (tiled-tiles b (l .starts) 8 (endOf b) (y .right .tiled)) r in
       record { opens = o; valid = right-makes b 13 p (l .starts) l short (body-opens f (o .opens)) (y .right) refl looks }

@@ -47,8 +47,8 @@ pub record OfTarget (f : List ℕ) (t v : ℕ) : Type 0 where
   pub deep : v ≡ 23 → indexAt f t ≡ true
 
 -- one that is neither 14 nor 23
-plain : (f : List ℕ) (t v : ℕ) → Other v → v ≢ 14 → v ≢ 23 → OfTarget f t v
-plain f t v o a b = record { other = o; flagged = λ e. absurd (a e); deep = λ e. absurd (b e) }
+pub plain-number : (f : List ℕ) (t v : ℕ) → Other v → v ≢ 14 → v ≢ 23 → OfTarget f t v
+plain-number f t v o a b = record { other = o; flagged = λ e. absurd (a e); deep = λ e. absurd (b e) }
 
 abbrev MoveNumbers : List ℕ → Move → Type 0
 MoveNumbers f (passes v p) = AtEnd v
@@ -59,7 +59,7 @@ pub record MoveHas (f : List ℕ) (t : Move) : Type 0 where
   pub has : MoveNumbers f t
 
 none : (f : List ℕ) (t : ℕ) → OfTarget f t 0
-none f t = plain f t 0 refl (λ e. omega arith) (λ e. omega arith)
+none f t = plain-number f t 0 refl (λ e. omega arith) (λ e. omega arith)
 
 move-has : (f : List ℕ) (up : Levels) (t : T.Turn) → TurnHas Early AtEnd (OfTarget f) t → MoveHas f (moveBy up t)
 move-has f up (Over w v) h = record { has = h .told }
@@ -72,9 +72,9 @@ pub move-numbers : (f : List ℕ) (p : Place) → MoveHas f (moveOf f p)
 move-numbers f p =
     move-has f (p .up) (turnOf f (p .up) (p .walk))
     (has-turn f Early AtEnd (OfTarget f) (inl refl) (inr (inl refl)) (inr (inr refl)) (inr (inl refl)) (inl refl) (inr (inr (inl refl))) (inr (inr (inr refl)))
-    (none f) (λ t. plain f t 8 refl (λ e. omega arith) (λ e. omega arith)) (λ t. plain f t 10 refl (λ e. omega arith) (λ e. omega arith))
-    (λ t. plain f t 11 refl (λ e. omega arith) (λ e. omega arith)) (λ t h. record { other = refl; flagged = λ e. h; deep = λ e. absurd (omega arith) })
-    (λ t. plain f t 20 refl (λ e. omega arith) (λ e. omega arith)) (λ t h. record { other = refl; flagged = λ e. absurd (omega arith); deep = λ e. h })
+    (none f) (λ t. plain-number f t 8 refl (λ e. omega arith) (λ e. omega arith)) (λ t. plain-number f t 10 refl (λ e. omega arith) (λ e. omega arith))
+    (λ t. plain-number f t 11 refl (λ e. omega arith) (λ e. omega arith)) (λ t h. record { other = refl; flagged = λ e. h; deep = λ e. absurd (omega arith) })
+    (λ t. plain-number f t 20 refl (λ e. omega arith) (λ e. omega arith)) (λ t h. record { other = refl; flagged = λ e. absurd (omega arith); deep = λ e. h })
     (p .up .a) (roomBelow (p .up)) (p .walk))
 
 early-other : (v : ℕ) → Early v → Other v
@@ -87,15 +87,15 @@ end-other v (inl e) = rw e
 end-other v (inr e) = early-other v e
 
 pub early-target : (f : List ℕ) (t v : ℕ) → Early v → OfTarget f t v
-early-target f t v (inl e) = plain f t v (rw e) (λ z. omega arith) (λ z. omega arith)
-early-target f t v (inr (inl e)) = plain f t v (rw e) (λ z. omega arith) (λ z. omega arith)
-early-target f t v (inr (inr e)) = plain f t v (rw e) (λ z. omega arith) (λ z. omega arith)
+early-target f t v (inl e) = plain-number f t v (rw e) (λ z. omega arith) (λ z. omega arith)
+early-target f t v (inr (inl e)) = plain-number f t v (rw e) (λ z. omega arith) (λ z. omega arith)
+early-target f t v (inr (inr e)) = plain-number f t v (rw e) (λ z. omega arith) (λ z. omega arith)
 
 -- so is the number of the link
 pub link-target : (f m : List ℕ) (b t y l : ℕ) → Early b × OfTarget f t y × OfTarget f t l → OfTarget f t (linkNumber f m b t y l)
 unfolding linkNumber
 link-target f m b t y l h =
-    let at : (v : ℕ) → Other v → v ≢ 14 → v ≢ 23 → OfTarget f t v = plain f t in
+    let at : (v : ℕ) → Other v → v ≢ 14 → v ≢ 23 → OfTarget f t v = plain-number f t in
     first-has (OfTarget f t) (none f t) (b ∷ unless 8 (startAt f m t) ∷ y ∷ unless 9 (eqb (getD m t 0) 1) ∷ l ∷ []) (
       early-target f t b (h .0),
       (
