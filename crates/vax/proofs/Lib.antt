@@ -1,0 +1,11 @@
+pub mod Whole
+pub mod Grid
+pub mod Digits
+pub mod Rounded
+pub mod Floats
+pub mod Answers
+pub mod Exactly
+pub mod Unique
+pub mod ThreeKinds
+pub mod Words
+pub mod Machine

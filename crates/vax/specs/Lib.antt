@@ -1,0 +1,7 @@
+pub mod Doubles
+pub mod Layouts
+pub mod Vax
+pub mod Rounding
+pub mod Words
+pub mod Promises
+pub mod Examples

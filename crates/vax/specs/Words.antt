@@ -1,0 +1,36 @@
+-- The bits of a VAX float as one number, most significant first: the sign, an exponent of x bits, a mantissa of w bits; and the words that it is made of.
+-- They serve the contracts; that they are the fields of the tables is proved (proofs/Words.antt). Assumes nothing.
+use Prim.Native.Nat.{ℕ, _+_, _*_, _/_, _%_, _^_, _≤_}
+use mathlib.Core.Bool.{Bool}
+use mathlib.Core.List.{List}
+use lib.Dec.{leb}
+use lib.ListN.{getD}
+use Rattle.vax.specs.Rounding.{vaxOf}
+use Rattle.vax.specs.declared.Vax.{Vax}
+
+abbrev pub signIn : ℕ → ℕ → ℕ → Bool
+signIn w x raw = leb (2 ^ x) (raw / 2 ^ w)
+
+abbrev pub exponentIn : ℕ → ℕ → ℕ → ℕ
+exponentIn w x raw = raw / 2 ^ w % 2 ^ x
+
+abbrev pub mantissaIn : ℕ → ℕ → ℕ
+mantissaIn w raw = raw % 2 ^ w
+
+unfoldable pub vaxIn : ℕ → ℕ → ℕ → ℕ → Vax
+vaxIn w x b raw = vaxOf w b (signIn w x raw) (exponentIn w x raw) (mantissaIn w raw)
+
+-- what a kind may be: its mantissa fits 63 bits with the leading digit, its exponents have no more bits than a double's, and stay within a double's
+pub record Bounds (w x b : ℕ) : Type 0 where
+  pub width : w ≤ 62
+  pub range : x ≤ 11
+  pub greatest : 2 ^ x ≤ b + 1024
+  pub least : b ≤ 1074
+
+-- a word of two bytes, the second the more significant; of several words the first is the most significant
+abbrev pub wordAt : List ℕ → ℕ → ℕ
+wordAt f at = getD f at 0 + getD f (at + 1) 0 * 256
+
+-- the last three words of a D_FLOAT or a G_FLOAT, from an offset on
+unfoldable pub tailOf : List ℕ → ℕ → ℕ
+tailOf f at = (wordAt f at * 2 ^ 16 + wordAt f (at + 2)) * 2 ^ 16 + wordAt f (at + 4)
