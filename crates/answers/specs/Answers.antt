@@ -7,7 +7,7 @@ use lib.Signed.{leZ, ltZ}
 use Rattle.format.specs.Fields.{fieldAt, natAt, natOr, bitAt}
 use Rattle.values.specs.declared.value.Answer.{Answer}
 use Rattle.values.specs.declared.value.Decoded.{Decoded}
-use Rattle.values.specs.declared.value.Decoded.the-variants.{Given, Vax, Nothing}
+use Rattle.values.specs.declared.value.Decoded.the-variants.{Given, Reserved, Nothing}
 use Rattle.values.specs.Values.{decodedOf}
 use Rattle.records.specs.Opening.{bodyOf}
 use Rattle.records.specs.Attributes.{elementSize}
@@ -32,10 +32,10 @@ abbrev pub numberOf : Read → ℕ
 numberOf (Value a) = 0
 numberOf (Refused v) = v
 
--- 19: "float in encoding 3, 14 or 15"; an element that is not before the file's end would be 20
+-- "it is the reserved operand, refused with 22"; an element that is not before the file's end would be 20
 abbrev pub answered : Decoded → Read
 answered (Given a) = Value a
-answered Vax = Refused 19
+answered Reserved = Refused 22
 answered Nothing = Refused 20
 
 -- CDR: "encoding (20)"; flags (24): "Bit 0 set means row majority"; the CDR stands at 8
@@ -49,10 +49,17 @@ rowMajority f = bitAt f 32 1
 unfoldable pub elementThere : List ℕ → ℕ → ℤ → Bool
 elementThere f p x = leZ (pos 0) x && ltZ x (fieldAt f p)
 
--- element x of the values from an offset on, whose data type stands at t and whose count at c
+-- the offset of element x of the values from an offset on, whose data type stands at t
+abbrev pub elementAt : List ℕ → ℕ → ℕ → ℤ → ℕ
+elementAt f at t x = at + natOr 0 x * elementSize f t
+
+-- what data type and encoding make of the bytes at an offset
+abbrev pub elementOf : List ℕ → ℕ → ℕ → Decoded
+elementOf f at t = decodedOf f at (natAt f t) (encodingAt f)
+
+-- element x of those values, whose count stands at c
 unfoldable pub elementRead : List ℕ → ℕ → ℕ → ℕ → ℤ → Read
-elementRead f at t c x =
-    cond (elementThere f c x) (answered (decodedOf f (at + natOr 0 x * elementSize f t) (natAt f t) (encodingAt f))) (Refused 18)
+elementRead f at t c x = cond (elementThere f c x) (answered (elementOf f (elementAt f at t x) t)) (Refused 18)
 
 -- of a record that begins at an offset: the value at a place, the VDR at v saying its data type (12) and elements (48)
 abbrev pub atPlace : List ℕ → ℕ → ℕ → ℕ → ℤ → Place → Read

@@ -35,7 +35,7 @@ fn answer(d: Decoded) -> Read
 {
     match d {
         Decoded::Given(a) => Read::Value(a),
-        Decoded::Vax => Read::Refused(19),
+        Decoded::Reserved => Read::Refused(22),
         Decoded::Nothing => Read::Refused(20),
     }
 }

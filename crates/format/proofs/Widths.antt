@@ -1,20 +1,50 @@
 -- Numbers of n bytes, once for every n. Assumes nothing.
-use mathlib.Core.Path.{_≡_, refl, ap, _∙_}
+use mathlib.Core.Path.{_≡_, refl, ap, _∙_, subst}
 use mathlib.Core.List.{List, [], _∷_, _++_}
-use Prim.Native.Nat.{ℕ, suc, _+_, _-_, _*_, _/_, _%_, _^_, _≤_, _<_}
-use native.Mathlib.Nat.{add-zero, pow-suc, pow-le-pow-right}
+use Prim.Native.Nat.{ℕ, zero, suc, _+_, _-_, _*_, _/_, _%_, _^_, _≤_, _<_}
+use native.Mathlib.Nat.{add-zero, zero-add, lt-of-lt-of-le, pow-suc, pow-le-pow-right}
 use native.Mathlib.Numerals.{add-one}
 use native.Mathlib.Omega.{arith}
 use lib.Dec.{lit<}
 use lib.ListN.{length, getD, take, drop, length-drop}
 use lib.Seq.{take-suc, drop-cons, getD-drop}
-use Rattle.format.specs.Bytes.{bigFrom, bigAt, littleOf, littleAt, Four, swappedOf}
+use Rattle.format.specs.Bytes.{bigFrom, bigAt, littleOf, littleAt, OfBytes, Four, swappedOf}
 
 pub grow : (i : ℕ) → 256 ^ (i + 1) ≡ 256 ^ i * 256
 grow i = rw add-one (pow-suc 256 i)
 
 pub room : (i n : ℕ) → i < n → n ≤ 8 → 256 ^ (i + 1) ≤ 2 ^ 64
 room i n h k = pow-le-pow-right {n = 256} (lit< tt) {i = i + 1} {j = 8} (omega arith)
+
+-- ---- the number of n bytes is below 256 ^ n
+bytes-drop : (at : ℕ) (s : List ℕ) → OfBytes s → OfBytes (drop at s)
+bytes-drop zero s h = h
+bytes-drop (suc at) [] h = h
+bytes-drop (suc at) (b ∷ s) h = bytes-drop at s (λ i. h (suc i))
+
+big-below : (n : ℕ) (s : List ℕ) (a k : ℕ) → OfBytes s → a < 256 ^ k → bigFrom a (take n s) < 256 ^ (n + k)
+big-below zero s a k h l = rw (zero-add k) l
+big-below (suc n) [] a k h l = lt-of-lt-of-le l (pow-le-pow-right {n = 256} (lit< tt) {i = k} {j = suc n + k} (omega arith))
+big-below (suc n) (b ∷ s) a k h l =
+    let e : n + suc k ≡ suc n + k = omega arith in
+    subst (λ (j : ℕ). bigFrom (a * 256 + b) (take n s) < 256 ^ j) e
+    (big-below n s (a * 256 + b) (suc k) (λ i. h (suc i)) (omega (arith, h 0, pow-suc 256 k)))
+
+little-below : (n : ℕ) (s : List ℕ) → OfBytes s → littleOf (take n s) < 256 ^ n
+little-below zero s h = lit< tt
+little-below (suc n) [] h = pow-pos (suc n)
+  where
+    pow-pos : (n : ℕ) → 0 < 256 ^ n
+    pow-pos n = pow-le-pow-right {n = 256} (lit< tt) {i = 0} {j = n} (omega arith)
+little-below (suc n) (b ∷ s) h = omega (arith, h 0, pow-suc 256 n, little-below n s (λ i. h (suc i)))
+
+pub big-lt : (s : List ℕ) (at n : ℕ) → OfBytes s → bigAt s at n < 256 ^ n
+unfolding bigAt
+big-lt s at n h = subst (λ (j : ℕ). bigFrom 0 (take n (drop at s)) < 256 ^ j) (add-zero n) (big-below n (drop at s) 0 0 (bytes-drop at s h) (lit< tt))
+
+pub little-lt : (s : List ℕ) (at n : ℕ) → OfBytes s → littleAt s at n < 256 ^ n
+unfolding littleAt
+little-lt s at n h = little-below n (drop at s) (bytes-drop at s h)
 
 big-snoc : (n : ℕ) (bs : List ℕ) (b : ℕ) → bigFrom n (bs ++ b ∷ []) ≡ bigFrom n bs * 256 + b
 big-snoc n [] b = refl

@@ -24,6 +24,10 @@ littleOf (b ∷ bs) = b + 256 * littleOf bs
 unfoldable pub littleAt : List ℕ → ℕ → ℕ → ℕ
 littleAt s at n = littleOf (take n (drop at s))
 
+-- all numbers of a list are bytes
+abbrev pub OfBytes : List ℕ → Type 0
+OfBytes s = (i : ℕ) → getD s i 0 < 256
+
 -- the four numbers at an offset are bytes
 pub record Four (s : List ℕ) (at : ℕ) : Type 0 where
   pub first : getD s at 0 < 256

@@ -1,34 +1,37 @@
 -- DEMAND 2, its second half: of an accepted file every answer is a value as it stands in the file, or a refusal with its meaning.
 -- Assumes nothing.
-use mathlib.Core.Path.{_≡_, refl, subst}
+use mathlib.Core.Path.{_≡_, refl, ap, subst}
 use mathlib.Core.Logic.{_⊎_, inl, inr}
 use mathlib.Core.Bool.{true, false}
 use mathlib.Core.List.{List}
-use Prim.Native.Nat.{ℕ, _+_}
+use Prim.Native.Nat.{ℕ, _+_, _-_, _*_}
+use native.Mathlib.Omega.{arith}
 use lib.IntN.{ℤ, pos}
 use Rattle.format.specs.Fields.{eqZ, natOr}
 use Rattle.records.specs.Opening.{bodyOf}
+use Rattle.records.specs.Tree.{firstOf}
 use Rattle.variables.specs.Vdr.{variableOf}
 use Rattle.values.specs.declared.value.Answer.{Answer}
 use Rattle.ways.specs.Lists.{allowance, ofKinds, kindAmong, headPlace, entriesPlace, variableWay, attributeWay, entryWay}
-use Rattle.ways.specs.Indexes.{recordThere, recordRead, recordWay, levelsWay}
+use Rattle.ways.specs.Indexes.{recordThere, recordRead, levelsWay}
 use Rattle.ways.specs.declared.lists.Wanted.{Wanted}
 use Rattle.ways.specs.declared.lists.Wanted.the-variants.{Place, Number}
 use Rattle.ways.specs.declared.lists.Way.the-variants.{Found, Stopped}
+use Rattle.ways.specs.declared.indexes.Values.{Values}
 use Rattle.ways.specs.declared.indexes.Values.the-variants.{Record, Refused as NoRecord}
 use Rattle.ways.specs.declared.indexes.Levels.the-variants.{Unknown}
 use Rattle.answers.specs.Answers.{valueRead, entryRead, padRead}
 use Rattle.answers.specs.declared.Read.{Read}
 use Rattle.answers.specs.declared.Read.the-variants.{Value, Refused}
 use Rattle.demands.specs.Acceptance.{Linked}
-use Rattle.promised_reads.specs.Reading.{PlainAccepts, Met, ValueShown, EntryShown, PadShown, variableThere, attributeThere, InGap, InRange, RecordRefused, ValueRefused, LevelsRefused, PadRefused, EntryRefused, GivenOrRefused, ReadsRight, Demand2Values}
+use Rattle.promised_reads.specs.Reading.{PlainAccepts, Met, ValueShown, EntryShown, PadShown, reserved, inRecordAt, valueAt, variableThere, attributeThere, InGap, InRange, RecordRefused, ValueRefused, LevelsRefused, PadRefused, EntryRefused, GivenOrRefused, ReadsRight, Demand2Values}
 use Rattle.demands.proofs.NestedDemand.{NestedAccepted, nested-accepted}
 use Rattle.demands.proofs.Nested.{chainRules}
 use Rattle.demands.proofs.Splits.{listed-reads}
 use Rattle.ways.proofs.Sought.{Finds, Listed, place-listed, InOpened, ToVariable, variable-found, ToEntry, entry-found}
 use Rattle.answers.proofs.Telling.{Tells}
-use Rattle.promised_reads.proofs.Shown.{list-met, value-tells, entry-tells, pad-tells, levels-tell}
-use Rattle.promised_reads.proofs.Indexes.{Lost, RecordOn, LevelsOn, record-on, levels-on}
+use Rattle.promised_reads.proofs.Shown.{list-met, wayOf, valueAsked, valueReserved, value-tells, found-bytes, entry-tells, pad-tells, levels-tell}
+use Rattle.promised_reads.proofs.Indexes.{Lost, Begins, RecordOn, LevelsOn, record-on, levels-on}
 use Rattle.promised_reads.proofs.Ways.{VariableIn}
 use Rattle.promised_reads.proofs.Accepted.{varsOf, variable-not-there, variable-is-there, VariableOn, variable-on, AttributeOn, attribute-on, entriesIn, entries-linked, EntryLacks, attribute-not-there, attribute-is-there, EntryOn, entry-on}
 
@@ -70,7 +73,10 @@ module _ (f : List ℕ) (n : NestedAccepted f) where
     abbrev pub chain : List ℕ
     chain = vdr .found .here .vxrs
 
-    pub way-on : (r : ℤ) → RecordOn body v chain r (recordWay body v (variableOf body (kindAmong 3 8 k) v .bytes) r left)
+    abbrev pub On : ℤ → Values → Type 0
+    On r = RecordOn body v chain r (variableOf body (kindAmong 3 8 k) v .bytes)
+
+    pub way-on : (r : ℤ) → On r (wayOf f k r v left)
     way-on r = record-on body (kindAmong 3 8 k) v chain (vdr .parts) (vdr .index) (vdr .stands) r left (vdr .room)
 
     pub levels-way-on : (r : ℤ) → LevelsOn body v chain r (levelsWay body v r left)
@@ -91,9 +97,8 @@ module _ (f : List ℕ) (n : NestedAccepted f) where
     lost r m (inl a) = inl a
     lost r m (inr a) = inr (a .0, a .1, record { vxrs = chain; linked = linked; none = a .2 })
 
-    record-why : (r : ℤ) (is : List ℤ) (x : ℤ) (m : ℕ) → recordWay body v (variableOf body (kindAmong 3 8 k) v .bytes) r left ≡ NoRecord m
-        → RecordRefused body (kindAmong 3 8 k) v r is x m
-    record-why r is x m e = go (lost r m (subst (RecordOn body v chain r) e (way-on r)))
+    record-why : (r : ℤ) (is : List ℤ) (x : ℤ) (m : ℕ) → wayOf f k r v left ≡ NoRecord m → RecordRefused body (kindAmong 3 8 k) v r is x m
+    record-why r is x m e = go (lost r m (subst (On r) e (way-on r)))
       where
         go : ((m ≡ 16) × (recordThere body v r ≡ false)) ⊎ ((m ≡ 17) × (recordThere body v r ≡ true) × InGap body v (recordRead body v r))
             → RecordRefused body (kindAmong 3 8 k) v r is x m
@@ -103,11 +108,27 @@ module _ (f : List ℕ) (n : NestedAccepted f) where
     levels-why : (r : ℤ) (m : ℕ) → levelsWay body v r left ≡ Unknown m → LevelsRefused body k j r m
     levels-why r m e = inr (there, v, met, lost r m (subst (LevelsOn body v chain r) e (levels-way-on r)))
 
-    ranged : (r : ℤ) (at : ℕ) → recordWay body v (variableOf body (kindAmong 3 8 k) v .bytes) r left ≡ Record at
-        → (recordThere body v r ≡ true) × InRange body v (recordRead body v r)
-    ranged r at e =
-        let a = subst (RecordOn body v chain r) e (way-on r) in
-        (a .0, record { vxrs = chain; linked = linked; slot = a .1; lowest = a .2; covers = a .3 })
+    -- a record that was found begins where its lowest entry says
+    module _ (r : ℤ) (at : ℕ) (e : wayOf f k r v left ≡ Record at) where
+      pub begins : Begins body v chain r (variableOf body (kindAmong 3 8 k) v .bytes) at
+      begins = subst (On r) e (way-on r)
+
+      pub value-there : (is : List ℤ) (x : ℤ)
+          → inRecordAt body (kindAmong 3 8 k) v at is x ≡ valueAt body (kindAmong 3 8 k) v (begins .slot) (recordRead body v r) is x
+      value-there is x =
+          let e = ap (λ (b : ℕ). (recordRead body v r - firstOf body (begins .slot)) * b) (found-bytes f k j v left way) in
+          omega (arith, begins .is, e)
+
+      in-range : InRange body v (recordRead body v r)
+      in-range = record { vxrs = chain; linked = linked; slot = begins .slot; lowest = begins .member; covers = begins .covered }
+
+      wrong-why : (is : List ℤ) (x : ℤ) → valueAsked f k is x v ≡ false → RecordRefused body (kindAmong 3 8 k) v r is x 18
+      wrong-why is x g = inr (inr (inl (refl, begins .there, in-range, g)))
+
+      operand-why : (is : List ℤ) (x : ℤ) → valueAsked f k is x v ≡ true → valueReserved f k is x v at ≡ true → RecordRefused body (kindAmong 3 8 k) v r is x 22
+      unfolding in-range
+      operand-why is x g h =
+          inr (inr (inr (refl, begins .there, in-range, g, subst (λ (o : ℕ). reserved body o (v + 12) ≡ true) (value-there is x) h)))
 
   -- ---- the entry found
   module _ (b k : ℤ) (w : Wanted) (e left : ℕ) (way : entryWay f b k w ≡ Found e left) where
@@ -147,16 +168,16 @@ module _ (f : List ℕ) (n : NestedAccepted f) where
   reads-right = record {
     value = λ k j r is x.
         told (ValueShown body k j r is x) (ValueRefused body k j r is x) (valueRead f k j r is x)
-        (value-tells f k j r is x (ValueRefused body k j r is x)
+        (value-tells f k j r is x (ValueShown body k j r is x) (ValueRefused body k j r is x)
         (λ m e. let a = subst (VariableOn f n k j) e (variable-on f n k j) in inl (a .0, variable-not-there f n k j (a .1)))
         (λ v left m e h. inr (there k j v left e, v, met k j v left e, record-why k j v left e r is x m h))
-        (λ v left at e h g. let a = ranged k j v left e r at h in inr (there k j v left e, v, met k j v left e, inr (inr (inl (refl, a .0, a .1, g)))))
-        (λ v left at e h g w. let a = ranged k j v left e r at h in inr (there k j v left e, v, met k j v left e, inr (inr (inr (refl, a .0, a .1, g, w))))));
+        (λ v left at e h a w g i. w)
+        (λ v left at e h g. inr (there k j v left e, v, met k j v left e, wrong-why k j v left e r at h is x g))
+        (λ v left at e h g i. inr (there k j v left e, v, met k j v left e, operand-why k j v left e r at h is x g i)));
     entry = λ b k j x.
         told (EntryShown body b k j x) (EntryRefused body b k j x) (entryRead f b k j x)
-        (entry-tells f b k j x (EntryShown body b k j x) (EntryRefused body b k j x)
+        (entry-tells f b k j x (EntryRefused body b k j x)
         (λ m e. entry-why b k j x m (subst (EntryOn f n b k (Number j)) e (entry-on f n b k (Number j))))
-        (λ e left q a w h g. w)
         (λ e left q h.
         inr (
           owner-there b k (Number j) e left q,

@@ -1,4 +1,4 @@
--- 16 of an entry, and 18 and 19 of entries and pad values, exactly where they are due. Assumes nothing.
+-- 16 of an entry, and 18 and 22 of values, entries and pad values, exactly where they are due. Assumes nothing.
 use mathlib.Core.Path.{_≡_, refl, sym, ap, _∙_, subst}
 use mathlib.Core.Logic.{_↔_, _⊎_, inl, inr}
 use mathlib.Core.Bool.{Bool, true, false, cond, _&&_, true≢false}
@@ -10,74 +10,118 @@ use lib.IntN.{ℤ}
 use Rattle.format.specs.Fields.{isAt, linkAt, natOr}
 use Rattle.records.specs.Opening.{bodyOf}
 use Rattle.ways.specs.Lists.{opened, allowance, ofKinds, meets, overOf, lastLink, sought, headPlace, kindAmong, entriesPlace, entriesOf, fileWay, variableWay, entryWay}
+use Rattle.ways.specs.declared.lists.Wanted.{Wanted}
 use Rattle.ways.specs.declared.lists.Wanted.the-variants.{Number}
 use Rattle.ways.specs.declared.lists.Way.{Way}
 use Rattle.ways.specs.declared.lists.Way.the-variants.{Found, Stopped}
-use Rattle.answers.specs.Answers.{numberOf, elementThere, entryRead, padRead}
+use Rattle.ways.specs.declared.indexes.Values.the-variants.{Record, Refused as NoRecord}
+use Rattle.answers.specs.Answers.{numberOf, valueRead, entryValue, entryRead, padRead}
 use Rattle.answers.specs.declared.Read.{Read}
 use Rattle.answers.specs.declared.Read.the-variants.{Value, Refused}
 use Rattle.demands.specs.Acceptance.{Each, Linked}
-use Rattle.promised_reads.specs.Reading.{Met, EntryShown, attributeThere, vaxFloat, padRight, NoEntry, NoEntryNumber, ElementsRefused, EntryRefused, GivenOrRefused}
+use Rattle.promised_reads.specs.Reading.{Met, EntryShown, entryAt, attributeThere, NoEntry, NoEntryNumber, ElementsRefused, EntryRefused, GivenOrRefused}
 use Rattle.demands.proofs.NestedDemand.{NestedAccepted}
 use Rattle.format.proofs.Tests.{both}
 use Rattle.ways.proofs.Sought.{Finds, found-not-stopped, found-same, Listed, place-listed}
 use Rattle.answers.proofs.Telling.{Tells}
 use Rattle.answers.proofs.Asked.{entry-stopped}
 use Rattle.promised_reads.proofs.Down.{nth-same}
-use Rattle.promised_reads.proofs.Shown.{entry-tells, pad-tells}
+use Rattle.promised_reads.proofs.Shown.{given-plain, wayOf, valueAsked, valueReserved, value-tells, entryHas, entryReserved, wanted-tells, padHas, padReserved, pad-tells}
 use Rattle.promised_reads.proofs.Accepted.{EntryOn, entry-on, attribute-not-there}
 use Rattle.promised_reads.proofs.Demand2Values.{nested, reads-right}
 
--- ---- of three numbers one comes back, by two tests: 18 if the first fails, 19 if both hold, else 0
-abbrev Judged : Bool → Bool → ℕ → Type 0
-Judged right vax m =
+-- ---- of three numbers one comes back, by two tests: 18 if the first fails, 22 if both hold, else 0
+abbrev pub Judged : Bool → Bool → ℕ → Type 0
+Judged right operand m =
     ((m ≡ 18) × (right ≡ false))
-    ⊎ (((m ≡ 19) × (right ≡ true) × (vax ≡ true)) ⊎ ((m ≡ 0) × (right ≡ true) × (vax ≡ false)))
+    ⊎ (((m ≡ 22) × (right ≡ true) × (operand ≡ true)) ⊎ ((m ≡ 0) × (right ≡ true) × (operand ≡ false)))
 
-judged-wrong : (right vax : Bool) (m : ℕ) → Judged right vax m → (m ≡ 18) ↔ (right ≡ false)
-judged-wrong right vax m (inl a) = (λ q. a .1, λ h. a .0)
-judged-wrong right vax m (inr (inl a)) = (λ q. absurd (omega (arith, q, a .0)), λ h. absurd (true≢false (sym (a .1) ∙ h)))
-judged-wrong right vax m (inr (inr a)) = (λ q. absurd (omega (arith, q, a .0)), λ h. absurd (true≢false (sym (a .1) ∙ h)))
+module _ (right operand : Bool) (m : ℕ) where
+  pub judged-wrong : Judged right operand m → (m ≡ 18) ↔ (right ≡ false)
+  judged-wrong (inl a) = (λ q. a .1, λ h. a .0)
+  judged-wrong (inr (inl a)) = (λ q. absurd (omega (arith, q, a .0)), λ h. absurd (true≢false (sym (a .1) ∙ h)))
+  judged-wrong (inr (inr a)) = (λ q. absurd (omega (arith, q, a .0)), λ h. absurd (true≢false (sym (a .1) ∙ h)))
 
-judged-float : (right vax : Bool) (m : ℕ) → Judged right vax m → (m ≡ 19) ↔ ((right && vax) ≡ true)
-judged-float right vax m (inl a) = (λ q. absurd (omega (arith, q, a .0)), λ h. absurd (true≢false (sym (both right vax h .0) ∙ a .1)))
-judged-float right vax m (inr (inl a)) = (λ q. rw (a .1, a .2), λ h. a .0)
-judged-float right vax m (inr (inr a)) = (λ q. absurd (omega (arith, q, a .0)), λ h. absurd (true≢false (sym (both right vax h .1) ∙ a .2)))
+  pub judged-operand : Judged right operand m → (m ≡ 22) ↔ ((right && operand) ≡ true)
+  judged-operand (inl a) = (λ q. absurd (omega (arith, q, a .0)), λ h. absurd (true≢false (sym (both right operand h .0) ∙ a .1)))
+  judged-operand (inr (inl a)) = (λ q. rw (a .1, a .2), λ h. a .0)
+  judged-operand (inr (inr a)) = (λ q. absurd (omega (arith, q, a .0)), λ h. absurd (true≢false (sym (both right operand h .1) ∙ a .2)))
+
+  -- neither 16 nor 17
+  pub judged-there : Judged right operand m → (m ≡ 16 → ⊥) × (m ≡ 17 → ⊥)
+  judged-there (inl a) = (λ q. omega (arith, q, a .0), λ q. omega (arith, q, a .0))
+  judged-there (inr (inl a)) = (λ q. omega (arith, q, a .0), λ q. omega (arith, q, a .0))
+  judged-there (inr (inr a)) = (λ q. omega (arith, q, a .0), λ q. omega (arith, q, a .0))
+
+record-same : (o at : ℕ) → Record o ≡ Record at → o ≡ at
+record-same o at e = cc
+
+record-not-lost : (at m : ℕ) → Record at ≡ NoRecord m → ⊥
+record-not-lost at m e = let z : _≡_ {A = ℕ} 0 1 = cc in absurd (omega arith)
+
+-- the number that comes back, where the answer says so
+numbered : (right operand : Bool) (s : Read) → Tells (λ a. Judged right operand 0) (Judged right operand) s → Judged right operand (numberOf s)
+numbered right operand (Value a) t = t
+numbered right operand (Refused m) t = t
 
 module _ (f : List ℕ) where
-  -- the number that comes back, where the answer says so
-  numbered : (right vax : Bool) (s : Read) → Tells (λ a. Judged right vax 0) (Judged right vax) s → Judged right vax (numberOf s)
-  numbered right vax (Value a) t = t
-  numbered right vax (Refused m) t = t
+  -- ---- a record that was found
+  pub value-judged : (k n r : ℤ) (is : List ℤ) (x : ℤ) (v left at : ℕ) → variableWay f k n ≡ Found v left → wayOf f k r v left ≡ Record at
+      → Judged (valueAsked f k is x v) (valueReserved f k is x v at) (numberOf (valueRead f k n r is x))
+  value-judged k n r is x v left at way there =
+      numbered (valueAsked f k is x v) (valueReserved f k is x v at) (valueRead f k n r is x)
+      (value-tells f k n r is x (λ a. Here 0) Here
+      (λ m h. absurd (found-not-stopped v left m (sym way ∙ h)))
+      (λ u rest m h g. absurd (not-lost u rest (same u rest h) m g))
+      (λ u rest o h g a w i j. move u rest o (same u rest h) g 0 (inr (inr (refl, i, j))))
+      (λ u rest o h g i. move u rest o (same u rest h) g 18 (inl (refl, i)))
+      (λ u rest o h g i j. move u rest o (same u rest h) g 22 (inr (inl (refl, i, j)))))
+    where
+      Here : ℕ → Type 0
+      Here = Judged (valueAsked f k is x v) (valueReserved f k is x v at)
+
+      same : (u rest : ℕ) → variableWay f k n ≡ Found u rest → (u ≡ v) × (rest ≡ left)
+      same u rest h = found-same v u left rest (sym h ∙ way)
+
+      on : (u rest : ℕ) → (u ≡ v) × (rest ≡ left) → wayOf f k r u rest ≡ Record at
+      on u rest e = ap (λ (z : ℕ). wayOf f k r z rest) (e .0) ∙ ap (λ (z : ℕ). wayOf f k r v z) (e .1) ∙ there
+
+      not-lost : (u rest : ℕ) → (u ≡ v) × (rest ≡ left) → (m : ℕ) → wayOf f k r u rest ≡ NoRecord m → ⊥
+      not-lost u rest e m g = record-not-lost at m (sym (on u rest e) ∙ g)
+
+      move : (u rest o : ℕ) → (u ≡ v) × (rest ≡ left) → wayOf f k r u rest ≡ Record o → (m : ℕ)
+          → Judged (valueAsked f k is x u) (valueReserved f k is x u o) m → Here m
+      move u rest o e g m j =
+          subst (λ (z : ℕ). Judged (valueAsked f k is x z) (valueReserved f k is x z at) m) (e .0)
+          (subst (λ (z : ℕ). Judged (valueAsked f k is x u) (valueReserved f k is x u z) m) (record-same o at (sym g ∙ on u rest e)) j)
 
   -- ---- an entry that was found
-  entry-judged : (b k n x : ℤ) (e left : ℕ) → entryWay f b k (Number n) ≡ Found e left
-      → Judged (elementThere (bodyOf f) (e + 24) x) (vaxFloat (bodyOf f) (e + 16)) (numberOf (entryRead f b k n x))
-  entry-judged b k n x e left way =
-      numbered (elementThere (bodyOf f) (e + 24) x) (vaxFloat (bodyOf f) (e + 16)) (entryRead f b k n x)
-      (entry-tells f b k n x (λ a. Judged (elementThere (bodyOf f) (e + 24) x) (vaxFloat (bodyOf f) (e + 16)) 0) (Judged (elementThere (bodyOf f) (e + 24) x) (vaxFloat (bodyOf f) (e + 16)))
+  entry-judged : (b k : ℤ) (w : Wanted) (x : ℤ) (e left : ℕ) → entryWay f b k w ≡ Found e left
+      → Judged (entryHas f x e) (entryReserved f x e) (numberOf (entryValue f b k w x))
+  entry-judged b k w x e left way =
+      numbered (entryHas f x e) (entryReserved f x e) (entryValue f b k w x)
+      (wanted-tells f b k w x (λ a. Judged (entryHas f x e) (entryReserved f x e) 0) (Judged (entryHas f x e) (entryReserved f x e))
       (λ m h. absurd (found-not-stopped e left m (sym way ∙ h)))
-      (λ u rest h a w i v.
-      let q = found-same e u left rest (sym h ∙ way) .0 in
-      inr (inr (refl, subst (λ (o : ℕ). elementThere (bodyOf f) (o + 24) x ≡ true) q i, subst (λ (o : ℕ). vaxFloat (bodyOf f) (o + 16) ≡ false) q v)))
-      (λ u rest h i. inl (refl, subst (λ (o : ℕ). elementThere (bodyOf f) (o + 24) x ≡ false) (found-same e u left rest (sym h ∙ way) .0) i))
-      (λ u rest h i v.
-      let q = found-same e u left rest (sym h ∙ way) .0 in
-      inr (inl (refl, subst (λ (o : ℕ). elementThere (bodyOf f) (o + 24) x ≡ true) q i, subst (λ (o : ℕ). vaxFloat (bodyOf f) (o + 16) ≡ true) q v))))
+      (λ u rest h t a i d. move u rest h 0 (inr (inr (refl, i, given-plain (bodyOf f) (entryAt (bodyOf f) u x) (u + 16) a d))))
+      (λ u rest h i. move u rest h 18 (inl (refl, i)))
+      (λ u rest h i j. move u rest h 22 (inr (inl (refl, i, j)))))
+    where
+      move : (u rest : ℕ) → entryWay f b k w ≡ Found u rest → (m : ℕ) → Judged (entryHas f x u) (entryReserved f x u) m
+          → Judged (entryHas f x e) (entryReserved f x e) m
+      move u rest h m = subst (λ (o : ℕ). Judged (entryHas f x o) (entryReserved f x o) m) (found-same e u left rest (sym h ∙ way) .0)
 
   -- ---- the pad value of a VDR that was found
-  pad-judged : (k n x : ℤ) (v left : ℕ) → variableWay f k n ≡ Found v left → Judged (padRight (bodyOf f) v x) (vaxFloat (bodyOf f) (v + 12)) (numberOf (padRead f k n x))
+  pad-judged : (k n x : ℤ) (v left : ℕ) → variableWay f k n ≡ Found v left → Judged (padHas f x v) (padReserved f x v) (numberOf (padRead f k n x))
   pad-judged k n x v left way =
-      numbered (padRight (bodyOf f) v x) (vaxFloat (bodyOf f) (v + 12)) (padRead f k n x)
-      (pad-tells f k n x (λ a. Judged (padRight (bodyOf f) v x) (vaxFloat (bodyOf f) (v + 12)) 0) (Judged (padRight (bodyOf f) v x) (vaxFloat (bodyOf f) (v + 12)))
+      numbered (padHas f x v) (padReserved f x v) (padRead f k n x)
+      (pad-tells f k n x (λ a. Judged (padHas f x v) (padReserved f x v) 0) (Judged (padHas f x v) (padReserved f x v))
       (λ m h. absurd (found-not-stopped v left m (sym way ∙ h)))
-      (λ u rest h a w i g.
-      let q = found-same v u left rest (sym h ∙ way) .0 in
-      inr (inr (refl, subst (λ (o : ℕ). padRight (bodyOf f) o x ≡ true) q i, subst (λ (o : ℕ). vaxFloat (bodyOf f) (o + 12) ≡ false) q g)))
-      (λ u rest h i. inl (refl, subst (λ (o : ℕ). padRight (bodyOf f) o x ≡ false) (found-same v u left rest (sym h ∙ way) .0) i))
-      (λ u rest h i g.
-      let q = found-same v u left rest (sym h ∙ way) .0 in
-      inr (inl (refl, subst (λ (o : ℕ). padRight (bodyOf f) o x ≡ true) q i, subst (λ (o : ℕ). vaxFloat (bodyOf f) (o + 12) ≡ true) q g))))
+      (λ u rest h a w i j. move u rest h 0 (inr (inr (refl, i, j))))
+      (λ u rest h i. move u rest h 18 (inl (refl, i)))
+      (λ u rest h i j. move u rest h 22 (inr (inl (refl, i, j)))))
+    where
+      move : (u rest : ℕ) → variableWay f k n ≡ Found u rest → (m : ℕ) → Judged (padHas f x u) (padReserved f x u) m → Judged (padHas f x v) (padReserved f x v) m
+      move u rest h m = subst (λ (o : ℕ). Judged (padHas f x o) (padReserved f x o) m) (found-same v u left rest (sym h ∙ way) .0)
 
   -- ---- a list none of whose entries has the number n
   none-sought : (t : ℕ) (n : ℤ) (es : List ℕ) (left p i : ℕ) → Linked f (λ e. e) p es → Each es (λ earlier e. isAt f (e + 20) n ≡ false)
@@ -102,12 +146,12 @@ module _ (f : List ℕ) where
 -- THE THEOREM of every file
 pub elements-refused : ElementsRefused
 elements-refused f = record {
-  entryWrong = λ b k n x e left way.
-      judged-wrong (elementThere (bodyOf f) (e + 24) x) (vaxFloat (bodyOf f) (e + 16)) (numberOf (entryRead f b k n x)) (entry-judged f b k n x e left way);
-  entryFloat = λ b k n x e left way.
-      judged-float (elementThere (bodyOf f) (e + 24) x) (vaxFloat (bodyOf f) (e + 16)) (numberOf (entryRead f b k n x)) (entry-judged f b k n x e left way);
-  padWrong = λ k n x v left way. judged-wrong (padRight (bodyOf f) v x) (vaxFloat (bodyOf f) (v + 12)) (numberOf (padRead f k n x)) (pad-judged f k n x v left way);
-  padFloat = λ k n x v left way. judged-float (padRight (bodyOf f) v x) (vaxFloat (bodyOf f) (v + 12)) (numberOf (padRead f k n x)) (pad-judged f k n x v left way);
+  valueWrong = λ k n r is x v left o way there. judged-wrong _ _ _ (value-judged f k n r is x v left o way there);
+  valueOperand = λ k n r is x v left o way there. judged-operand _ _ _ (value-judged f k n r is x v left o way there);
+  entryWrong = λ b k w x e left way. judged-wrong _ _ _ (entry-judged f b k w x e left way);
+  entryOperand = λ b k w x e left way. judged-operand _ _ _ (entry-judged f b k w x e left way);
+  padWrong = λ k n x v left way. judged-wrong _ _ _ (pad-judged f k n x v left way);
+  padOperand = λ k n x v left way. judged-operand _ _ _ (pad-judged f k n x v left way);
 }
 
 -- ---- 16 of an entry

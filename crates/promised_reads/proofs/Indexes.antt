@@ -20,7 +20,7 @@ use Rattle.variables.specs.Vdr.{variableOf}
 use Rattle.walk.specs.Numbers.{unless}
 use Rattle.walk.specs.Walk.{typeNumber, valuesNumber, lowerNumber}
 use Rattle.walk.specs.Levels.{mostOf}
-use Rattle.ways.specs.Indexes.{scanned, indexMet, afterScan, lastIndex, indexed, lowerMet, lowerScan, afterLower, lowered, lowestOf, valuesMet, valuesOf, looked, recordThere, recordRead, lookedUp, recordWay, levelsTold, levelsOf, levelsLooked, levelsWay}
+use Rattle.ways.specs.Indexes.{recordPlace, scanned, indexMet, afterScan, lastIndex, indexed, lowerMet, lowerScan, afterLower, lowered, lowestOf, valuesMet, valuesOf, looked, recordThere, recordRead, lookedUp, recordWay, levelsTold, levelsOf, levelsLooked, levelsWay}
 use Rattle.ways.specs.declared.indexes.Looked.the-variants.{At, Missing}
 use Rattle.ways.specs.declared.indexes.Scan.{Scan}
 use Rattle.ways.specs.declared.indexes.Scan.the-variants.{Covering, Passed, Broken}
@@ -304,17 +304,24 @@ module _ (f : List ℕ) where
         flat-join-length (entriesUnder f levelsBelow) (slotsOf f x) (usedEntries f xs),
       )
 
--- ---- what a lookup comes to: a lowest entry that covers the record; or 16, or 17
+-- ---- what a lookup comes to: a lowest entry that covers the record, and where the record of so many bytes begins; or 16, or 17
 module _ (f : List ℕ) (v : ℕ) (xs : List ℕ) (r : ℤ) where
   abbrev pub Taken : Type 0
   Taken = (recordThere f v r ≡ true) × (s : Slot) × (s ∈ lowestEntries f xs) × CoveredBy f (recordRead f v r) s
 
+  pub record Begins (bytes at : ℕ) : Type 0 where
+    pub there : recordThere f v r ≡ true
+    pub slot : Slot
+    pub member : slot ∈ lowestEntries f xs
+    pub covered : CoveredBy f (recordRead f v r) slot
+    pub is : at ≡ recordPlace (entryIs f slot) (recordRead f v r) bytes
+
   abbrev pub Lost : ℕ → Type 0
   Lost m = ((m ≡ 16) × (recordThere f v r ≡ false)) ⊎ ((m ≡ 17) × (recordThere f v r ≡ true) × NoneCovers f xs (recordRead f v r))
 
-  abbrev pub RecordOn : Values → Type 0
-  RecordOn (Record at) = Taken
-  RecordOn (Refused m) = Lost m
+  abbrev pub RecordOn : ℕ → Values → Type 0
+  RecordOn bytes (Record at) = Begins bytes at
+  RecordOn bytes (Refused m) = Lost m
 
   abbrev pub LevelsOn : Levels → Type 0
   LevelsOn (Are n) = Taken
@@ -387,17 +394,25 @@ module _ (f : List ℕ) (k v : ℕ) (xs : List ℕ) (vdr : VdrParts f k v) (list
           eq-eqb (vvrRule f (namedBy f t) (lastOf f t - firstOf f t + 1) (variableOf f k v .bytes)) 0 (values-read f k v (entryIs f t) (q .1)),
         )
 
-    pub record-on : (left : ℕ) → length (indexOffsets f xs) ≤ left → RecordOn f v xs r (recordWay f v (variableOf f k v .bytes) r left)
+    pub record-on : (left : ℕ) → length (indexOffsets f xs) ≤ left
+        → RecordOn f v xs r (variableOf f k v .bytes) (recordWay f v (variableOf f k v .bytes) r left)
     unfolding recordWay lookedUp
     record-on left h = go (recordThere f v r) refl
       where
-        on : recordThere f v r ≡ true → (i : Index) → On i → RecordOn f v xs r (valuesOf f (recordRead f v r) (variableOf f k v .bytes) i)
+        on : recordThere f v r ≡ true → (i : Index) → On i → RecordOn f v xs r (variableOf f k v .bytes) (valuesOf f (recordRead f v r) (variableOf f k v .bytes) i)
         on e (Halted m) a = inr (a .0, e, a .1)
         on e (Covered y rest) (a, n) =
             rw (subst (λ (y : Entry). valuesMet f y (variableOf f k v .bytes) rest ≡ true) (sym (a .is)) (values-met (a .slot) rest (a .member) n))
-            (e, a .slot, a .member, a .covered)
+            (record {
+              there = e;
+              slot = a .slot;
+              member = a .member;
+              covered = a .covered;
+              is = ap (λ (y : Entry). recordPlace y (recordRead f v r) (variableOf f k v .bytes)) (a .is);
+            })
 
-        go : (b : Bool) → recordThere f v r ≡ b → RecordOn f v xs r (looked f v (variableOf f k v .bytes) left (cond b (At (recordRead f v r)) Missing))
+        go : (b : Bool) → recordThere f v r ≡ b
+            → RecordOn f v xs r (variableOf f k v .bytes) (looked f v (variableOf f k v .bytes) left (cond b (At (recordRead f v r)) Missing))
         go true e = on e (lowestOf f (recordRead f v r) (indexed f (recordRead f v r) (v + 20) 0 left)) (lowest-way left h)
         go false e = inl (refl, e)
 

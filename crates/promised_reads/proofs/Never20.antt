@@ -1,5 +1,5 @@
 -- NEVER 20, on an accepted file. Assumes nothing.
-use mathlib.Core.Path.{_≡_, refl}
+use mathlib.Core.Path.{_≡_, refl, subst}
 use mathlib.Core.Logic.{_≢_, _⊎_, inl, inr}
 use mathlib.Core.Bool.{Bool, true, false, cond, _&&_}
 use mathlib.Core.List.{List}
@@ -17,17 +17,16 @@ use Rattle.ways.specs.declared.lists.Wanted.{Wanted}
 use Rattle.ways.specs.declared.lists.Way.{Way}
 use Rattle.ways.specs.declared.lists.Way.the-variants.{Found, Stopped}
 use Rattle.answers.specs.Answers.{numberOf, elementThere, elementRead, valueRead, entryOn, entryValue, padRead}
-use Rattle.answers.proofs.Telling.{Tells, element-tells}
-use Rattle.ways.proofs.Sought.{Finds, first-met, InOpened, ToEntry, entry-found}
+use Rattle.answers.proofs.Telling.{Tells}
 use Rattle.answers.specs.declared.Read.{Read}
 use Rattle.answers.specs.declared.Read.the-variants.{Value, Refused}
 use Rattle.descriptors.specs.Descriptors.{fieldNumber, nameNumber, isShown, fieldOn, variableField, attributeField, entryField, rowField, dimensionSize, dimensionsOn, variableDimensions, sizeOn, variableSize, varianceOn, variableVariance, variableLevels, nameOn, variableName, attributeName, said, fileField}
 use Rattle.descriptors.specs.declared.Field.{Field}
 use Rattle.descriptors.specs.declared.Field.the-variants.{Is, Refused as NoField}
-use Rattle.promised_reads.specs.Reading.{ValueShown, PadShown, LevelsShown, NeverTwenty, Never20, vaxFloat, RecordRefused, ValueRefused, LevelsRefused, PadRefused, GivenOrRefused, ShownOrRefused}
+use Rattle.promised_reads.specs.Reading.{ValueShown, PadShown, LevelsShown, NeverTwenty, Never20, reserved, padAt, padRight, RecordRefused, ValueRefused, LevelsRefused, PadRefused, GivenOrRefused, ShownOrRefused}
 use Rattle.demands.proofs.NestedDemand.{NestedAccepted}
 use Rattle.promised_reads.proofs.Accepted.{opens}
-use Rattle.promised_reads.proofs.Shown.{ordered, entry-lies, entry-sized, entry-element}
+use Rattle.promised_reads.proofs.Shown.{wanted-tells}
 use Rattle.promised_reads.proofs.Demand2Values.{nested, variable-stops, attribute-stops, entry-stops, reads-right}
 
 never : (Shown : Answer → Type 0) (Why : ℕ → Type 0) → ((m : ℕ) → Why m → m ≢ 20) → (s : Read) → GivenOrRefused Shown Why s → numberOf s ≢ 20
@@ -49,9 +48,7 @@ pad-why : (f : List ℕ) (k j x : ℤ) (m : ℕ) → PadRefused f k j x m → m 
 pad-why f k j x m (inl a) e = omega (arith, a .0)
 pad-why f k j x m (inr a) e = go (a .3)
   where
-    go : ((m ≡ 18) × ((bitAt f (a .1 + 28) 2 && elementThere f (a .1 + 48) x) ≡ false))
-        ⊎ ((m ≡ 19) × ((bitAt f (a .1 + 28) 2 && elementThere f (a .1 + 48) x) ≡ true) × (vaxFloat f (a .1 + 12) ≡ true))
-        → ⊥
+    go : ((m ≡ 18) × (padRight f (a .1) x ≡ false)) ⊎ ((m ≡ 22) × (padRight f (a .1) x ≡ true) × (reserved f (padAt f (a .1) x) (a .1 + 12) ≡ true)) → ⊥
     go (inl b) = omega (arith, b .0)
     go (inr b) = omega (arith, b .0)
 
@@ -126,23 +123,15 @@ module _ (f : List ℕ) (n : NestedAccepted f) where
   levels-go k j r (Is x) t = λ e. omega arith
   levels-go k j r (NoField m) t = levels-why body k j r m t
 
-  -- an entry that was found gives a value, 18 or 19
+  -- an entry that was found gives a value, 18 or 22
   entry-never : (b k : ℤ) (w : Wanted) (x : ℤ) → numberOf (entryValue f b k w x) ≢ 20
-  unfolding entryValue
-  entry-never b k w x = go (entryWay f b k w) (entry-goes b k w) (entry-found f b k w)
+  entry-never b k w x =
+      given (entryValue f b k w x)
+      (wanted-tells f b k w x (λ a. Unit {0}) (λ m. m ≢ 20) (λ m e. subst Goes e (entry-goes b k w)) (λ e left q t a h d. tt) (λ e left q h i. omega arith) (λ e left q h g i. omega arith))
     where
       given : (s : Read) → Tells (λ a. Unit {0}) (λ m. m ≢ 20) s → numberOf s ≢ 20
       given (Value a) t = λ q. omega arith
       given (Refused m) t = t
-
-      go : (way : Way) → Goes way → Finds (InOpened f (ToEntry b k w)) way → numberOf (entryOn body x way) ≢ 20
-      go (Stopped m) h t = h
-      go (Found e left) h t =
-          let m = first-met body (kindAmong 5 9 k) w (t .1 .adr + entriesPlace (kindAmong 5 9 k)) 0 e (t .1 .entry) in
-          given (elementRead body (e + 48) (e + 16) (e + 24) x)
-          (element-tells body (e + 48) (e + 16) (e + 24) x (λ a. Unit {0}) (λ v. v ≢ 20) (λ i q. omega arith) (λ i v q. omega arith)
-          (entry-sized body k e m) (ordered f (t .0))
-          (λ i. omega (arith, entry-element body k e m x i, entry-lies body k e m .inside)) (λ a i o d. tt))
 
   pub never-twenty : NeverTwenty f
   unfolding variableField attributeField entryField dimensionSize variableDimensions variableSize variableVariance variableName attributeName fileField

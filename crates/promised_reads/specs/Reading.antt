@@ -1,5 +1,5 @@
 -- WHAT THE READER SHOWS: statements about its definitions, of every file, and of every file that the plain run accepts.
--- Document 01, "Values" and "Numbers that come back"; requests #104 and #101. Assumes nothing.
+-- Document 01, "Values" and "Numbers that come back"; requests #104, #101 and #102. Assumes nothing.
 use mathlib.Core.Path.{_≡_}
 use mathlib.Core.Logic.{_≢_, _↔_, _⊎_}
 use mathlib.Core.Bool.{Bool, true, false, cond, _&&_}
@@ -8,10 +8,12 @@ use Prim.Native.Nat.{ℕ, zero, suc, _+_, _-_, _*_, _≤_, _<_}
 use lib.ListN.{length}
 use lib.IntN.{ℤ, pos}
 use lib.Signed.{leZ, ltZ}
+use Rattle.format.specs.Bytes.{OfBytes}
 use Rattle.format.specs.Fields.{fieldAt, eqZ, isAt, atLeast, natAt, natOr, linkAt, bitAt}
 use Rattle.format.specs.Types.{typeOf}
 use Rattle.format.specs.Encodings.{encodingOf}
-use Rattle.values.specs.Values.{isVax, decodedOf}
+use Rattle.values.specs.Values.{isVax, reservedFloat}
+use Rattle.values.specs.Agreement.{Agrees, VaxGiven}
 use Rattle.values.specs.declared.value.Answer.{Answer}
 use Rattle.values.specs.declared.value.Decoded.the-variants.{Given}
 use Rattle.records.specs.Rules.{sizeAt, typedAt}
@@ -19,17 +21,17 @@ use Rattle.records.specs.Opening.{gdrAt, bodyOf, Unpadded}
 use Rattle.records.specs.Attributes.{elementSize}
 use Rattle.records.specs.Index.{usedAt}
 use Rattle.records.specs.Tree.{Slot, usedEntries, firstOf, lastOf, namedBy, levelsBelow, namesIndex, lowerSlots, lowest, lowestEntries, entriesUnder}
-use Rattle.variables.specs.Vdr.{layoutOf, valueBytes, recordBytes}
+use Rattle.variables.specs.Vdr.{layoutOf, valueBytes, recordBytes, variableOf}
 use Rattle.variables.specs.Place.{elementPlace, placed}
 use Rattle.checker.specs.Step.{answerOf}
 use Rattle.demands.specs.Acceptance.{_∈_, Each, Linked, IndexRight}
 use Rattle.demands.specs.Demands.{endStage}
 use Rattle.ways.specs.Lists.{meets, headPlace, entriesPlace, ofKinds, kindAmong, variableWay, entryWay}
-use Rattle.ways.specs.Indexes.{recordVaries, recordThere, recordRead, indexMet, lowerMet}
+use Rattle.ways.specs.Indexes.{recordVaries, recordThere, recordRead, indexMet, lowerMet, recordWay}
 use Rattle.ways.specs.declared.lists.Wanted.{Wanted}
-use Rattle.ways.specs.declared.lists.Wanted.the-variants.{Number}
 use Rattle.ways.specs.declared.lists.Way.the-variants.{Found}
-use Rattle.answers.specs.Answers.{numberOf, encodingAt, rowMajority, elementThere, valueRead, entryValue, entryRead, padRead}
+use Rattle.ways.specs.declared.indexes.Values.the-variants.{Record}
+use Rattle.answers.specs.Answers.{numberOf, encodingAt, rowMajority, elementThere, elementAt, elementOf, valueRead, entryValue, entryRead, padRead}
 use Rattle.answers.specs.declared.Read.{Read}
 use Rattle.answers.specs.declared.Read.the-variants.{Value, Refused}
 use Rattle.descriptors.specs.Descriptors.{fieldNumber, nameNumber, variableField, attributeField, entryField, dimensionSize, variableSize, variableVariance, variableLevels, variableName, attributeName, fileField}
@@ -87,6 +89,42 @@ pub record IndexWay (f : List ℕ) (v r : ℕ) : Type 0 where
   -- each of its entries covers the record
   pub covered : (s : Slot) → s ∈ (top ∷ below) → CoveredBy f r s
 
+-- ---- AN ELEMENT: its offset and its decoding, by the place t of its data type
+
+-- a float of that data type in encoding 3, 14 or 15, and one whose bytes at an offset are the reserved operand
+abbrev pub vaxFloat : List ℕ → ℕ → Bool
+vaxFloat f t = isVax (typeOf (natAt f t) .kind) (encodingOf (encodingAt f) .float)
+
+abbrev pub reserved : List ℕ → ℕ → ℕ → Bool
+reserved f at t = reservedFloat f at (typeOf (natAt f t) .kind) (encodingOf (encodingAt f) .float)
+
+-- the answer a is the element at an offset
+pub record ElementShown (f : List ℕ) (at t : ℕ) (a : Answer) : Type 0 where
+  -- "with it comes the file offset it was read from"
+  pub offset : a .offset ≡ at
+  -- what data type and encoding make of the bytes there; "Floats keep their bits"
+  pub decoded : elementOf f at t ≡ Given a
+  -- the bits are those of the value
+  pub bits : OfBytes f → Agrees (a .value) (a .bits)
+  -- #102: "Turn F_FLOAT, D_FLOAT and G_FLOAT .. into doubles"
+  pub vax : vaxFloat f t ≡ true → VaxGiven f at (typeOf (natAt f t) .kind) (encodingOf (encodingAt f) .float) a
+
+-- where layout and majority put element x of the value at the indices `is`: in the record that begins at o, of the VDR at v, of kind k
+abbrev pub inRecordAt : List ℕ → ℕ → ℕ → ℕ → List ℤ → ℤ → ℕ
+inRecordAt f k v o is x = elementAt f (o + elementPlace f (layoutOf f k v) (rowMajority f) is * valueBytes f v) (v + 12) x
+
+-- in record r, which the lowest entry s covers: "VVR (7). Size 8 + (Last - First + 1) × record bytes"
+abbrev pub valueAt : List ℕ → ℕ → ℕ → Slot → ℕ → List ℤ → ℤ → ℕ
+valueAt f k v s r is x = inRecordAt f k v (namedBy f s + 8 + (r - firstOf f s) * recordBytes f v (layoutOf f k v)) is x
+
+-- "data type 16, .. elements 24 .., value from 48": element x of the entry at e
+abbrev pub entryAt : List ℕ → ℕ → ℤ → ℕ
+entryAt f e x = elementAt f (e + 48) (e + 16) x
+
+-- "Pad value last if bit 1 is set": it ends with the VDR at v
+abbrev pub padAt : List ℕ → ℕ → ℤ → ℕ
+padAt f v x = elementAt f (v + sizeAt f v - valueBytes f v) (v + 12) x
+
 -- n bytes from an offset lie in the record at o, behind its first h bytes
 pub record LiesIn (f : List ℕ) (o h offset n : ℕ) : Type 0 where
   pub begins : o + h ≤ offset
@@ -114,16 +152,8 @@ pub record ValueShown (f : List ℕ) (k n r : ℤ) (is : List ℤ) (x : ℤ) (a 
   -- "dimension index or element out of range, or wrong number of indices" is 18
   pub indices : placed f (layoutOf f (kindAmong 3 8 k) vdr) is ≡ true
   pub element : elementThere f (vdr + 48) x ≡ true
-  -- where layout and majority put it: in the record, in the place by majority, in the value
-  pub offset :
-      a .offset
-      ≡ namedBy f slot + 8
-      + (recordRead f vdr r - firstOf f slot) * recordBytes f vdr (layoutOf f (kindAmong 3 8 k) vdr)
-      + elementPlace f (layoutOf f (kindAmong 3 8 k) vdr) (rowMajority f) is * valueBytes f vdr
-      + natOr 0 x * elementSize f (vdr + 12)
-  pub inside : LiesIn f (namedBy f slot) 8 (a .offset) (elementSize f (vdr + 12))
-  -- what data type and encoding make of the bytes there
-  pub decoded : decodedOf f (a .offset) (natAt f (vdr + 12)) (encodingAt f) ≡ Given a
+  pub inside : LiesIn f (namedBy f slot) 8 (valueAt f (kindAmong 3 8 k) vdr slot (recordRead f vdr r) is x) (elementSize f (vdr + 12))
+  pub shown : ElementShown f (valueAt f (kindAmong 3 8 k) vdr slot (recordRead f vdr r) is x) (vdr + 12) a
 
 -- what is shown for element x of the entry of number n, of kind k, of attribute b
 pub record EntryShown (f : List ℕ) (b k n x : ℤ) (a : Answer) : Type 0 where
@@ -138,11 +168,9 @@ pub record EntryShown (f : List ℕ) (b k n x : ℤ) (a : Answer) : Type 0 where
   pub entry : Met f (kindAmong 5 9 k) (adr + entriesPlace (kindAmong 5 9 k)) place aedr
   pub first : isAt f (aedr + 20) n ≡ true
   pub earlier : (h : ℕ) → h < place → isAt f (nthRecord f (adr + entriesPlace (kindAmong 5 9 k)) h + 20) n ≡ false
-  -- "data type 16, .. elements 24 .., value from 48"
   pub element : elementThere f (aedr + 24) x ≡ true
-  pub offset : a .offset ≡ aedr + 48 + natOr 0 x * elementSize f (aedr + 16)
-  pub inside : LiesIn f aedr 48 (a .offset) (elementSize f (aedr + 16))
-  pub decoded : decodedOf f (a .offset) (natAt f (aedr + 16)) (encodingAt f) ≡ Given a
+  pub inside : LiesIn f aedr 48 (entryAt f aedr x) (elementSize f (aedr + 16))
+  pub shown : ElementShown f (entryAt f aedr x) (aedr + 16) a
 
 -- what is shown for element x of the pad value of the variable of kind k and number n
 pub record PadShown (f : List ℕ) (k n x : ℤ) (a : Answer) : Type 0 where
@@ -150,12 +178,10 @@ pub record PadShown (f : List ℕ) (k n x : ℤ) (a : Answer) : Type 0 where
   pub number : leZ (pos 0) n ≡ true
   pub vdr : ℕ
   pub variable : Met f (kindAmong 3 8 k) (headPlace f (kindAmong 3 8 k)) (natOr 0 n) vdr
-  -- "Pad value last if bit 1 is set": it ends with the VDR
   pub pad : bitAt f (vdr + 28) 2 ≡ true
   pub element : elementThere f (vdr + 48) x ≡ true
-  pub offset : a .offset + valueBytes f vdr ≡ vdr + sizeAt f vdr + natOr 0 x * elementSize f (vdr + 12)
-  pub inside : LiesIn f vdr 128 (a .offset) (elementSize f (vdr + 12))
-  pub decoded : decodedOf f (a .offset) (natAt f (vdr + 12)) (encodingAt f) ≡ Given a
+  pub inside : LiesIn f vdr 128 (padAt f vdr x) (elementSize f (vdr + 12))
+  pub shown : ElementShown f (padAt f vdr x) (vdr + 12) a
 
 -- what is shown as the number of levels that the index of the variable of kind k and number n has on the way to record r
 pub record LevelsShown (f : List ℕ) (k n r : ℤ) (levels : ℤ) : Type 0 where
@@ -212,10 +238,6 @@ variableThere f k n = ofKinds 3 8 k && placeThere f (gdrAt f + cond (eqZ k (pos 
 abbrev pub attributeThere : List ℕ → ℤ → ℤ → Bool
 attributeThere f b k = ofKinds 5 9 k && placeThere f (gdrAt f + 28) b
 
--- a float of the data type whose number stands at t, in encoding 3, 14 or 15
-abbrev pub vaxFloat : List ℕ → ℕ → Bool
-vaxFloat f t = isVax (typeOf (natAt f t) .kind) (encodingOf (encodingAt f) .float)
-
 -- a pad value, and an element of it that is there
 abbrev pub padRight : List ℕ → ℕ → ℤ → Bool
 padRight f v x = bitAt f (v + 28) 2 && elementThere f (v + 48) x
@@ -245,9 +267,10 @@ pub record NumbersExact (f b : List ℕ) (k n : ℤ) (v : ℕ) (vxrs : List ℕ)
   -- 18: "dimension index or element out of range, or wrong number of indices"
   pub wrong : (r : ℤ) → recordThere b v r ≡ true → (s : Slot) → s ∈ lowestEntries b vxrs → CoveredBy b (recordRead b v r) s → (is : List ℤ) (x : ℤ)
       → (numberOf (valueRead f k n r is x) ≡ 18) ↔ (questionRight b (kindAmong 3 8 k) v is x ≡ false)
-  -- 19: "float in encoding 3, 14 or 15"
-  pub float : (r : ℤ) → recordThere b v r ≡ true → (s : Slot) → s ∈ lowestEntries b vxrs → CoveredBy b (recordRead b v r) s → (is : List ℤ) (x : ℤ)
-      → (numberOf (valueRead f k n r is x) ≡ 19) ↔ ((questionRight b (kindAmong 3 8 k) v is x && vaxFloat b (v + 12)) ≡ true)
+  -- "it is the reserved operand, refused with 22"
+  pub operand : (r : ℤ) → recordThere b v r ≡ true → (s : Slot) → s ∈ lowestEntries b vxrs → CoveredBy b (recordRead b v r) s → (is : List ℤ) (x : ℤ)
+      → (numberOf (valueRead f k n r is x) ≡ 22)
+      ↔ ((questionRight b (kindAmong 3 8 k) v is x && reserved b (valueAt b (kindAmong 3 8 k) v s (recordRead b v r) is x) (v + 12)) ≡ true)
   -- 16 and 17 of the number of levels
   pub noLevels : (r : ℤ) → (fieldNumber (variableLevels f k n r) ≡ 16) ↔ (recordThere b v r ≡ false)
   pub gapLevels : (r : ℤ) → recordThere b v r ≡ true → (fieldNumber (variableLevels f k n r) ≡ 17) ↔ NoneCovers b vxrs (recordRead b v r)
@@ -286,16 +309,26 @@ NoEntryNumber = (f : List ℕ) → PlainAccepts f → (b k n x : ℤ)
     → (numberOf (entryRead f b k n x) ≡ 16)
     ↔ ((attributeThere (bodyOf f) b k ≡ true) × (a : ℕ) × Met (bodyOf f) 4 (headPlace (bodyOf f) 4) (natOr 0 b) a × NoEntry (bodyOf f) a (kindAmong 5 9 k) n)
 
--- of every file: 18 and 19 of an entry that was found at e, and of the pad value of a VDR that was found at v
+-- of every file, where the way to the values was found: 18, and 22, "the reserved operand, refused with 22"
 pub record ElementsExact (f : List ℕ) : Type 0 where
-  pub entryWrong : (b k n x : ℤ) (e left : ℕ) → entryWay f b k (Number n) ≡ Found e left
-      → (numberOf (entryRead f b k n x) ≡ 18) ↔ (elementThere (bodyOf f) (e + 24) x ≡ false)
-  pub entryFloat : (b k n x : ℤ) (e left : ℕ) → entryWay f b k (Number n) ≡ Found e left
-      → (numberOf (entryRead f b k n x) ≡ 19) ↔ ((elementThere (bodyOf f) (e + 24) x && vaxFloat (bodyOf f) (e + 16)) ≡ true)
-  -- "pad value as elements (18 if there is none)"
+  -- of the record that begins at o
+  pub valueWrong : (k n r : ℤ) (is : List ℤ) (x : ℤ) (v left o : ℕ) → variableWay f k n ≡ Found v left
+      → recordWay (bodyOf f) v (variableOf (bodyOf f) (kindAmong 3 8 k) v .bytes) r left ≡ Record o
+      → (numberOf (valueRead f k n r is x) ≡ 18) ↔ (questionRight (bodyOf f) (kindAmong 3 8 k) v is x ≡ false)
+  pub valueOperand : (k n r : ℤ) (is : List ℤ) (x : ℤ) (v left o : ℕ) → variableWay f k n ≡ Found v left
+      → recordWay (bodyOf f) v (variableOf (bodyOf f) (kindAmong 3 8 k) v .bytes) r left ≡ Record o
+      → (numberOf (valueRead f k n r is x) ≡ 22)
+      ↔ ((questionRight (bodyOf f) (kindAmong 3 8 k) v is x && reserved (bodyOf f) (inRecordAt (bodyOf f) (kindAmong 3 8 k) v o is x) (v + 12)) ≡ true)
+  -- of the entry at e, wanted by its number or by its place
+  pub entryWrong : (b k : ℤ) (w : Wanted) (x : ℤ) (e left : ℕ) → entryWay f b k w ≡ Found e left
+      → (numberOf (entryValue f b k w x) ≡ 18) ↔ (elementThere (bodyOf f) (e + 24) x ≡ false)
+  pub entryOperand : (b k : ℤ) (w : Wanted) (x : ℤ) (e left : ℕ) → entryWay f b k w ≡ Found e left
+      → (numberOf (entryValue f b k w x) ≡ 22)
+      ↔ ((elementThere (bodyOf f) (e + 24) x && reserved (bodyOf f) (entryAt (bodyOf f) e x) (e + 16)) ≡ true)
+  -- of the VDR at v: "pad value as elements (18 if there is none)"
   pub padWrong : (k n x : ℤ) (v left : ℕ) → variableWay f k n ≡ Found v left → (numberOf (padRead f k n x) ≡ 18) ↔ (padRight (bodyOf f) v x ≡ false)
-  pub padFloat : (k n x : ℤ) (v left : ℕ) → variableWay f k n ≡ Found v left
-      → (numberOf (padRead f k n x) ≡ 19) ↔ ((padRight (bodyOf f) v x && vaxFloat (bodyOf f) (v + 12)) ≡ true)
+  pub padOperand : (k n x : ℤ) (v left : ℕ) → variableWay f k n ≡ Found v left
+      → (numberOf (padRead f k n x) ≡ 22) ↔ ((padRight (bodyOf f) v x && reserved (bodyOf f) (padAt (bodyOf f) v x) (v + 12)) ≡ true)
 
 abbrev pub ElementsRefused : Type 0
 ElementsRefused = (f : List ℕ) → ElementsExact f
@@ -335,9 +368,9 @@ RecordRefused f t v r is x m =
     ⊎ (((m ≡ 17) × (recordThere f v r ≡ true) × InGap f v (recordRead f v r))
     -- 18: "dimension index or element out of range, or wrong number of indices"
     ⊎ (((m ≡ 18) × (recordThere f v r ≡ true) × InRange f v (recordRead f v r) × (questionRight f t v is x ≡ false))
-    -- 19: "float in encoding 3, 14 or 15"
-    ⊎ ((m ≡ 19) × (recordThere f v r ≡ true) × InRange f v (recordRead f v r) × (questionRight f t v is x ≡ true)
-    × (vaxFloat f (v + 12) ≡ true))))
+    -- 22: "the reserved operand"
+    ⊎ ((m ≡ 22) × (recordThere f v r ≡ true) × (i : InRange f v (recordRead f v r)) × (questionRight f t v is x ≡ true)
+    × (reserved f (valueAt f t v (i .slot) (recordRead f v r) is x) (v + 12) ≡ true))))
 
 abbrev pub ValueRefused : List ℕ → ℤ → ℤ → ℤ → List ℤ → ℤ → ℕ → Type 0
 ValueRefused f k n r is x m =
@@ -360,8 +393,8 @@ PadRefused f k n x m =
     ⊎ ((variableThere f k n ≡ true) × (v : ℕ) × Met f (kindAmong 3 8 k) (headPlace f (kindAmong 3 8 k)) (natOr 0 n) v
     -- "pad value as elements (18 if there is none)"; 18: "element out of range"
     × (((m ≡ 18) × (padRight f v x ≡ false))
-    -- 19: "float in encoding 3, 14 or 15"
-    ⊎ ((m ≡ 19) × (padRight f v x ≡ true) × (vaxFloat f (v + 12) ≡ true))))
+    -- 22: "the reserved operand"
+    ⊎ ((m ≡ 22) × (padRight f v x ≡ true) × (reserved f (padAt f v x) (v + 12) ≡ true))))
 
 abbrev pub EntryRefused : List ℕ → ℤ → ℤ → ℤ → ℤ → ℕ → Type 0
 EntryRefused f b k n x m =
@@ -373,8 +406,8 @@ EntryRefused f b k n x m =
     ⊎ ((e : ℕ) × (place : ℕ) × Met f (kindAmong 5 9 k) (a + entriesPlace (kindAmong 5 9 k)) place e × (isAt f (e + 20) n ≡ true)
     -- 18: "element out of range"
     × (((m ≡ 18) × (elementThere f (e + 24) x ≡ false))
-    -- 19: "float in encoding 3, 14 or 15"
-    ⊎ ((m ≡ 19) × (elementThere f (e + 24) x ≡ true) × (vaxFloat f (e + 16) ≡ true))))))
+    -- 22: "the reserved operand"
+    ⊎ ((m ≡ 22) × (elementThere f (e + 24) x ≡ true) × (reserved f (entryAt f e x) (e + 16) ≡ true))))))
 
 -- ---- DEMAND 2, its second half: "From an accepted file the reader gives the value that layout and encoding give, or the named refusal"
 

@@ -1,17 +1,19 @@
 -- The sizes of data types, computed over the table's rows, and numbers of that many bytes. Assumes nothing.
 use mathlib.Core.Path.{_≡_, sym}
-use mathlib.Core.Bool.{Bool, true, false, not, cond, _&&_}
+use mathlib.Core.Bool.{Bool, true, false, not, cond, _&&_, _||_, false≢true}
 use mathlib.Core.List.{List, [], _∷_}
 use Prim.Native.Nat.{ℕ, _^_, _≤_, _<_}
 use native.Mathlib.Nat.{pow-le-pow-right, lt-of-lt-of-le, le-trans}
 use native.Mathlib.Omega.{arith}
 use borrow.Author.Tests.{le-ltb, ne-eqb}
-use lib.Dec.{T, leb, ltb, eqb, lit<, lit≤}
+use lib.Dec.{T, leb, ltb, eqb, lit<, lit≤, eqb→eq}
 use mir.Facts.{and-yes, leb-yes, eqb-no}
 use Rattle.format.specs.Tables.{lookup}
-use Rattle.format.specs.Types.{typeOf, types, takes, signed, double}
+use Rattle.format.specs.Types.{typeOf, types, takes, signed, single, double}
+use Rattle.format.specs.Encodings.{ieee}
 use Rattle.format.specs.declared.types.DataType.{DataType}
 use Rattle.values.specs.Elements.{greatest, Element}
+use Rattle.values.specs.Values.{isVax, vaxBytes}
 
 abbrev allRows : {A : Type 0} → (A → Bool) → List (ℕ × A) → Bool
 allRows ok [] = true
@@ -64,3 +66,23 @@ within {size} k h below = lt-of-lt-of-le below (pow-le-pow-right {n = 256} (lit<
 -- kinds above double take one byte
 pub greatest-code : (kind : ℕ) → double < kind → greatest kind ≡ 1
 greatest-code kind h = rw (le-ltb kind double (omega arith), ne-eqb kind double (λ e. omega arith))
+
+-- of a data type whose floats can be VAX floats: it takes as many bytes as the VAX float does
+abbrev vaxSized : DataType → Bool
+vaxSized d = not (eqb (d .kind) single || eqb (d .kind) double) || eqb (d .size) (vaxBytes (d .kind))
+
+type-vax : (t : ℕ) → T (vaxSized (typeOf t))
+unfolding typeOf
+type-vax t = lookup-all vaxSized (takes 0 signed) types t tt tt
+
+from-test : (a b c : Bool) → (a && b) ≡ true → T (not b || c) → T c
+from-test true true c e t = t
+from-test true false c e t = absurd (false≢true e)
+from-test false b c e t = absurd (false≢true e)
+
+pub vax-size : (t : ℕ) (d : DataType) → d ≡ typeOf t → (float : ℕ) → isVax (d .kind) float ≡ true → d .size ≡ vaxBytes (d .kind)
+unfolding isVax
+vax-size t d e float h =
+    eqb→eq (d .size) (vaxBytes (d .kind))
+    (from-test (not (eqb float ieee)) (eqb (d .kind) single || eqb (d .kind) double) (eqb (d .size) (vaxBytes (d .kind))) h
+    (rw (sym e) at (type-vax t)))

@@ -8,14 +8,18 @@ use lib.Ieee.{binary32, binary64, ofBits}
 use Rattle.format.specs.Bytes.{bigAt, littleAt, signedOf}
 use Rattle.format.specs.Fields.{endOf}
 use Rattle.format.specs.Types.{signed, unsigned, single, double, code, typeOf}
-use Rattle.format.specs.Encodings.{big, ieee, encodingOf}
+use Rattle.format.specs.Encodings.{big, ieee, vaxD, encodingOf}
 use Rattle.format.specs.declared.types.DataType.{DataType}
 use Rattle.format.specs.declared.encodings.Encoding.{Encoding}
+use Rattle.vax.specs.Layouts.{Kind, ffloat, dfloat, gfloat}
+use Rattle.vax.specs.Vax.{reservedAt}
+use Rattle.vax.specs.Rounding.{vaxAt}
+use Rattle.vax.specs.declared.Vax.{Vax}
 use Rattle.values.specs.declared.value.Value.{Value}
 use Rattle.values.specs.declared.value.Value.the-variants.{Signed, Unsigned, Single, Double, Code}
 use Rattle.values.specs.declared.value.Answer.{Answer}
 use Rattle.values.specs.declared.value.Decoded.{Decoded}
-use Rattle.values.specs.declared.value.Decoded.the-variants.{Given, Vax, Nothing}
+use Rattle.values.specs.declared.value.Decoded.the-variants.{Given, Reserved, Nothing}
 
 -- "one case per kind, signed, unsigned, single, double or character code": the number of each
 abbrev pub kindOf : Value → ℕ
@@ -24,12 +28,6 @@ kindOf (Unsigned n) = unsigned
 kindOf (Single x) = single
 kindOf (Double x) = double
 kindOf (Code n) = code
-
--- the number that comes back: "value given", "float in encoding 3, 14 or 15", "the way to the answer breaks a rule"
-abbrev pub refusalOf : Decoded → ℕ
-refusalOf (Given a) = 0
-refusalOf Vax = 19
-refusalOf Nothing = 20
 
 -- the number of the n bytes at an offset: "big-endian, the rest little-endian"
 unfoldable pub rawAt : List ℕ → ℕ → ℕ → ℕ → ℕ
@@ -49,7 +47,7 @@ abbrev pub extendedOf : ℤ → ℕ
 extendedOf (pos n) = n
 extendedOf (negsuc n) = 2 ^ 64 - suc n
 
--- a signed value sign-extended; of any other the bytes' own bits: "Floats keep their bits", a NaN's too
+-- a signed value sign-extended; of any other that is no VAX float the bytes' own bits: "Floats keep their bits", a NaN's too
 unfoldable pub bitsOf : ℕ → ℕ → ℕ → ℕ
 bitsOf kind size n = cond (eqb kind signed) (extendedOf (signedOf (8 * size - 1) n)) n
 
@@ -61,15 +59,32 @@ answerOf kind size n at = record { value = valueOf kind size n; bits = bitsOf ki
 unfoldable pub isVax : ℕ → ℕ → Bool
 isVax kind float = not (eqb float ieee) && (eqb kind single || eqb kind double)
 
+-- the kind of VAX float that a single and a double are: an F_FLOAT, and by the encoding a D_FLOAT (3, 14) or a G_FLOAT (15), table 5.11 of the format
+-- description; and how many bytes it takes
+abbrev pub vaxKind : ℕ → ℕ → Kind
+vaxKind kind float = cond (eqb kind single) ffloat (cond (eqb float vaxD) dfloat gfloat)
+
+abbrev pub vaxBytes : ℕ → ℕ
+vaxBytes kind = cond (eqb kind single) 4 8
+
+-- the bytes at an offset are a reserved operand
+unfoldable pub reservedFloat : List ℕ → ℕ → ℕ → ℕ → Bool
+reservedFloat f at kind float = isVax kind float && reservedAt (vaxKind kind float) f at
+
+-- "Single-precision types in these encodings now answer with a double"; its bits are the double's own
+abbrev pub vaxAnswer : Vax → ℕ → Decoded
+vaxAnswer (Vax.Given r) at = Given (record { value = Double (ofBits binary64 r); bits = r; offset = at })
+vaxAnswer Vax.Reserved at = Reserved
+
 -- no data type's size, no encoding's byte order, or an element that does not lie before the file's end
 unfoldable pub isNothing : List ℕ → ℕ → ℕ → ℕ → Bool
 isNothing f at size order = eqb size 0 || (eqb order 0 || ltb (endOf f) (at + size))
 
--- "the first in the order 20, .. 19 is given"
+-- "22 takes its place in the order, last"
 abbrev pub decodedBy : List ℕ → ℕ → DataType → Encoding → Decoded
 decodedBy f at d c =
     cond (isNothing f at (d .size) (c .order)) Nothing
-    (cond (isVax (d .kind) (c .float)) Vax
+    (cond (isVax (d .kind) (c .float)) (vaxAnswer (vaxAt (vaxKind (d .kind) (c .float)) f at) at)
     (Given (answerOf (d .kind) (d .size) (rawAt f at (d .size) (c .order)) at)))
 
 -- the element at an offset, of the data type t in the encoding e

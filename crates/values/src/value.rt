@@ -5,13 +5,15 @@ ghost use lib.ListN.{length};
 ghost use Rattle.format.specs.Bytes.{signedOf};
 ghost use Rattle.format.specs.Types.{signed};
 ghost use Rattle.values.specs.Elements.{Element};
-ghost use Rattle.values.specs.Values.{rawAt, extendedOf, valueOf, bitsOf, answerOf, isVax, decodedOf};
+ghost use Rattle.vax.specs.Rounding.{vaxAt};
+ghost use Rattle.values.specs.Values.{rawAt, extendedOf, valueOf, bitsOf, answerOf, isVax, vaxKind, vaxBytes, vaxAnswer, decodedOf};
 use crate::floats;
 use format::bytes;
 use format::encodings;
 use format::fields;
 use format::signed;
 use format::types;
+use vax::Vax;
 
 // A value: one case for each kind.
 pub enum Value {
@@ -23,17 +25,17 @@ pub enum Value {
 }
 
 // A value, its bits, and the file offset that it was read from. The bits of a signed value are
-// sign-extended; those of a float are the file's, so that a NaN loses nothing.
+// sign-extended; those of a float are its own, a NaN's too, and those of a VAX float are the double's.
 pub struct Answer {
     pub value: Value,
     pub bits: u64,
     pub offset: u64,
 }
 
-// What is at an offset: a value, a VAX float, or no element.
+// What is at an offset: a value, the reserved operand of VAX floats, or no element.
 pub enum Decoded {
     Given(Answer),
-    Vax,
+    Reserved,
     Nothing,
 }
 
@@ -122,6 +124,34 @@ fn is_vax(kind: u32, float: u32) -> bool
     kind == 2 || kind == 3
 }
 
+// The VAX float at an offset: a single is an F_FLOAT, a double a D_FLOAT or a G_FLOAT by the float kind.
+fn vax_at(f: &[u8], at: usize, kind: u32, float: u32) -> Vax
+    requires { ⌜ at + vaxBytes kind ≤ length (now f) ⌝ }
+    ensures { λ r. ⌜ r ≡ vaxAt (vaxKind kind float) (now (f .entry)) at ⌝ }
+{
+    if kind == 2 {
+        return vax::f_float(f, at);
+    }
+    if float == 2 {
+        return vax::d_float(f, at);
+    }
+    vax::g_float(f, at)
+}
+
+// A VAX float as an answer: a double and its bits.
+fn vax_answer(v: Vax, at: u64) -> Decoded
+    ensures { λ r. ⌜ r ≡ vaxAnswer v at ⌝ }
+{
+    match v {
+        Vax::Given(n) => Decoded::Given(Answer {
+            value: Value::Double(floats::double_of(n)),
+            bits: n,
+            offset: at,
+        }),
+        Vax::Reserved => Decoded::Reserved,
+    }
+}
+
 // The element at an offset, of a data type in an encoding.
 pub fn decode(f: &[u8], at: u32, t: u32, e: u32) -> Decoded
     ensures { λ r. ⌜ r ≡ decodedOf (now (f .entry)) at t e ⌝ }
@@ -140,7 +170,7 @@ pub fn decode(f: &[u8], at: u32, t: u32, e: u32) -> Decoded
         return Decoded::Nothing;
     }
     if is_vax(d.kind, c.float) {
-        return Decoded::Vax;
+        return vax_answer(vax_at(f, at as usize, d.kind, c.float), at as u64);
     }
     let n = raw(f, at as usize, size as usize, order);
     Decoded::Given(answer_of(d.kind, size, n, at as u64))
