@@ -30,7 +30,7 @@ extern "C" {
 
 /*
  * The numbers that come back. A finished check has one of 0 to 14, 20 or 23. A call of the reader gives 0 or one of 15 to
- * 20; of several refusals it gives the first in the order 20, 15, 16, 17, 18, 19.
+ * 18, 20 or 22; of several refusals it gives the first in the order 20, 15, 16, 17, 18, 22.
  */
 #define TLZ_RUNNING (-1)           /* not finished: no verdict yet */
 #define TLZ_ACCEPTED 0             /* the whole file was checked and keeps every rule */
@@ -56,10 +56,10 @@ extern "C" {
 #define TLZ_NO_SUCH_RECORD 16      /* reader: no such record or entry number */
 #define TLZ_RECORD_IN_GAP 17       /* reader: the record number lies in a gap of the index */
 #define TLZ_OUT_OF_RANGE 18        /* reader: an index or element out of range, or a wrong number of indices */
-#define TLZ_FLOAT_NOT_CARRIED 19   /* reader: a floating-point value in encoding 3, 14 or 15 */
 #define TLZ_BAD_STATE 20           /* the state is not TLZ_STATE_LEN numbers, a number is out of its range, or a field that */
                                    /* the walk needs passes the file's end; from the reader TLZ_BAD_WAY */
 #define TLZ_OTHER_FILE 21          /* the file's length is not the one noted at opening, or the marks are now shorter */
+#define TLZ_RESERVED_OPERAND 22    /* reader: the reserved operand of VAX floats (exponent zero, sign set) */
 #define TLZ_TOO_DEEP 23            /* an index has more than eight levels of records */
 
 /* The reader's 20: the file does not open, or the way to the answer breaks a rule. Never on a file that is accepted. */
@@ -157,9 +157,9 @@ int32_t tlz_check_grant(const uint8_t *file, size_t file_len, uint8_t *marks, si
  *   TLZ_RECORD_IN_GAP       17: the record number is not above MaxRec, but no index entry that names values covers it
  *   TLZ_OUT_OF_RANGE        18: an index, element, dimension or field that is not there, a wrong number of indices, or no
  *                           pad value
- *   TLZ_FLOAT_NOT_CARRIED   19: a floating-point value in encoding 3, 14 or 15, whose floats are VAX floats
  *   TLZ_BAD_WAY             20: the file does not open, a record or link on the way to the answer breaks a rule, or more
  *                           than file_len / 8 records were met, as in a ring
+ *   TLZ_RESERVED_OPERAND    22: a float in encoding 3, 14 or 15 whose exponent is zero and whose sign is set: it has no value
  *
  * Only what lies on the way is judged: CDR and GDR, a list from its head to what is asked for, an index to the entry that
  * covers the record, and down through the lower index records to the one that names its values; each of them ends at the
@@ -176,11 +176,16 @@ int32_t tlz_check_grant(const uint8_t *file, size_t file_len, uint8_t *marks, si
 #define TLZ_GRENTRY 5   /* a gEntry, if the attribute's scope is global, or an rEntry: of the rVariable of its number */
 #define TLZ_ZENTRY 9    /* of the zVariable of its number */
 
-/* Kinds of values, with what `bits` holds. */
+/*
+ * Kinds of values, with what `bits` holds. In encodings 3, 14 and 15 floats are VAX floats: F_FLOAT (types 21 and 44) and, for
+ * types 22, 31 and 45, D_FLOAT in 3 and 14, G_FLOAT in 15. All of them come as TLZ_DOUBLE: the nearest double, ties to an even
+ * last bit. F_FLOAT comes out exactly. An exponent of zero with the sign clear is +0, whatever the mantissa; with the sign set
+ * it is TLZ_RESERVED_OPERAND. There are no infinities and no NaNs.
+ */
 #define TLZ_SIGNED 0    /* a signed number, sign-extended to 64 bits: take (int64_t)bits */
 #define TLZ_UNSIGNED 1  /* an unsigned number */
-#define TLZ_SINGLE 2    /* the 32 bits of a float, NaN's too */
-#define TLZ_DOUBLE 3    /* the 64 bits of a double, NaN's too */
+#define TLZ_SINGLE 2    /* the 32 bits of a float, NaN's too; not in encodings 3, 14 and 15 */
+#define TLZ_DOUBLE 3    /* the 64 bits of a double, NaN's too; of a VAX float those of the nearest double */
 #define TLZ_CHARACTER 4 /* a character's code, 0 to 255 */
 
 /*
@@ -192,7 +197,8 @@ int32_t tlz_check_grant(const uint8_t *file, size_t file_len, uint8_t *marks, si
  *   indices, index_count   an index, from 0, for each dimension of the variable, in the file's order of dimensions; one of
  *                          false variance must be in range too, and moves nothing. Majority is seen to.
  *   element                0, or which character of a value of characters
- *   value_kind, bits       set to the value's kind, TLZ_SIGNED to TLZ_CHARACTER, and to its bits
+ *   value_kind, bits       set to the value's kind, TLZ_SIGNED to TLZ_CHARACTER, and to its bits; those of a VAX float are the
+ *                          64 bits of a double, though F_FLOAT has 4 bytes in the file
  *   offset                 set to the file offset of the value's first byte
  */
 int32_t tlz_read_value(const uint8_t *file, size_t file_len, int64_t kind, int64_t number, int64_t record,

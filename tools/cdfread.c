@@ -191,8 +191,8 @@ int main(int count, char **words)
         list_values(&source, count - first - 1, words + first + 1);
     else
         list_file(&source);
-    if (source.vax && !source.json)
-        print_refusal(&source, TLZ_FLOAT_NOT_CARRIED, "");
+    if (source.reserved && !source.json)
+        print_refusal(&source, TLZ_RESERVED_OPERAND, "");
     input_free(&input);
-    return console_trouble() ? 2 : source.refused != 0 || source.vax || source.cut;
+    return console_trouble() ? 2 : source.refused != 0 || source.reserved || source.cut;
 }

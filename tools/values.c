@@ -9,8 +9,8 @@ enum { ROOM = 40 };
 
 bool source_refused(struct source *source, int32_t answer)
 {
-    if (answer == TLZ_FLOAT_NOT_CARRIED)
-        source->vax = true;
+    if (answer == TLZ_RESERVED_OPERAND)
+        source->reserved = true;
     else if (answer != 0 && source->refused == 0)
         source->refused = answer;
     return answer != 0;
@@ -92,11 +92,11 @@ int32_t values_print(struct source *source, values_read *read, const void *asked
     for (int64_t i = 0; i < elements; i++) {
         int32_t answer = read(source, asked, i, &value);
         source_refused(source, answer);
-        if (answer != 0 && answer != TLZ_FLOAT_NOT_CARRIED)
+        if (answer != 0 && answer != TLZ_RESERVED_OPERAND)
             return answer;
         fputs(i > 0 ? between : "", stdout);
         if (answer != 0)
-            fputs(source->json ? "null" : "vax", stdout);
+            fputs(source->json ? "null" : "reserved", stdout);
         else if (value.kind == TLZ_CHARACTER)
             return print_characters(source, read, asked, elements, &value);
         else

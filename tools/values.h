@@ -11,8 +11,8 @@ struct source {
     const uint8_t *file;
     size_t length;
     bool json;
-    int32_t refused; /* the first refusal other than of a VAX float, or 0 */
-    bool vax;        /* a VAX float was refused */
+    int32_t refused; /* the first refusal other than of a reserved operand, or 0 */
+    bool reserved;   /* a reserved operand was refused */
     bool cut;        /* something was not looked at */
 };
 
@@ -34,7 +34,7 @@ void values_string(const struct source *source, const uint8_t *bytes, size_t len
 
 /*
  * Prints so many elements: numbers with what is given between them, characters together as one string. Nothing of them is
- * printed if the first is refused; a VAX float is shown as vax, or null. Gives the answer that ended it.
+ * printed if the first is refused; a reserved operand is shown as reserved, or null. Gives the answer that ended it.
  */
 int32_t values_print(struct source *source, values_read *read, const void *asked, int64_t elements, const char *between);
 

@@ -218,14 +218,14 @@ static int32_t print_values(struct source *source, struct asked *asked)
     return answer;
 }
 
-/* The answer to a question for the first value of a record: 0 too if it is a VAX float. */
+/* The answer to a question for the first value of a record: 0 too if it is a reserved operand. */
 static int32_t look_up(const struct source *source, const struct variable *variable, int64_t record)
 {
     struct asked asked = { variable, record, { 0 } };
     struct value value;
     int32_t answer = read_value(source, &asked, 0, &value);
 
-    return answer == TLZ_FLOAT_NOT_CARRIED ? 0 : answer;
+    return answer == TLZ_RESERVED_OPERAND ? 0 : answer;
 }
 
 /* A gap is looked at record by record; behind one of so many the records are not shown unless they are named. */

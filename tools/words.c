@@ -32,9 +32,9 @@ static const struct meaning meanings[] = {
     { TLZ_NO_SUCH_RECORD, "no such record or entry number" },
     { TLZ_RECORD_IN_GAP, "the record number lies in a gap of the index" },
     { TLZ_OUT_OF_RANGE, "an index or element is out of range" },
-    { TLZ_FLOAT_NOT_CARRIED, "a floating-point value in encoding 3, 14 or 15" },
     { TLZ_BAD_STATE, "the saved state is not one that a check of this file leaves" },
     { TLZ_OTHER_FILE, "the file's length is not the one noted at opening" },
+    { TLZ_RESERVED_OPERAND, "the reserved operand of VAX floats: the exponent is zero and the sign is set" },
     { TLZ_TOO_DEEP, "an index has more than eight levels of records" },
 };
 
