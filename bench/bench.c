@@ -133,7 +133,7 @@ static int compared(const char *name)
     return differ;
 }
 
-/* Reads the value of each record of the first variable, in order or not, or of each variable; gives the sum of the bits. */
+/* Reads the value of each record of the first variable, in order or not, or of each variable; gives a sum over what came. */
 typedef uint64_t read_all(const struct file *file, size_t n);
 
 static uint64_t proved_records(const struct file *file, size_t n)
@@ -142,7 +142,7 @@ static uint64_t proved_records(const struct file *file, size_t n)
     for (size_t i = 0; i < n; i++) {
         if (tlz_read_value(file->bytes, file->length, 8, 0, (int64_t)i, &(int64_t){ 0 }, 0, 0, &kind, &bits, &offset) != 0)
             exit(1);
-        sum += bits;
+        sum += kind + bits + offset;
     }
     return sum;
 }
@@ -153,7 +153,7 @@ static uint64_t plain_records(const struct file *file, size_t n)
     for (size_t i = 0; i < n; i++) {
         if (plain_value(file->bytes, file->length, 8, 0, (int64_t)i, &(int64_t){ 0 }, 0, 0, &kind, &bits, &offset) != 0)
             exit(1);
-        sum += bits;
+        sum += kind + bits + offset;
     }
     return sum;
 }
@@ -230,6 +230,18 @@ static void timed_reads(const char *name, struct file file, size_t n, int repeat
     free(file.bytes);
 }
 
+/* Times the two on n VAX doubles of an encoding, after the values were compared one by one. */
+static void timed_vax(const char *name, size_t n, int32_t encoding)
+{
+    struct file file = vax_doubles(n, encoding);
+    for (size_t i = 0; i < n; i++)
+        if (value_differs(&file, 8, 0, (int64_t)i, 0, 0)) {
+            fprintf(stderr, "%s: record %zu differs\n", name, i);
+            exit(1);
+        }
+    timed_reads(name, file, n, REPEATS, proved_records, plain_records);
+}
+
 /* How the time of a whole check grows. */
 static void growth(void)
 {
@@ -265,6 +277,8 @@ int main(int count, char **names)
     timed("100,000 zVariables with an index entry", variables(100000));
     timed("100,000 records of values under three levels", tree(3, 40, 50));
     timed_reads("every value of 1,000,000 records", records(1000000), 1000000, REPEATS, proved_records, plain_records);
+    timed_vax("every value of 1,000,000 records of D_FLOAT", 1000000, 14);
+    timed_vax("every value of 1,000,000 records of G_FLOAT", 1000000, 15);
     timed_reads("one value of each of 20,000 zVariables", variables(20000), 20000, 1, proved_variables, plain_variables);
     timed_reads("single reads through eight levels", tree(8, 4, 4), 65536, REPEATS, proved_places, plain_places);
     clearing();

@@ -87,17 +87,63 @@ struct file variables(size_t n)
     return file;
 }
 
-struct file records(size_t n)
+/* Where the values of one zVariable begin that is the whole of a file. */
+enum { VALUES = BASE + 172 };
+
+/* A file with one zVariable of n records of so many bytes in one run; the values are zero. */
+static struct file one_run(size_t n, size_t size)
 {
-    struct file file = base(BASE + 172 + 4 * n);
+    struct file file = base(VALUES + size * n);
     put(&file, GDR + 12, BASE);
     put(&file, GDR + 40, 1);
     put_variable(&file, BASE, 0, 0);
     put(&file, BASE + 16, (int64_t)n - 1);
     put(&file, BASE + 132 + 24, (int64_t)n - 1);
-    put(&file, BASE + 164, 8 + 4 * (int64_t)n);
+    put(&file, BASE + 164, 8 + (int64_t)(size * n));
+    return file;
+}
+
+struct file records(size_t n)
+{
+    struct file file = one_run(n, 4);
     for (size_t i = 0; i < n; i++)
-        put(&file, BASE + 172 + 4 * i, (int64_t)(i * 2654435761u));
+        put(&file, VALUES + 4 * i, (int64_t)(i * 2654435761u));
+    return file;
+}
+
+/* The next number by chance, from a fixed start: all 64 bits of it. */
+static uint64_t next(uint64_t *seed)
+{
+    *seed ^= *seed << 13;
+    *seed ^= *seed >> 7;
+    *seed ^= *seed << 17;
+    return *seed * 0x2545F4914F6CDD1D;
+}
+
+/* The words of a VAX double, the most significant first, each with its low byte first. */
+static void put_words(struct file *file, size_t o, uint64_t n)
+{
+    for (size_t i = 0; i < 8; i += 2) {
+        file->bytes[o + i] = (uint8_t)(n >> (48 - 8 * i));
+        file->bytes[o + i + 1] = (uint8_t)(n >> (56 - 8 * i));
+    }
+}
+
+struct file vax_doubles(size_t n, int32_t encoding)
+{
+    struct file file = one_run(n, 8);
+    int mantissa = encoding == 15 ? 52 : 55;
+    uint64_t sign = UINT64_C(1) << 63, seed = 88172645463325252, exponent = sign - (UINT64_C(1) << mantissa);
+    put(&file, 28, encoding);
+    put(&file, BASE + 12, 45);
+    for (size_t i = 0; i < n; i++) {
+        uint64_t bits = next(&seed);
+        if (i % 16 == 0)
+            bits &= ~(exponent << 2) | sign;
+        if ((bits & exponent) == 0)
+            bits &= ~sign;
+        put_words(&file, VALUES + 8 * i, bits);
+    }
     return file;
 }
 

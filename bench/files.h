@@ -26,6 +26,13 @@ struct file variables(size_t n);
 struct file records(size_t n);
 
 /*
+ * One zVariable of n records of CDF_DOUBLE in one run, in encoding 3, 14 (D_FLOAT) or 15 (G_FLOAT), drawn by chance from a fixed
+ * start: all signs, exponents and mantissas, ties among them, but no reserved operand. Every 16th has an exponent of 0 to 3,
+ * where G_FLOAT has to be rounded too.
+ */
+struct file vax_doubles(size_t n, int32_t encoding);
+
+/*
  * One zVariable whose index has so many levels: a top record of `top` entries, below it records of `below` entries; each of
  * the lowest names one record of 4 bytes. There are top * below ^ (levels - 1) of these.
  */

@@ -126,7 +126,52 @@ static uint64_t number_at(const uint8_t *f, int64_t o, int64_t size, int little)
     return n;
 }
 
-/* The element at an offset: 0 or 19. */
+/* The bytes of a VAX float as a number: of its 16-bit little-endian words the first is the most significant. */
+static uint64_t words_at(const uint8_t *f, int64_t o, int64_t size)
+{
+    uint64_t n = 0;
+    for (int64_t i = 0; i < size; i += 2)
+        n = n << 16 | (uint64_t)f[o + i + 1] << 8 | f[o + i];
+    return n;
+}
+
+/* The first `kept` of so many binary digits: rounded to nearest, ties to even, or with zeros behind them. */
+static uint64_t rounded(uint64_t n, int digits, int kept)
+{
+    if (digits <= kept)
+        return n << (kept - digits);
+    int dropped = digits - kept;
+    uint64_t odd = n >> dropped & 1, below_half = (UINT64_C(1) << (dropped - 1)) - 1;
+    return (n + below_half + odd) >> dropped;
+}
+
+/*
+ * A VAX float of so many bits, w of them its mantissa, as the bits of a double: 0 or 22. The value is 0.1m * 2^(e - b), so it
+ * has e + 1074 - b digits before the point in units of 2^-1074; up to 53 of them are kept. The sum puts the leading digit, and a
+ * carry out of the rounding, into the double's exponent.
+ */
+static int32_t vax_to_double(uint64_t n, int size, int w, int b, uint64_t *bits)
+{
+    uint64_t hidden = UINT64_C(1) << w, sign = n >> (size - 1);
+    int e = (int)(n >> w & ((UINT64_C(1) << (size - 1 - w)) - 1));
+    if (e == 0 && sign != 0)
+        return 22;
+    int digits = e + 1074 - b, kept = digits < 53 ? digits : 53;
+    uint64_t magnitude = ((uint64_t)(digits - kept) << 52) + rounded(hidden | (n & (hidden - 1)), w + 1, kept);
+    *bits = e == 0 ? 0 : sign << 63 | magnitude;
+    return 0;
+}
+
+/* A float of encoding 3, 14 or 15: F_FLOAT, and D_FLOAT or G_FLOAT. */
+static int32_t vax_float(const uint8_t *f, int64_t o, int64_t size, int32_t encoding, uint64_t *bits)
+{
+    uint64_t n = words_at(f, o, size);
+    if (size == 4)
+        return vax_to_double(n, 32, 23, 128, bits);
+    return encoding == 15 ? vax_to_double(n, 64, 52, 1024, bits) : vax_to_double(n, 64, 55, 128, bits);
+}
+
+/* The element at an offset: 0 or 22. */
 static int32_t decode(const uint8_t *f, int64_t o, int32_t type, uint64_t *value_kind, uint64_t *bits)
 {
     int32_t encoding = field(f, 28);
@@ -134,8 +179,11 @@ static int32_t decode(const uint8_t *f, int64_t o, int32_t type, uint64_t *value
     int vax = encoding == 3 || encoding == 14 || encoding == 15;
     int little = vax || encoding == 4 || encoding == 6 || encoding == 13 || encoding == 16;
     int is_signed = type < 10 || type == 41, is_float = type == 21 || type == 22 || type == 31 || type == 44 || type == 45;
-    if (is_float && vax)
-        return 19;
+    if (is_float && vax) {
+        int32_t answer = vax_float(f, o, size, encoding, bits);
+        *value_kind = answer == 0 ? 3 : *value_kind;
+        return answer;
+    }
     uint64_t n = number_at(f, o, size, little);
     if (is_signed)
         n = size == 1 ? (uint64_t)(int8_t)n : size == 2 ? (uint64_t)(int16_t)n : (uint64_t)(int32_t)n;
