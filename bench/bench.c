@@ -90,7 +90,7 @@ static int values_differ(const struct file *file)
 {
     int differ = 0;
     for (int64_t kind = 2; kind < 10; kind++)
-        for (int64_t number = -1; number < 4; number++)
+        for (int64_t number = -1; number < 8; number++)
             for (int64_t record = -1; record < 8; record++)
                 for (size_t dimensions = 0; dimensions < 4; dimensions++)
                     for (int64_t element = -1; element < 2; element++)
@@ -103,7 +103,7 @@ static int levels_differ(const struct file *file)
 {
     int differ = 0;
     for (int64_t kind = 2; kind < 10; kind++)
-        for (int64_t number = -1; number < 4; number++)
+        for (int64_t number = -1; number < 8; number++)
             for (int64_t record = -1; record < 64; record++) {
                 int32_t ours = 77, other = 77;
                 int32_t a = tlz_read_levels(file->bytes, file->length, kind, number, record, &ours);
