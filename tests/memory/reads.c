@@ -1,8 +1,8 @@
 /*
  * reads ROUNDS FILE..: asks the reader with heap buffers of exactly the lengths that it is told, to be run under a memory
  * checker. Each file is asked as it is, padded and damaged, and cut at any length; every call, with numbers that are there and
- * that are not. The padding was never written. Prints how many questions were put and what came back; exits with 1 if an answer
- * is wrong, a refusal changed a number or a call was never made.
+ * that are not. The padding was never written. VAX floats are read from the very end of a buffer. Prints how many questions were
+ * put and what came back; exits with 1 if an answer is wrong, a refusal changed a number or a call was never made.
  */
 #include "common.h"
 #include "tlepozaluh.h"
@@ -14,7 +14,7 @@
 #define MISSING 0
 #endif
 
-enum { CALLS = 15, ANSWERS = 21, NUMBERS = 3, ROOM = 65536 };
+enum { CALLS = 15, ANSWERS = 23, NUMBERS = 3, ROOM = 65536 };
 
 /* What a call may set, each number an allocation of its own; what they held before. */
 struct lent {
@@ -136,6 +136,13 @@ static void expect(int right, const char *what, uint64_t call)
     fprintf(stderr, "wrong: %s, call %" PRIu64 "\n", what, call);
 }
 
+/* 0, or a refusal of the reader. */
+static int of_reader(int32_t answer)
+{
+    return answer == 0 || (answer >= TLZ_NO_SUCH_OBJECT && answer <= TLZ_OUT_OF_RANGE) || answer == TLZ_BAD_WAY ||
+           answer == TLZ_RESERVED_OPERAND;
+}
+
 /* What a call may leave: after a refusal what was before, after a 0 something of the file. */
 static void judge(const struct lent *l, uint64_t call, int32_t answer)
 {
@@ -143,7 +150,7 @@ static void judge(const struct lent *l, uint64_t call, int32_t answer)
 
     for (int i = 0; i < NUMBERS; i++)
         same = same && *l->numbers[i] == BEFORE;
-    expect(answer == 0 || (answer >= TLZ_NO_SUCH_OBJECT && answer <= TLZ_BAD_WAY), "answer", call);
+    expect(of_reader(answer), "answer", call);
     expect(answer == 0 || same, "a refusal changed a number", call);
     if (answer == 0 && (call == 5 || call == 10))
         expect(*l->numbers[0] + *l->numbers[1] <= l->end && *l->numbers[1] <= 64, "a name outside the body", call);
@@ -235,10 +242,118 @@ static int read_and_try(const char *name, uint64_t rounds)
     return 0;
 }
 
+/* A VAX float: its encoding, data type, bytes and the double's bits; those of a reserved operand are BEFORE. */
+struct vax {
+    int32_t encoding, type, size;
+    uint8_t bytes[8];
+    uint64_t bits;
+};
+
+static void put(uint8_t *file, size_t at, const int32_t *numbers, size_t count)
+{
+    for (size_t i = 0; i < 4 * count; i++)
+        file[at + i] = (uint8_t)((uint32_t)numbers[i / 4] >> (24 - 8 * (i % 4)));
+}
+
+/* A buffer of exactly a file's length with its opening, one zVariable or one attribute at 372, and the float as its last bytes. */
+static uint8_t *ending_with(const struct vax *v, int32_t at, int32_t variable)
+{
+    int32_t length = at + v->size, other = 1 - variable;
+    int32_t cdr[] = { (int32_t)0xCDF26002, 0xFFFF, 304, 1, 312, 2, 6, v->encoding, 3 };
+    int32_t gdr[] = { 60, 2, 0, 372 * variable, 372 * other, length, 0, other, -1, 0, variable };
+    uint8_t *file = exactly((size_t)length - MISSING);
+
+    memset(file, 0, (size_t)length - MISSING);
+    put(file, 0, cdr, sizeof cdr / sizeof *cdr);
+    put(file, 312, gdr, sizeof gdr / sizeof *gdr);
+    memcpy(file + at, v->bytes, (size_t)v->size - MISSING);
+    return file;
+}
+
+/* Files that end with a float: with the value of a record, with a pad value, with an entry. Each gives its length. */
+static size_t with_value(const struct vax *v, uint8_t **file)
+{
+    int32_t vdr[] = { 132, 8, 0, v->type, 0, 504, 504, 1, 0, 0, 0, 0, 1 };
+    int32_t index_and_run[] = { 32, 6, 0, 1, 1, 0, 0, 536, 8 + v->size, 7 };
+
+    *file = ending_with(v, 544, 1);
+    put(*file, 372, vdr, sizeof vdr / sizeof *vdr);
+    put(*file, 504, index_and_run, sizeof index_and_run / sizeof *index_and_run);
+    return 544 + (size_t)v->size;
+}
+
+static size_t with_pad(const struct vax *v, uint8_t **file)
+{
+    int32_t vdr[] = { 132 + v->size, 8, 0, v->type, -1, 0, 0, 3, 0, 0, 0, 0, 1 };
+
+    *file = ending_with(v, 504, 1);
+    put(*file, 372, vdr, sizeof vdr / sizeof *vdr);
+    return 504 + (size_t)v->size;
+}
+
+static size_t with_entry(const struct vax *v, uint8_t **file)
+{
+    int32_t adr[] = { 116, 4, 0, 488, 1, 0, 1, 0, 0, 0, 0, -1 };
+    int32_t aedr[] = { 48 + v->size, 5, 0, 0, v->type, 0, 1 };
+
+    *file = ending_with(v, 536, 0);
+    put(*file, 372, adr, sizeof adr / sizeof *adr);
+    put(*file, 488, aedr, sizeof aedr / sizeof *aedr);
+    return 536 + (size_t)v->size;
+}
+
+/* Reads a VAX float from the very end of its buffer. */
+static void last_float(const struct vax *v, uint64_t call)
+{
+    uint8_t *f = NULL;
+    size_t n = (call == 0 ? with_value : call == 1 ? with_pad : with_entry)(v, &f);
+    uint64_t kind = BEFORE, bits = BEFORE, offset = BEFORE;
+    int32_t answer = 0, wanted = v->bits == BEFORE ? TLZ_RESERVED_OPERAND : 0;
+
+    if (call == 0)
+        answer = tlz_read_value(f, n, TLZ_ZVARIABLE, 0, 0, &(int64_t){ 0 }, 0, 0, &kind, &bits, &offset);
+    else if (call == 1)
+        answer = tlz_read_pad(f, n, TLZ_ZVARIABLE, 0, 0, &kind, &bits, &offset);
+    else if (call == 6)
+        answer = tlz_read_entry(f, n, 0, TLZ_GRENTRY, 0, 0, &kind, &bits, &offset);
+    else
+        answer = tlz_read_entry_value_at(f, n, 0, TLZ_GRENTRY, 0, 0, &kind, &bits, &offset);
+    expect(answer == wanted && bits == v->bits, "a VAX float", call);
+    expect(kind == (wanted == 0 ? TLZ_DOUBLE : BEFORE), "the kind of a VAX float", call);
+    expect(offset == (wanted == 0 ? n - (size_t)v->size : BEFORE), "the offset of a VAX float", call);
+    calls[call]++;
+    answers[answer >= 0 && answer < ANSWERS ? answer : 1]++;
+    free(f);
+}
+
+/* One, the reserved operand, and doubles that are rounded, of each form and by each call for a value. */
+static void last_floats(void)
+{
+    const struct vax floats[] = {
+        { 3, 21, 4, { 0x80, 0x40 }, 0x3ff0000000000000 },
+        { 14, 44, 4, { 0x7f, 0x80, 0xff, 0xff }, BEFORE },
+        { 15, 21, 4, { 0xff, 0xff, 0xff, 0xff }, 0xc7dfffffe0000000 },
+        { 3, 22, 8, { 0x80, 0x40, 0, 0, 0, 0, 0x0c }, 0x3ff0000000000002 },
+        { 14, 31, 8, { 0xff, 0xff, 0xff, 0xff, 0xff, 0xff, 0xff, 0xff }, 0xc7e0000000000000 },
+        { 14, 45, 8, { 0, 0x80 }, BEFORE },
+        { 15, 45, 8, { 0x10, 0, 0, 0, 0, 0, 0x06 }, 0x0004000000000002 },
+        { 15, 22, 8, { 0x0f, 0x80, 0, 0, 0, 0, 0, 0x01 }, BEFORE },
+    };
+
+    for (size_t i = 0; i < sizeof floats / sizeof *floats; i++) {
+        last_float(&floats[i], 0);
+        last_float(&floats[i], 1);
+        last_float(&floats[i], 6);
+        last_float(&floats[i], 13);
+    }
+}
+
 int main(int count, char **words)
 {
     uint64_t rounds = count > 1 ? strtoull(words[1], NULL, 10) : 0, all = 0;
 
+    if (MISSING == 0 || count == 2)
+        last_floats();
     for (int i = 2; i < count; i++)
         if (read_and_try(words[i], rounds) != 0)
             return 2;
