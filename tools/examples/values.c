@@ -61,8 +61,12 @@ static int32_t print_record(const struct file *file, int64_t number, int64_t rec
         for (int32_t e = 0; e < elements && answer == 0; e++) {
             answer = tlz_read_value(file->bytes, file->length, TLZ_ZVARIABLE, number, record, indices, (size_t)dimensions, e,
                                     &kind, &bits, &offset);
-            if (answer == 0)
+            if (answer == 0) {
                 print(kind, bits);
+            } else if (answer == TLZ_RESERVED_OPERAND) {
+                printf(" reserved"); /* a VAX float without a value; the next one may have one */
+                answer = 0;
+            }
         }
     } while (answer == 0 && advance(file, number, indices, dimensions));
     printf(answer == 0 ? "\n" : " refused %" PRId32 "\n", answer);
