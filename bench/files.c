@@ -139,9 +139,9 @@ struct file vax_doubles(size_t n, int32_t encoding)
     for (size_t i = 0; i < n; i++) {
         uint64_t bits = next(&seed);
         if (i % 16 == 0)
-            bits &= ~(exponent << 2) | sign;
+            bits &= ~(exponent << 2) | sign; /* the last two bits of the exponent are left */
         if ((bits & exponent) == 0)
-            bits &= ~sign;
+            bits &= ~sign; /* else it were the reserved operand */
         put_words(&file, VALUES + 8 * i, bits);
     }
     return file;

@@ -141,7 +141,7 @@ static uint64_t rounded(uint64_t n, int digits, int kept)
     if (digits <= kept)
         return n << (kept - digits);
     int dropped = digits - kept;
-    uint64_t odd = n >> dropped & 1, below_half = (UINT64_C(1) << (dropped - 1)) - 1;
+    uint64_t odd = n >> dropped & 1, below_half = (UINT64_C(1) << (dropped - 1)) - 1; /* so that a tie carries if it is odd */
     return (n + below_half + odd) >> dropped;
 }
 

@@ -180,7 +180,7 @@ int32_t tlz_check_grant(const uint8_t *file, size_t file_len, uint8_t *marks, si
  * Kinds of values, with what `bits` holds. In encodings 3, 14 and 15 floats are VAX floats: F_FLOAT (types 21 and 44) and, for
  * types 22, 31 and 45, D_FLOAT in 3 and 14, G_FLOAT in 15. All of them come as TLZ_DOUBLE: the nearest double, ties to an even
  * last bit. F_FLOAT comes out exactly. An exponent of zero with the sign clear is +0, whatever the mantissa; with the sign set
- * it is TLZ_RESERVED_OPERAND. There are no infinities and no NaNs.
+ * it is TLZ_RESERVED_OPERAND. A VAX float is never an infinity or a NaN.
  */
 #define TLZ_SIGNED 0    /* a signed number, sign-extended to 64 bits: take (int64_t)bits */
 #define TLZ_UNSIGNED 1  /* an unsigned number */
