@@ -207,6 +207,9 @@ pub fn from_bytes(bytes: &[u8]) -> Option<State> {
     numbers.try_into().ok().filter(|_| bytes.len() == 4 * STATE_LENGTH)
 }
 
+/// The number of a VAX float that stands for no value, `TLZ_RESERVED_OPERAND`.
+pub const RESERVED_OPERAND: i32 = 22;
+
 /// What stands in the caller's numbers before a read.
 const BEFORE: u64 = 0x5A5A_A5A5_0F0F_F0F1;
 
@@ -215,7 +218,7 @@ const BEFORE: u64 = 0x5A5A_A5A5_0F0F_F0F1;
 pub struct Value {
     /// 0 signed, 1 unsigned, 2 single, 3 double, 4 character code.
     pub kind: u64,
-    /// Signed values sign-extended to 64 bits; floats their own bits, zero-extended.
+    /// Signed values sign-extended to 64 bits; floats their own bits, zero-extended; VAX floats the double's bits.
     pub bits: u64,
     /// File offset of the lowest byte.
     pub offset: u64,

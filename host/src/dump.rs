@@ -1,14 +1,14 @@
 //! All that the proved reader finds in an accepted file, in the form of samples/README.md.
 //!
-//! One thing cannot be asked for: the offset of a float that is refused with 19, shown as `@?`.
+//! One thing cannot be asked for: the offset of a record, entry value or pad value whose first element is a reserved operand,
+//! which is refused with 22. It is shown as `@?`.
 
-use crate::bindings::{self, Name, Value, FILE_PADDING};
-use crate::second::dump::MOST_VALUES;
+use crate::bindings::{self, Name, Value, FILE_PADDING, RESERVED_OPERAND};
 use crate::second::dump::{advance, bits_token, letter, name_letter, numbers, padding_note};
-use crate::second::tables::{data_type, Form};
+use crate::second::dump::{MOST_VALUES, RESERVED};
+use crate::second::tables::{data_type, encoding, Form};
 
 const GAP: i32 = 17;
-const VAX_FLOAT: i32 = 19;
 const NO_NUMBER: i32 = 16;
 
 /// The whole dump; a refusal's number if the file is not one to be read.
@@ -37,14 +37,27 @@ pub fn dump(file: &[u8]) -> Result<String, i32> {
     Ok(text + "END\n")
 }
 
+/// A line of a dump as the calls can give it: the offset of what begins with a reserved operand cannot be asked for.
+pub fn askable(line: &str) -> String {
+    let words: Vec<&str> = line.split(' ').collect();
+    let next_is_reserved = |at: usize| words.get(at + 1) == Some(&RESERVED);
+    let shown = |(at, word): (usize, &&str)| match word.split_once('@') {
+        Some(("pad=reserved", _)) => format!("pad={RESERVED}@?"),
+        Some(("", _)) if next_is_reserved(at) => "@?".to_string(),
+        _ => word.to_string(),
+    };
+    words.iter().enumerate().map(shown).collect::<Vec<String>>().join(" ")
+}
+
 fn name_text(file: &[u8], name: Name) -> String {
     let bytes = file.iter().skip(name.offset as usize).take(name.length as usize);
     bytes.map(|byte| name_letter(*byte)).collect()
 }
 
-/// The form of a data type, by its number; 20 if there is none.
-fn form_of(number: i32) -> Result<Form, i32> {
-    data_type(i64::from(number)).map(|of| of.form).ok_or(20)
+/// The form in which elements of a data type are answered, by its number; 20 if there is none.
+fn form_of(file: &[u8], number: i32) -> Result<Form, i32> {
+    let of_file = encoding(i64::from(bindings::read_file(file, 1)?)).ok_or(20)?;
+    data_type(i64::from(number)).map(|of| of_file.answered(of.form)).ok_or(20)
 }
 
 /// Elements of one value: its token, and the offset of the first. Characters stand together, anything else alone.
@@ -54,8 +67,8 @@ fn value_token(
     element: impl Fn(i64) -> Result<Value, i32>,
 ) -> Result<(String, String), i32> {
     let first = element(0);
-    if first == Err(VAX_FLOAT) {
-        return Ok(("vax".to_string(), "?".to_string()));
+    if first == Err(RESERVED_OPERAND) {
+        return Ok((RESERVED.to_string(), "?".to_string()));
     }
     let first = first?;
     assert_eq!(first.kind, form.number(), "the kind of a value");
@@ -89,7 +102,7 @@ impl<'a> Variable<'a> {
             let all = all.map(|of| bindings::read_size(file, kind, number, of).map(i64::from));
             sizes = all.collect::<Result<Vec<i64>, i32>>()?;
         }
-        let (form, elements) = (form_of(field(12)?)?, i64::from(field(48)?));
+        let (form, elements) = (form_of(file, field(12)?)?, i64::from(field(48)?));
         Ok(Variable { file, kind, number, form, elements, sizes })
     }
 
@@ -210,7 +223,7 @@ fn entry_line(
         seen.push(number);
         same_by_number(file, attribute, kind, place, i64::from(number));
     }
-    let form = form_of(of_type)?;
+    let form = form_of(file, of_type)?;
     let tokens = if form == Form::Character { 1 } else { elements };
     for token in 0..i64::from(tokens) {
         let element = |at| bindings::read_entry_value_at(file, attribute, kind, place, token + at);

@@ -1,6 +1,6 @@
 //! The host side of Tlepozaluh: a second checker and reader of CDF files, written
-//! from document 01, the requests for lower index records, padded files and places of refusals and docs/STATE.md alone, a
-//! builder of good files and sources of damaged ones, and of states that no check leaves.
+//! from document 01, the requests for lower index records, padded files, places of refusals and VAX floats and docs/STATE.md
+//! alone, a builder of good files and sources of damaged ones, and of states that no check leaves.
 //!
 //! The proved checker and reader, behind `bindings`, are compared with `second`; the two share no code.
 

@@ -198,13 +198,16 @@ pub fn second(file: &[u8], question: &Question) -> Answer {
     answer.map_err(|refusal| refusal as i32)
 }
 
+/// The numbers with which a reader refuses.
+pub const REFUSALS: [i32; 6] = [15, 16, 17, 18, 20, 22];
+
 /// Both answers, if they are one; else both in words.
 pub fn agreed(file: &[u8], question: &Question) -> Result<Answer, String> {
     let (ours, other) = (proved(file, question), second(file, question));
     if ours != other {
         return Err(format!("{question}: proved {ours:?}, second {other:?}"));
     }
-    let right = |number: &i32| (15..=20).contains(number);
+    let right = |number: &i32| REFUSALS.contains(number);
     if !ours.as_ref().err().is_none_or(right) {
         return Err(format!("{question}: answered {ours:?}"));
     }

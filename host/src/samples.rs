@@ -77,7 +77,7 @@ pub struct Checks {
 }
 
 /// All lists of checks.
-pub const CHECKS: [Checks; 7] = [
+pub const CHECKS: [Checks; 9] = [
     Checks { folder: "", list: "checks.txt", first_mark: 0xAA, lines: 830, places: false },
     Checks { folder: "levels", list: "checks.txt", first_mark: 0xAA, lines: 400, places: false },
     Checks { folder: "levels", list: "checks01.txt", first_mark: 1, lines: 400, places: false },
@@ -85,6 +85,8 @@ pub const CHECKS: [Checks; 7] = [
     Checks { folder: "padded", list: "checks01.txt", first_mark: 1, lines: 400, places: false },
     Checks { folder: "places", list: "checks.txt", first_mark: 0xAA, lines: 400, places: true },
     Checks { folder: "places", list: "checks01.txt", first_mark: 1, lines: 400, places: true },
+    Checks { folder: "vax", list: "checks.txt", first_mark: 0xAA, lines: 400, places: true },
+    Checks { folder: "vax", list: "checks01.txt", first_mark: 1, lines: 400, places: true },
 ];
 
 /// A line of a list of checks.
@@ -152,8 +154,8 @@ impl Checks {
 }
 
 /// The folders with a list of reads, `reads.txt`, and how many lines it has.
-pub const READS: [(&str, usize); 4] =
-    [("", 4623), ("levels", 10000), ("padded", 10000), ("places", 10000)];
+pub const READS: [(&str, usize); 5] =
+    [("", 4623), ("levels", 10000), ("padded", 10000), ("places", 10000), ("vax", 10000)];
 
 /// A line of a list of reads.
 #[derive(Clone, Debug, PartialEq, Eq)]

@@ -6,9 +6,9 @@ pub fn length(buffer: &[u8]) -> i64 {
 }
 
 /// The `size` bytes at `offset`, or nothing if they do not all lie in the file.
-fn range(file: &[u8], offset: i64, size: usize) -> Option<&[u8]> {
+pub fn range(file: &[u8], offset: i64, size: i64) -> Option<&[u8]> {
     let start = usize::try_from(offset).ok()?;
-    file.get(start..start.checked_add(size)?)
+    file.get(start..start.checked_add(usize::try_from(size).ok()?)?)
 }
 
 /// The control field at `offset`: 4 bytes, two's complement, big-endian.
@@ -19,7 +19,7 @@ pub fn field(file: &[u8], offset: i64) -> Option<i64> {
 
 /// The `size` bytes (1 to 8) at `offset` as one unsigned number.
 pub fn unsigned(file: &[u8], offset: i64, size: i64, little_endian: bool) -> Option<u64> {
-    let bytes = range(file, offset, usize::try_from(size).ok()?)?;
+    let bytes = range(file, offset, size)?;
     let join = |number: u64, byte: &u8| number << 8 | u64::from(*byte);
     Some(if little_endian { bytes.iter().rev().fold(0, join) } else { bytes.iter().fold(0, join) })
 }

@@ -2,8 +2,8 @@
 
 use super::read::{self, Answer};
 use super::rules::{Attribute, Entry, Name, Variable};
-use super::tables::Form;
-use super::way::{GAP, NO_NUMBER, VAX_FLOAT};
+use super::tables::{DataType, Form};
+use super::way::{GAP, NO_NUMBER, RESERVED_OPERAND};
 
 /// A record of more values than this shows its first one and ` ..`.
 pub(crate) const MOST_VALUES: i64 = 100_000;
@@ -72,6 +72,11 @@ pub(crate) fn name_letter(byte: u8) -> String {
     }
 }
 
+/// The form in which elements of a type are answered.
+fn form_of(file: &[u8], data_type: DataType) -> Result<Form, u32> {
+    Ok(read::encoding(file)?.answered(data_type.form))
+}
+
 fn variable_lines(file: &[u8], kind: i64, number: i64) -> Result<String, u32> {
     let variable = read::variable(file, kind, number)?;
     let mut text = variable_line(file, kind, number, &variable)?;
@@ -87,7 +92,8 @@ fn variable_line(file: &[u8], kind: i64, number: i64, of: &Variable) -> Result<S
         None => "-".to_string(),
         Some(offset) => {
             let element = |element| read::read_pad(file, kind, number, element);
-            format!("{}@{offset}", value_token(of.data_type.form, of.elements, element)?)
+            let form = form_of(file, of.data_type)?;
+            format!("{}@{offset}", value_token(form, of.elements, element)?)
         }
     };
     Ok(format!(
@@ -118,13 +124,14 @@ fn record_line(
         Err(GAP) => return Ok(format!("R {record} GAP\n")),
         other => other?,
     };
+    let form = form_of(file, variable.data_type)?;
     let mut text = format!("R {record} @{offset}");
     let mut indices = vec![0; variable.sizes.len()];
     let all = variable.sizes.iter().fold(1_i64, |all, size| all.saturating_mul(*size));
     for _ in 0..if all > MOST_VALUES { 1 } else { all } {
         let element = |at| read::read_value(file, kind, number, record, &indices, at);
         text.push(' ');
-        text += &value_token(variable.data_type.form, variable.elements, element)?;
+        text += &value_token(form, variable.elements, element)?;
         advance(&mut indices, &variable.sizes);
     }
     Ok(text + if all > MOST_VALUES { " ..\n" } else { "\n" })
@@ -157,9 +164,12 @@ fn value_token(
     Ok(text)
 }
 
+/// The token of a reserved operand.
+pub(crate) const RESERVED: &str = "reserved";
+
 fn element_token(form: Form, element: Result<Answer, u32>) -> Result<String, u32> {
     match element {
-        Err(VAX_FLOAT) => Ok("vax".to_string()),
+        Err(RESERVED_OPERAND) => Ok(RESERVED.to_string()),
         other => Ok(bits_token(form, other?.bits)),
     }
 }
@@ -206,13 +216,17 @@ fn entry_lines(file: &[u8], number: i64, of: &Attribute, kind: i64) -> Result<St
             other => other?,
         };
         let element = |at| read::read_entry_at_place(file, number, kind, place, at);
-        text += &format!("E {letter} {}", entry_text(&entry, element)?);
+        let form = form_of(file, entry.data_type)?;
+        text += &format!("E {letter} {}", entry_text(&entry, form, element)?);
     }
     Ok(text)
 }
 
-fn entry_text(entry: &Entry, element: impl Fn(i64) -> Result<Answer, u32>) -> Result<String, u32> {
-    let form = entry.data_type.form;
+fn entry_text(
+    entry: &Entry,
+    form: Form,
+    element: impl Fn(i64) -> Result<Answer, u32>,
+) -> Result<String, u32> {
     let mut text = format!(
         "{} attr={} type={} elems={} @{}",
         entry.number, entry.attribute, entry.data_type.number, entry.elements, entry.value,

@@ -1,7 +1,8 @@
-//! The second implementation of document 01, of lower index records, of padded files and of the places of refusals, with
-//! the saved state of docs/STATE.md.
+//! The second implementation of document 01, of lower index records, of padded files, of the places of refusals and of VAX
+//! floats, with the saved state of docs/STATE.md.
 //!
-//! `bytes`, `tables` and `rules` say what fields, numbers and records are;
+//! `bytes`, `tables` and `rules` say what fields, numbers and records are, `vax` what VAX floats are, by the numbers of
+//! `whole`;
 //! `check` makes the steps from one saved state (`state`) to the next, `read`
 //! gives values and descriptors, and `dump` writes all that the reader finds
 //! in a file as text.
@@ -13,5 +14,7 @@ pub mod read;
 pub mod rules;
 pub mod state;
 pub mod tables;
+pub mod vax;
 mod walk;
 mod way;
+pub mod whole;

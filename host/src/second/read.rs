@@ -1,7 +1,7 @@
 //! The reader: values, entries, pad values and descriptors (document 01, "Values").
 //!
 //! Each call answers what was asked for or the refusal's number, of several the first
-//! in the order 20, 15, 16, 17, 18, 19.
+//! in the order 20, 15, 16, 17, 18, 22.
 
 use super::rules::{Attribute, Entry, Variable};
 use super::tables::{DataType, Encoding};
@@ -58,7 +58,7 @@ pub fn read_pad(file: &[u8], kind: i64, number: i64, element: i64) -> Result<Ans
     element_at(&way, variable.data_type, variable.elements, pad, element)
 }
 
-/// 18 for the element, then 19, then the value.
+/// 18 for the element, then 22, or the value.
 fn element_at(
     way: &Way,
     data_type: DataType,

@@ -1,5 +1,7 @@
 //! The constant tables of document 01: data types, encodings, kinds of variables and entries.
 
+use super::vax::{VaxFloat, D_FLOAT, F_FLOAT, G_FLOAT};
+
 /// The greatest number a control field holds; also the greatest file length and record bytes.
 pub const GREATEST: i64 = 2_147_483_647;
 
@@ -28,11 +30,6 @@ impl Form {
             Form::Double => 3,
             Form::Character => 4,
         }
-    }
-
-    /// Single or double.
-    pub fn is_float(self) -> bool {
-        matches!(self, Form::Single | Form::Double)
     }
 }
 
@@ -81,27 +78,48 @@ pub struct Encoding {
     pub number: i64,
     /// Least significant byte first.
     pub little_endian: bool,
-    /// Floats are VAX floats, which are refused with 19.
-    pub vax_floats: bool,
+    /// The VAX floats that doubles are, if floats are VAX floats.
+    pub vax_double: Option<&'static VaxFloat>,
+}
+
+impl Encoding {
+    /// The VAX float that an element of this form is, if it is one.
+    pub fn vax_float(self, form: Form) -> Option<&'static VaxFloat> {
+        let double = self.vax_double?;
+        match form {
+            Form::Single => Some(&F_FLOAT),
+            Form::Double => Some(double),
+            _ => None,
+        }
+    }
+
+    /// The form in which an element of this form is answered: VAX floats are doubles.
+    pub fn answered(self, form: Form) -> Form {
+        if self.vax_float(form).is_some() {
+            Form::Double
+        } else {
+            form
+        }
+    }
 }
 
 const fn big(number: i64) -> Encoding {
-    Encoding { number, little_endian: false, vax_floats: false }
+    Encoding { number, little_endian: false, vax_double: None }
 }
 
 const fn little(number: i64) -> Encoding {
-    Encoding { number, little_endian: true, vax_floats: false }
+    Encoding { number, little_endian: true, vax_double: None }
 }
 
-const fn vax(number: i64) -> Encoding {
-    Encoding { number, little_endian: true, vax_floats: true }
+const fn vax(number: i64, double: &'static VaxFloat) -> Encoding {
+    Encoding { number, little_endian: true, vax_double: Some(double) }
 }
 
 /// All encodings: 1 to 7, 9, 11 to 16.
 pub const ENCODINGS: [Encoding; 14] = [
     big(1),
     big(2),
-    vax(3),
+    vax(3, &D_FLOAT),
     little(4),
     big(5),
     little(6),
@@ -110,8 +128,8 @@ pub const ENCODINGS: [Encoding; 14] = [
     big(11),
     big(12),
     little(13),
-    vax(14),
-    vax(15),
+    vax(14, &D_FLOAT),
+    vax(15, &G_FLOAT),
     little(16),
 ];
 

@@ -1,11 +1,12 @@
 //! The reader's way to an answer (document 01, "Values"): CDR and GDR, a list to the
 //! wanted place, then the index, level by level, or the list of entries.
 
-use super::bytes::{field, length, sign_extended, unsigned};
+use super::bytes::{field, length, range, sign_extended, unsigned};
 use super::rules::{self, Attribute, Bounds, Entry, Header, Index, IndexEntry, Record, Variable};
 use super::tables::{
     entry_kind, record_type, variable_kind, DataType, EntryKind, Form, VariableKind,
 };
+use super::vax::VaxFloat;
 
 /// The way breaks a rule, or is too long.
 pub const BROKEN: u32 = 20;
@@ -17,15 +18,15 @@ pub const NO_NUMBER: u32 = 16;
 pub const GAP: u32 = 17;
 /// Dimension index or element out of range, or wrong number of indices.
 pub const OUT_OF_RANGE: u32 = 18;
-/// Float in an encoding of VAX floats.
-pub const VAX_FLOAT: u32 = 19;
+/// A VAX float whose exponent is zero and whose sign is set.
+pub const RESERVED_OPERAND: u32 = 22;
 
 /// A value read: its kind, its bits and the file offset of its lowest byte.
 #[derive(Clone, Copy, Debug, PartialEq, Eq)]
 pub struct Answer {
     /// 0 signed, 1 unsigned, 2 single, 3 double, 4 character code.
     pub kind: u64,
-    /// Signed values sign-extended to 64 bits; floats their own bits, zero-extended.
+    /// Signed values sign-extended to 64 bits; floats their own bits, zero-extended; VAX floats the double's bits.
     pub bits: u64,
     /// File offset the value was read from.
     pub offset: u64,
@@ -245,20 +246,32 @@ impl<'a> Way<'a> {
         link >= 8 && found == Some(record_type::VXR)
     }
 
-    /// The element at this offset, decoded: 19 for a float in an encoding of VAX floats.
+    /// The element at this offset, decoded: 22 for a reserved operand.
     pub fn value(&self, data_type: DataType, offset: i64) -> Result<Answer, u32> {
         let encoding = self.header.encoding;
-        if encoding.vax_floats && data_type.form.is_float() {
-            return Err(VAX_FLOAT);
-        }
-        let number = unsigned(self.file, offset, data_type.size, encoding.little_endian);
-        let number = number.ok_or(BROKEN)?;
-        let bits = match data_type.form {
+        let bits = match encoding.vax_float(data_type.form) {
+            Some(kind) => self.vax_bits(kind, offset)?,
+            None => self.plain_bits(data_type, offset)?,
+        };
+        let kind = encoding.answered(data_type.form).number();
+        let offset = u64::try_from(offset).map_err(|_| BROKEN)?;
+        Ok(Answer { kind, bits, offset })
+    }
+
+    /// The bits of a double for the VAX float at this offset.
+    fn vax_bits(&self, kind: &VaxFloat, offset: i64) -> Result<u64, u32> {
+        let bytes = range(self.file, offset, kind.size).ok_or(BROKEN)?;
+        kind.double(bytes).ok_or(RESERVED_OPERAND)
+    }
+
+    /// The bits of an element that is no VAX float.
+    fn plain_bits(&self, data_type: DataType, offset: i64) -> Result<u64, u32> {
+        let little_endian = self.header.encoding.little_endian;
+        let number = unsigned(self.file, offset, data_type.size, little_endian).ok_or(BROKEN)?;
+        Ok(match data_type.form {
             Form::Signed => sign_extended(number, data_type.size),
             _ => number,
-        };
-        let offset = u64::try_from(offset).map_err(|_| BROKEN)?;
-        Ok(Answer { kind: data_type.form.number(), bits, offset })
+        })
     }
 }
 
