@@ -3,10 +3,10 @@
 //! A round builds a good file and damages it or not. Both check it, in one grant and in grants at random. Then both go on
 //! from points of the check with marks made up, from states made up, and after bytes of the file have been changed. At
 //! every stop they must agree in the answer, the steps, the place, all 34 numbers of the state and every mark, one grant must
-//! leave what several do, and a grant after the end must say the same again. Then both readers are asked: they must answer the same, and never 20 on an accepted file. On
-//! a padded file all this must be the same with other bytes and other marks in the padding, which must stay.
+//! leave what several do, and a grant after the end must say the same again. Then both readers are asked: they must answer the same, VAX floats as the
+//! plainest statement of them says, and never 20 on an accepted file. On a padded file all this must be the same with other bytes and other marks in the padding, which must stay.
 
-use crate::bindings::Granted;
+use crate::bindings::{Granted, RESERVED_OPERAND};
 use crate::build;
 use crate::build::model::{File, Index};
 use crate::build::random::Random;
@@ -59,6 +59,10 @@ pub struct Covered {
     pub levels_answered: BTreeMap<i64, u64>,
     /// What they answered: 0, or a refusal.
     pub answers: BTreeMap<i32, u64>,
+    /// VAX floats that they answered alike, by kind; a reserved operand with 22.
+    pub vax_floats: BTreeMap<&'static str, u64>,
+    /// The same by what is to be said of them.
+    pub vax_traits: BTreeMap<&'static str, u64>,
 }
 
 impl fmt::Display for Covered {
@@ -83,7 +87,11 @@ impl fmt::Display for Covered {
         writeln!(out, "other padding     {}", list(&self.other_padding))?;
         writeln!(out, "questions         {}", list(&self.questions))?;
         writeln!(out, "levels answered   {}", list(&self.levels_answered))?;
-        write!(out, "reader's answers  {}", list(&self.answers))
+        writeln!(out, "reader's answers  {}", list(&self.answers))?;
+        let (floats, reserved) = (self.vax_floats.values().sum::<u64>(), self.reserved());
+        writeln!(out, "VAX floats        {floats}: {}", list(&self.vax_floats))?;
+        writeln!(out, "of them           {}", list(&self.vax_traits))?;
+        write!(out, "22                {reserved}")
     }
 }
 
@@ -91,6 +99,11 @@ impl Covered {
     /// Files with padding.
     fn padded(&self) -> u64 {
         PADDED.iter().filter_map(|kind| self.padding.get(kind)).sum()
+    }
+
+    /// Answers that were 22.
+    fn reserved(&self) -> u64 {
+        self.answers.get(&RESERVED_OPERAND).copied().unwrap_or(0)
     }
 
     /// Steps that gave 20, by what was wrong.
@@ -161,11 +174,12 @@ fn padding_kind(file: &[u8]) -> &'static str {
 
 /// A built file, left as it is or damaged.
 fn any_file(random: &mut Random, covered: &mut Covered) -> Vec<u8> {
-    let (kind, levels) = (random.below(10), 2 + random.place(7));
+    let (kind, levels) = (random.below(12), 2 + random.place(7));
     let (model, file) = match kind {
         7 => build::with_levels(random.number(), levels),
         8 => build::with_levels(random.number(), 9),
         9 => build::with_padding(random.number(), random.between(1, MOST_PADDING) as usize),
+        10 | 11 => build::with_vax_floats(random.number()),
         _ => build::any(random.number()),
     };
     count_file(&model, &file, covered);
@@ -179,6 +193,8 @@ fn any_file(random: &mut Random, covered: &mut Covered) -> Vec<u8> {
         6 => ("several damages", several(file, random)),
         7 => ("one field of a tree", damaged_by(file, damage::tree_damages, random)),
         8 => ("nine levels", file),
+        10 => ("VAX floats", file),
+        11 => ("VAX floats, bytes at random", scattered(file, random)),
         _ => ("eof or padding", damaged_by(file, damage::padding_damages, random)),
     };
     count(&mut covered.kinds, kind);
@@ -223,6 +239,10 @@ fn with_questions(file: &[u8], random: &mut Random, covered: &mut Covered) -> Re
         let answer = questions::agreed(file, &question)?;
         count(&mut covered.questions, questions::call(&question));
         count(&mut covered.answers, answer.err().unwrap_or(0));
+        if let Some((kind, traits)) = questions::vax_float(file, &question, answer)? {
+            count(&mut covered.vax_floats, kind.name());
+            traits.into_iter().for_each(|name| count(&mut covered.vax_traits, name));
+        }
         if let (Question::Levels(..), Ok(Given::Field(levels))) = (&question, answer) {
             count(&mut covered.levels_answered, levels);
         }

@@ -1,6 +1,7 @@
 //! The host side of Tlepozaluh: a second checker and reader of CDF files, written
 //! from document 01, the requests for lower index records, padded files, places of refusals and VAX floats and docs/STATE.md
-//! alone, a builder of good files and sources of damaged ones, and of states that no check leaves.
+//! alone, a builder of good files and sources of damaged ones, and of states that no check leaves, and a plain statement of
+//! what VAX floats are.
 //!
 //! The proved checker and reader, behind `bindings`, are compared with `second`; the two share no code.
 
@@ -21,3 +22,4 @@ pub mod places;
 pub mod questions;
 pub mod samples;
 pub mod second;
+pub mod vax;

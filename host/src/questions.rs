@@ -1,11 +1,13 @@
 //! Questions to a reader, of every call: put to the proved reader and to the second one, and answered in one form.
 
-use crate::bindings::{self, FILE_PADDING};
+use crate::bindings::{self, FILE_PADDING, RESERVED_OPERAND};
 use crate::build::random::Random;
 use crate::damage;
-use crate::second::bytes::field;
+use crate::second::bytes::{field, unsigned};
 use crate::second::read;
 use crate::second::rules::{Attribute, Entry, Name, Variable};
+use crate::second::tables::Form;
+use crate::vax::{self, Kind};
 use std::fmt;
 
 /// A question: a call of the reader with its numbers.
@@ -212,6 +214,47 @@ pub fn agreed(file: &[u8], question: &Question) -> Result<Answer, String> {
         return Err(format!("{question}: answered {ours:?}"));
     }
     Ok(ours)
+}
+
+/// The kind of VAX float that a question asks for; nothing if it is none, or if the variable or entry is not there.
+pub fn vax_kind(file: &[u8], question: &Question) -> Option<Kind> {
+    use Question::*;
+    let data_type = match question {
+        Value(kind, number, ..) | Pad(kind, number, _) => {
+            read::variable(file, *kind, *number).ok()?.data_type
+        }
+        Entry(attribute, kind, entry, _) => {
+            read::entry(file, *attribute, *kind, *entry).ok()?.data_type
+        }
+        EntryValueAt(attribute, kind, place, _) => {
+            let place = i64::try_from(*place).ok()?;
+            read::entry_at_place(file, *attribute, *kind, place).ok()?.data_type
+        }
+        _ => return None,
+    };
+    Kind::of(read::encoding(file).ok()?.number, data_type.number)
+}
+
+/// Judges a VAX float that was answered to a question by the plainest statement: its kind and what is to be said of it;
+/// nothing if it is none, or if it was refused for another reason than being a reserved operand.
+pub fn vax_float(
+    file: &[u8],
+    question: &Question,
+    answer: Answer,
+) -> Result<Option<(Kind, Vec<&'static str>)>, String> {
+    let Some(kind) = vax_kind(file, question) else { return Ok(None) };
+    match answer {
+        Ok(Given::Value(of_kind, bits, offset)) => {
+            let bytes = (kind.bits() / 8) as i64;
+            let pattern = unsigned(file, offset as i64, bytes, true).ok_or("no such offset")?;
+            kind.judge(pattern, Ok(bits))?;
+            let is_double = of_kind == Form::Double.number();
+            let found = Some((kind, kind.traits(pattern)));
+            is_double.then_some(found).ok_or(format!("{question}: {answer:?} is no double"))
+        }
+        Err(RESERVED_OPERAND) => Ok(Some((kind, vec![vax::RESERVED]))),
+        _ => Ok(None),
+    }
 }
 
 /// Numbers that no good question has, and some that it may have.

@@ -9,8 +9,17 @@ use tlepozaluh_host::second::check::{run, Granted};
 use tlepozaluh_host::second::read;
 use tlepozaluh_host::second::rules::Name;
 use tlepozaluh_host::second::tables::{DataType, DATA_TYPES, ENCODINGS};
+use tlepozaluh_host::vax::Kind;
 
 const FILES: u64 = 5000;
+
+/// Any good file; one in five has VAX floats for the most part.
+fn any_file(seed: u64) -> (File, Vec<u8>) {
+    match seed % 5 {
+        0 => build::with_vax_floats(seed),
+        _ => build::any(seed),
+    }
+}
 
 /// Links of a list of so many records: one each, and the zero link.
 fn links<T>(list: &[T]) -> u64 {
@@ -42,7 +51,7 @@ fn steps(model: &File, records: usize) -> u64 {
 #[test]
 fn accepted_with_steps_and_marks() {
     for seed in 0..FILES {
-        let (model, file) = build::any(seed);
+        let (model, file) = any_file(seed);
         let records = damage::records(&file);
         let mut marks = vec![0xAA; file.len()];
         let answer = run(&file, &mut marks);
@@ -63,20 +72,25 @@ fn equal_seeds_give_equal_files() {
     assert_ne!(build::any(3).1, build::any(4).1);
 }
 
-fn is_vax(model: &File, data_type: DataType) -> bool {
-    model.encoding.vax_floats && data_type.form.is_float()
-}
-
-/// What the reader must answer for an element: its kind and bits, or 19.
-fn element(model: &File, data_type: DataType, bits: u64) -> Result<(u64, u64), u32> {
-    if is_vax(model, data_type) {
-        return Err(19);
+/// The answer is right for the bits that are stored, or is the refusal: the stored element itself, or for a VAX float the
+/// nearest double or 22.
+fn assert_right(
+    model: &File,
+    data_type: DataType,
+    stored: Result<u64, u32>,
+    answer: Result<read::Answer, u32>,
+    what: &str,
+) {
+    let shown = answer.map(|answer| (answer.kind, answer.bits));
+    match (stored, Kind::of(model.encoding.number, data_type.number)) {
+        (Ok(pattern), Some(kind)) => {
+            let bits = shown.map(|(_, bits)| bits).map_err(|refusal| refusal as i32);
+            kind.judge(pattern, bits).unwrap_or_else(|wrong| panic!("{what}: {wrong}"));
+            assert!(shown.is_err() || answer.is_ok_and(|answer| answer.kind == 3), "{what}");
+        }
+        (Ok(bits), None) => assert_eq!(shown, Ok((data_type.form.number(), bits)), "{what}"),
+        (Err(refusal), _) => assert_eq!(shown, Err(refusal), "{what}"),
     }
-    Ok((data_type.form.number(), bits))
-}
-
-fn shown(answer: Result<read::Answer, u32>) -> Result<(u64, u64), u32> {
-    answer.map(|answer| (answer.kind, answer.bits))
 }
 
 /// A question about a variable's value, mostly of places that are there.
@@ -102,8 +116,8 @@ fn any_question(random: &mut Random, of: &Variable) -> Question {
     Question { record, indices, element }
 }
 
-/// The model's answer: 16, 17, 18, 19 in that order, or the element.
-fn expected_value(model: &File, of: &Variable, asked: &Question) -> Result<(u64, u64), u32> {
+/// What the model has stored for the answer: 16, 17, 18 in that order, or the element's bits.
+fn stored_value(model: &File, of: &Variable, asked: &Question) -> Result<u64, u32> {
     let wanted = if of.record_variance { asked.record } else { asked.record.min(0) };
     if wanted < 0 || of.max_rec == -1 || wanted > of.max_rec {
         return Err(16);
@@ -118,17 +132,16 @@ fn expected_value(model: &File, of: &Variable, asked: &Question) -> Result<(u64,
         return Err(18);
     }
     let at = asked.element as usize;
-    let bits = of.bits(model.row_majority, wanted, &asked.indices, at).expect("a stored element");
-    element(model, of.data_type, bits)
+    Ok(of.bits(model.row_majority, wanted, &asked.indices, at).expect("a stored element"))
 }
 
 #[test]
 fn values_are_the_models() {
     let mut random = Random::seeded(17);
     let mut given = 0;
-    let mut refused = [0; 21];
+    let mut refused = [0; 23];
     for seed in 0..FILES {
-        let (model, file) = build::any(seed);
+        let (model, file) = any_file(seed);
         for kind in [3, 8] {
             for (number, of) in model.variables(kind).iter().enumerate() {
                 let asked = any_question(&mut random, of);
@@ -141,13 +154,14 @@ fn values_are_the_models() {
                     &asked.indices,
                     asked.element,
                 );
-                assert_eq!(shown(answer), expected_value(&model, of, &asked), "seed {seed}");
+                let stored = stored_value(&model, of, &asked);
+                assert_right(&model, of.data_type, stored, answer, &format!("seed {seed}"));
                 answer.map_or_else(|refusal| refused[refusal as usize] += 1, |_| given += 1);
             }
         }
     }
     assert!(given > 1000, "{given}");
-    assert!(refused[16..=19].iter().all(|count| *count > 50), "{refused:?}");
+    assert!([16, 17, 18, 22].iter().all(|number| refused[*number] > 50), "{refused:?}");
 }
 
 /// The model's answer: 16, 17, or the level at which the record's values are named.
@@ -201,36 +215,48 @@ fn nine_levels() {
     }
 }
 
+/// How many elements were given, and how many refused with 22.
+type Found = [u64; 2];
+
+fn tally(found: &mut Found, answer: Result<read::Answer, u32>) {
+    found[0] += u64::from(answer.is_ok());
+    found[1] += u64::from(answer == Err(22));
+}
+
+fn sum(found: Found, more: Found) -> Found {
+    [found[0] + more[0], found[1] + more[1]]
+}
+
 /// Asks for a variable's pad value, one element below and one above included.
-fn check_pad(model: &File, file: &[u8], kind: i64, number: i64, of: &Variable) -> u64 {
+fn check_pad(model: &File, file: &[u8], kind: i64, number: i64, of: &Variable) -> Found {
     let pad = of.pad.clone().unwrap_or_default();
-    let mut given = 0;
+    let mut found = [0, 0];
     for at in -1..=of.elements {
         let bits = usize::try_from(at).ok().and_then(|at| pad.get(at));
-        let expected = bits.map_or(Err(18), |bits| element(model, of.data_type, *bits));
-        let answer = shown(read::read_pad(file, kind, number, at));
-        assert_eq!(answer, expected, "kind {kind} number {number}");
-        given += u64::from(answer.is_ok());
+        let answer = read::read_pad(file, kind, number, at);
+        let what = format!("kind {kind} number {number}");
+        assert_right(model, of.data_type, bits.copied().ok_or(18), answer, &what);
+        tally(&mut found, answer);
     }
-    given
+    found
 }
 
 #[test]
 fn pad_values_are_the_models() {
-    let mut given = 0;
+    let mut found = [0, 0];
     for seed in 0..FILES {
-        let (model, file) = build::any(seed);
+        let (model, file) = any_file(seed);
         for kind in [3, 8] {
             for (number, of) in (0..).zip(model.variables(kind)) {
-                given += check_pad(&model, &file, kind, number, of);
+                found = sum(found, check_pad(&model, &file, kind, number, of));
             }
         }
     }
-    assert!(given > 1000, "{given}");
+    assert!(found[0] > 1000 && found[1] > 50, "{found:?}");
 }
 
-fn check_entries(model: &File, file: &[u8], attribute: i64, kind: i64, entries: &[Entry]) -> u64 {
-    let mut given = 0;
+fn check_entries(model: &File, file: &[u8], attribute: i64, kind: i64, entries: &[Entry]) -> Found {
+    let mut found = [0, 0];
     for number in [-1, 0, 1, 2, 3, 4, 5, 6, i64::from(i32::MAX)] {
         let first = entries.iter().find(|entry| entry.number == number);
         for at in [-1, 0, 1, 4, 5] {
@@ -238,27 +264,27 @@ fn check_entries(model: &File, file: &[u8], attribute: i64, kind: i64, entries: 
                 Some(at) => entry.elements.get(at).copied().ok_or(18),
                 None => Err(18),
             };
-            let expected = match first {
-                None => Err(16),
-                Some(entry) => bits(entry).and_then(|bits| element(model, entry.data_type, bits)),
-            };
-            let answer = shown(read::read_entry(file, attribute, kind, number, at));
-            assert_eq!(answer, expected, "attribute {attribute} kind {kind} entry {number}");
-            given += u64::from(answer.is_ok());
+            let stored = first.map_or(Err(16), bits);
+            let answer = read::read_entry(file, attribute, kind, number, at);
+            let data_type = first.map_or(DATA_TYPES[0], |entry| entry.data_type);
+            let what = format!("attribute {attribute} kind {kind} entry {number}");
+            assert_right(model, data_type, stored, answer, &what);
+            tally(&mut found, answer);
         }
     }
-    given
+    found
 }
 
 #[test]
 fn entries_are_the_models() {
-    let mut given = 0;
+    let mut found = [0, 0];
     for seed in 0..FILES {
-        let (model, file) = build::any(seed);
+        let (model, file) = any_file(seed);
         for (number, attribute) in model.attributes.iter().enumerate() {
             for kind in [5, 9] {
                 let entries = attribute.entries(kind);
-                given += check_entries(&model, &file, number as i64, kind, entries);
+                let more = check_entries(&model, &file, number as i64, kind, entries);
+                found = sum(found, more);
             }
         }
         let beyond = model.attributes.len() as i64;
@@ -266,7 +292,7 @@ fn entries_are_the_models() {
         assert_eq!(read::read_entry(&file, -1, 9, 0, 0), Err(15), "seed {seed}");
         assert_eq!(read::read_entry(&file, 0, 3, 0, 0), Err(15), "seed {seed}");
     }
-    assert!(given > 1000, "{given}");
+    assert!(found[0] > 1000 && found[1] > 500, "{found:?}");
 }
 
 fn name_bytes(file: &[u8], name: Name) -> &[u8] {

@@ -3,7 +3,7 @@
 
 use std::fs::{read_dir, read_to_string};
 use std::path::{Path, PathBuf};
-use tlepozaluh_host::bindings::{check_begin, FILE_PADDING, STATE_LENGTH};
+use tlepozaluh_host::bindings::{check_begin, FILE_PADDING, RESERVED_OPERAND, STATE_LENGTH};
 use tlepozaluh_host::bindings::{read_attribute, read_entry_at, read_file, read_variable};
 use tlepozaluh_host::calls::{self, Call};
 use tlepozaluh_host::samples;
@@ -192,7 +192,7 @@ fn forms_of_parameters() {
     assert!(calls::of_rattle_source(&source.replace("u32,", "Strange,")).is_err());
 }
 
-/// The table of docs/INTERFACE.md, the header and the tools' words have the same numbers: -1 to 21, and 23.
+/// The table of docs/INTERFACE.md, the header and the tools' words have the same numbers: -1 to 23, but not 19.
 #[test]
 fn every_number_of_the_table() {
     let table = calls::table_numbers(&text("docs/INTERFACE.md"));
@@ -202,8 +202,10 @@ fn every_number_of_the_table() {
     let numbers: Vec<(String, i64)> = defined.into_iter().filter(comes_back).collect();
     assert_eq!(numbers, table);
     let all: Vec<i64> = table.iter().map(|(_, number)| *number).collect();
-    assert_eq!(all, (-1..=21).chain([23]).collect::<Vec<i64>>());
-    assert!(table.contains(&("TLZ_TOO_DEEP".to_string(), i64::from(TOO_DEEP))), "{table:?}");
+    assert_eq!(all, (-1..=18).chain(20..=23).collect::<Vec<i64>>());
+    for (name, number) in [("TLZ_TOO_DEEP", TOO_DEEP), ("TLZ_RESERVED_OPERAND", RESERVED_OPERAND)] {
+        assert!(table.contains(&(name.to_string(), i64::from(number))), "{name}: {table:?}");
+    }
     let words = text("tools/words.c");
     for (name, _) in &table {
         assert_eq!(words.matches(&format!("{{ {name}, \"")).count(), 1, "{name} in tools/words.c");

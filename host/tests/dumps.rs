@@ -7,6 +7,7 @@ use tlepozaluh_host::samples;
 use tlepozaluh_host::second;
 use tlepozaluh_host::second::check::{run, ACCEPTED};
 use tlepozaluh_host::second::read::{read_entry, read_value};
+use tlepozaluh_host::vax::Kind;
 
 /// What is compared where JCDF's dump is not the whole truth.
 #[derive(Clone, Copy, Debug, PartialEq)]
@@ -17,7 +18,7 @@ enum Compare {
     Except(&'static [(&'static str, &'static str)]),
     /// JCDF reads nothing of the file; these are the lines its bytes hold.
     Lines(&'static str),
-    /// JCDF reads nothing of the file; the `.vax.jcdf` dump, made without JCDF, is compared.
+    /// JCDF reads nothing of the file; the `.vax.jcdf` dump, made without JCDF, is compared: `vax` there is any float.
     Vax,
 }
 
@@ -119,26 +120,42 @@ fn expected(name: &str) -> Vec<String> {
     }
 }
 
+/// A token of a float that is a double or a reserved operand.
+fn is_vax_float(token: &str) -> bool {
+    let is_digit = |c: char| c.is_ascii_digit() || ('a'..='f').contains(&c);
+    let double = token.strip_prefix('d').is_some_and(|d| d.len() == 16 && d.chars().all(is_digit));
+    double || token == "reserved"
+}
+
+/// Our lines with `vax` for each float that theirs show as `vax`; how many these are is added.
+fn as_theirs(ours: &str, theirs: &[String], vax: &mut usize) -> Vec<String> {
+    let mut word = |(own, other): (&str, &str)| {
+        let stands_for = other == "vax" && is_vax_float(own);
+        *vax += usize::from(stands_for);
+        if stands_for { other } else { own }.to_string()
+    };
+    let mut line = |(own, other): (&str, &String)| {
+        let rest = own.split(' ').skip(other.split(' ').count()).map(str::to_string);
+        let pairs = own.split(' ').zip(other.split(' '));
+        pairs.map(&mut word).chain(rest).collect::<Vec<String>>().join(" ")
+    };
+    let more = ours.lines().skip(theirs.len()).map(str::to_string);
+    ours.lines().zip(theirs).map(&mut line).chain(more).collect()
+}
+
+/// How many floats the `.vax.jcdf` dumps show.
+const VAX_FLOATS: usize = 12;
+
 #[test]
 fn every_sample() {
     let names = names();
     assert_eq!(names.len(), 43);
+    let mut vax = 0;
     for name in &names {
-        let ours = second::dump::dump(&sample(name)).expect(name);
-        assert_eq!(ours.lines().collect::<Vec<_>>(), expected(name), "{name}");
+        let (ours, theirs) = (second::dump::dump(&sample(name)).expect(name), expected(name));
+        assert_eq!(as_theirs(&ours, &theirs, &mut vax), theirs, "{name}");
     }
-}
-
-/// A line as the proved reader can show it: no offset of a float that is refused.
-fn askable(line: &str) -> String {
-    let words: Vec<&str> = line.split(' ').collect();
-    let unplaced = |word: &str| match word.split_once('@') {
-        Some((before, _)) => format!("{before}@?"),
-        None => word.to_string(),
-    };
-    let is_vax = words.last().is_some_and(|last| *last == "vax" || last.starts_with("pad=vax@"));
-    let shown = |word: &&str| if is_vax { unplaced(word) } else { word.to_string() };
-    words.iter().map(shown).collect::<Vec<String>>().join(" ")
+    assert_eq!(vax, VAX_FLOATS);
 }
 
 /// The proved reader: every value, entry, pad value and descriptor of every sample.
@@ -146,13 +163,49 @@ fn askable(line: &str) -> String {
 fn every_sample_by_the_proved_reader() {
     let (mut lines, mut vax) = (0, 0);
     for name in names() {
-        let text = dump::dump(&sample(&name)).expect(&name);
-        let theirs: Vec<String> = expected(&name).iter().map(|line| askable(line)).collect();
-        assert_eq!(text.lines().collect::<Vec<_>>(), theirs, "{name}");
+        let (ours, theirs) = (dump::dump(&sample(&name)).expect(&name), expected(&name));
+        assert_eq!(as_theirs(&ours, &theirs, &mut vax), theirs, "{name}");
         lines += theirs.len();
-        vax += theirs.iter().filter(|line| line.contains("@?")).count();
     }
-    assert!(lines > 800 && vax > 10, "{lines} {vax}");
+    assert!(lines > 800 && vax == VAX_FLOATS, "{lines} {vax}");
+}
+
+/// The floats of the samples with VAX floats: each token of the dump against the bytes at its offset.
+#[test]
+fn vax_floats_are_those_of_the_bytes() {
+    let mut judged = 0;
+    for (name, number) in [("30_encoding_03", 3), ("30_encoding_14", 14), ("30_encoding_15", 15)] {
+        let file = sample(name);
+        let theirs = expected(name);
+        for ours in [second::dump::dump(&file).expect(name), dump::dump(&file).expect(name)] {
+            for ((line, kind), other) in kinds_of_lines(&ours, number).into_iter().zip(&theirs) {
+                let Some(kind) = kind else { continue };
+                let words: Vec<&str> = line.split(' ').collect();
+                assert_eq!(other.split(' ').nth(3), Some("vax"), "{name}: {line}");
+                let at: usize = words[2].trim_start_matches('@').parse().expect(line);
+                let bytes = file[at..at + kind.bits() as usize / 8].iter().rev();
+                let pattern = bytes.fold(0, |number, byte| number << 8 | u64::from(*byte));
+                let digits = words[3].strip_prefix('d').expect(line);
+                let bits = u64::from_str_radix(digits, 16).expect(line);
+                kind.judge(pattern, Ok(bits)).unwrap_or_else(|wrong| panic!("{name}: {wrong}"));
+                judged += 1;
+            }
+        }
+    }
+    assert_eq!(judged, 2 * VAX_FLOATS);
+}
+
+/// The lines of a dump, those of records with the kind of VAX float that they show.
+fn kinds_of_lines(dump: &str, encoding: i64) -> Vec<(&str, Option<Kind>)> {
+    let mut kind = None;
+    let of_line = |line| {
+        if let Some(rest) = str::split_once(line, " type=").filter(|_| line.starts_with("VAR ")) {
+            let number = rest.1.split(' ').next().and_then(|word| word.parse().ok());
+            kind = number.and_then(|number| Kind::of(encoding, number));
+        }
+        (line, kind.filter(|_| line.starts_with("R ")))
+    };
+    dump.lines().map(of_line).collect()
 }
 
 #[test]

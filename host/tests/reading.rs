@@ -149,13 +149,31 @@ fn indices_and_elements() {
     }
 }
 
+/// A file whose record 0 holds a VAX float with these highest bits, the others clear: 40 hex is 1/2 in every kind.
+fn vax_file(of_type: i64, of_encoding: i64, top: u8) -> Vec<u8> {
+    let mut file = file(of_type, of_encoding);
+    let at = read::record_offset(&file, 8, 0, 0).expect("a record") as usize;
+    let size = data_type(of_type).expect("data type").size as usize;
+    file[at..at + size].fill(0);
+    file[at + 1] = top;
+    file
+}
+
 #[test]
 fn vax_floats() {
     for number in [3, 14, 15] {
         for of_type in [21, 22, 31, 44, 45] {
-            let file = file(of_type, number);
-            assert_eq!(read_value(&file, 8, 0, 0, &[], 0), Err(19));
-            assert_eq!(read_value(&file, 8, 0, 0, &[], 1), Err(18), "18 before 19");
+            let half = 0x3FE0_0000_0000_0000;
+            let cases = [(0, Ok(0)), (0x40, Ok(half)), (0x80, Err(22)), (0xC0, Ok(1 << 63 | half))];
+            for (top, answer) in cases {
+                let file = vax_file(of_type, number, top);
+                assert_eq!(value(&file, 0), answer, "type {of_type}");
+                let kind = read_value(&file, 8, 0, 0, &[], 0).map(|answer| answer.kind);
+                assert_eq!(kind, answer.map(|_| 3), "type {of_type}");
+                assert_eq!(read_value(&file, 8, 0, 0, &[], 1), Err(18), "18 before 22");
+                assert_eq!(read_value(&file, 8, 0, 0, &[0], 0), Err(18), "18 before 22");
+                assert_eq!(read_value(&file, 8, 0, 2, &[], 0), Err(17), "17 before 22");
+            }
         }
         for of_type in [1, 2, 4, 11, 12, 14, 41, 51, 52] {
             assert_eq!(value(&file(of_type, number), 4), Ok(14), "type {of_type}");

@@ -35,6 +35,14 @@ pub fn any(seed: u64) -> (File, Vec<u8>) {
     (file, bytes)
 }
 
+/// Any good file with VAX floats.
+pub fn with_vax_floats(seed: u64) -> (File, Vec<u8>) {
+    let mut random = Random::seeded(seed);
+    let file = File::any_vax(&mut random);
+    let bytes = shuffled(&file, &mut random);
+    (file, bytes)
+}
+
 /// Any file with so many bytes behind eof: good, if there are no more than 511.
 pub fn with_padding(seed: u64, padding: usize) -> (File, Vec<u8>) {
     let mut random = Random::seeded(seed);
@@ -51,6 +59,7 @@ pub fn with_levels(seed: u64, levels: usize) -> (File, Vec<u8>) {
     variable.index(&mut random, levels);
     let place = random.place(file.z_variables.len() + 1);
     file.z_variables.insert(place, variable);
+    file.draw_vax_floats(&mut random);
     let bytes = shuffled(&file, &mut random);
     (file, bytes)
 }

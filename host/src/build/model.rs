@@ -2,7 +2,8 @@
 
 use super::random::Random;
 use crate::second::rules::MOST_PADDING;
-use crate::second::tables::{DataType, Encoding, Form, DATA_TYPES, ENCODINGS, GREATEST};
+use crate::second::tables::{data_type, DataType, Encoding, Form, DATA_TYPES, ENCODINGS, GREATEST};
+use crate::vax::Kind;
 
 /// A good file: its descriptors, variables, attributes and unused records.
 #[derive(Clone, Debug)]
@@ -162,6 +163,18 @@ impl Index {
         self.entries.iter().flat_map(IndexEntry::values).collect()
     }
 
+    /// Goes over every element of its values, below too.
+    fn all_elements(&mut self, each: &mut dyn FnMut(&mut u64)) {
+        for entry in &mut self.entries {
+            match entry {
+                IndexEntry::Values(values) => {
+                    values.records.iter_mut().flatten().for_each(&mut *each)
+                }
+                IndexEntry::Lower(lower) => lower.index.all_elements(each),
+            }
+        }
+    }
+
     /// How many levels it has, itself included.
     pub fn levels(&self) -> usize {
         1 + self.lower().map(|lower| lower.index.levels()).max().unwrap_or(0)
@@ -238,7 +251,69 @@ impl File {
         file.listed_unused = any_unused(random, 16);
         file.unlisted_unused = any_unused(random, 8);
         file.padding = any_padding(random);
+        file.draw_vax_floats(random);
         file
+    }
+
+    /// Any good file with VAX floats: most types of variables and entries are those of floats.
+    pub fn any_vax(random: &mut Random) -> File {
+        let mut file = File::any(random);
+        let vax: Vec<Encoding> =
+            ENCODINGS.iter().copied().filter(|of| of.vax_double.is_some()).collect();
+        file.encoding = random.one_of(&vax).copied().unwrap_or(file.encoding);
+        for variable in file.r_variables.iter_mut().chain(&mut file.z_variables) {
+            if variable.elements == 1 && !random.once_in(4) {
+                variable.data_type = any_float_type(random);
+            }
+        }
+        for entry in file.attributes.iter_mut().flat_map(Attribute::all_entries) {
+            if !random.once_in(4) {
+                entry.data_type = any_float_type(random);
+            }
+        }
+        file.draw_all(random);
+        file
+    }
+
+    /// Gives each element that is a VAX float a pattern that is drawn as one.
+    pub fn draw_vax_floats(&mut self, random: &mut Random) {
+        if self.encoding.vax_double.is_some() {
+            self.draw_elements(random, |kind, random, _, bits| {
+                if let Some(kind) = kind {
+                    *bits = kind.any(random);
+                }
+            });
+        }
+    }
+
+    /// Draws every element anew.
+    fn draw_all(&mut self, random: &mut Random) {
+        self.draw_elements(random, |kind, random, data_type, bits| {
+            *bits = match kind {
+                Some(kind) => kind.any(random),
+                None => any_bits(random, data_type),
+            };
+        });
+    }
+
+    /// Goes over every element: of values, pad values and entries.
+    fn draw_elements(
+        &mut self,
+        random: &mut Random,
+        draw: impl Fn(Option<Kind>, &mut Random, DataType, &mut u64),
+    ) {
+        let encoding = self.encoding.number;
+        let mut each = |data_type: DataType, bits: &mut u64| {
+            draw(Kind::of(encoding, data_type.number), random, data_type, bits)
+        };
+        for variable in self.r_variables.iter_mut().chain(&mut self.z_variables) {
+            let data_type = variable.data_type;
+            variable.all_elements(&mut |bits| each(data_type, bits));
+        }
+        for entry in self.attributes.iter_mut().flat_map(Attribute::all_entries) {
+            let data_type = entry.data_type;
+            entry.elements.iter_mut().for_each(|bits| each(data_type, bits));
+        }
     }
 
     /// The variables of a kind, which is the record type of its VDRs.
@@ -309,6 +384,12 @@ pub fn any_bits(random: &mut Random, data_type: DataType) -> u64 {
     }
 }
 
+/// One of the types of floats.
+fn any_float_type(random: &mut Random) -> DataType {
+    let number = random.one_of(&[21, 22, 31, 44, 45]).copied().unwrap_or(21);
+    data_type(number).unwrap_or(DATA_TYPES[0])
+}
+
 fn any_data_type(random: &mut Random) -> DataType {
     random.one_of(&DATA_TYPES).copied().unwrap_or(DATA_TYPES[0])
 }
@@ -355,6 +436,12 @@ impl Variable {
     pub fn index(&mut self, random: &mut Random, levels: usize) {
         self.chain = self.any_chain(random, levels);
         self.max_rec = self.any_max_rec(random);
+    }
+
+    /// Goes over every element of its pad value and its values.
+    fn all_elements(&mut self, each: &mut dyn FnMut(&mut u64)) {
+        self.pad.iter_mut().flatten().for_each(&mut *each);
+        self.chain.iter_mut().for_each(|index| index.all_elements(each));
     }
 
     /// All values of its index, in order.
@@ -503,6 +590,11 @@ impl Attribute {
             gr_entries: any_entries(random),
             z_entries: any_entries(random),
         }
+    }
+
+    /// All entries.
+    fn all_entries(&mut self) -> impl Iterator<Item = &mut Entry> {
+        self.gr_entries.iter_mut().chain(&mut self.z_entries)
     }
 
     /// The entries of a kind, which is the record type of its AEDRs.

@@ -1,6 +1,6 @@
 //! VAX floats: the exact value of F_FLOAT, D_FLOAT and G_FLOAT as a fraction of whole numbers, and the double nearest to it.
 
-use super::whole::{Fraction, Whole};
+use super::whole::Fraction;
 use std::cmp::Ordering;
 
 /// What bits of a float are.
@@ -118,11 +118,8 @@ impl VaxFloat {
 
     /// 0.1m in binary times 2^(e - offset): with a mantissa of w bits, (2^w + m) 2^e over 2^(w + 1) 2^offset.
     fn magnitude(&self, exponent: u64, mantissa: u64) -> Fraction {
-        let digits = Whole::two_to(self.width).plus(&Whole::of(mantissa));
-        Fraction {
-            above: digits.times(&Whole::two_to(exponent)),
-            below: Whole::two_to(self.width + 1).times(&Whole::two_to(self.offset)),
-        }
+        let digits = (1 << self.width) + mantissa;
+        Fraction::scaled(digits, exponent, self.width + 1 + self.offset)
     }
 }
 
@@ -132,13 +129,10 @@ const INFINITE: u64 = 0x7FF0_0000_0000_0000;
 /// The double of these bits, below infinity: 1.m times 2^(e - 1023), or 0.m times 2^-1022 if e is 0. The bits of infinity
 /// stand for 2^1024.
 fn of_double(bits: u64) -> Fraction {
-    let (exponent, mantissa) = (bits >> 52, Whole::of(bits % (1 << 52)));
-    let below = Whole::two_to(52 + 1023);
-    if exponent == 0 {
-        return Fraction { above: mantissa.times(&Whole::of(2)), below };
+    match (bits >> 52, bits % (1 << 52)) {
+        (0, mantissa) => Fraction::scaled(mantissa, 0, 52 + 1022),
+        (exponent, mantissa) => Fraction::scaled((1 << 52) + mantissa, exponent, 52 + 1023),
     }
-    let digits = Whole::two_to(52).plus(&mantissa);
-    Fraction { above: digits.times(&Whole::two_to(exponent)), below }
 }
 
 /// The greatest double that is not above a value. Doubles with a clear sign rise with their bits, from 0 on.
@@ -169,6 +163,7 @@ fn nearest(value: &Fraction) -> u64 {
 
 #[cfg(test)]
 mod tests {
+    use super::super::whole::Whole;
     use super::*;
 
     /// Every bit of every byte stands in one row, and every bit of every part.

@@ -109,6 +109,13 @@ pub struct Fraction {
 }
 
 impl Fraction {
+    /// A number times one power of two over another, their common part left out.
+    pub fn scaled(number: u64, up: u64, down: u64) -> Fraction {
+        let common = up.min(down);
+        let above = Whole::of(number).times(&Whole::two_to(up - common));
+        Fraction { above, below: Whole::two_to(down - common) }
+    }
+
     /// Which of the two is the greater: both brought to one denominator.
     pub fn compare(&self, other: &Fraction) -> Ordering {
         self.above.times(&other.below).cmp(&other.above.times(&self.below))
@@ -174,6 +181,12 @@ mod tests {
             assert_eq!(twice, Whole::two_to(power + 1));
             assert_eq!(Whole::of(2).times(&Whole::two_to(power)), twice);
             assert!(Whole::two_to(power) < twice);
+            let same = Fraction::scaled(3, 100, power);
+            let plain = Fraction {
+                above: Whole::of(3).times(&Whole::two_to(100)),
+                below: Whole::two_to(power),
+            };
+            assert_eq!(same.compare(&plain), Ordering::Equal);
         }
         assert_eq!(Whole::of(5).distance(&Whole::of(5)), Whole::of(0));
     }
