@@ -9,6 +9,7 @@
 #![deny(unsafe_code)]
 #![warn(missing_docs)]
 
+pub mod appendices;
 pub mod bindings;
 pub mod build;
 pub mod calls;

@@ -1,16 +1,22 @@
-//! The samples that are made here, of several levels by the builder from the models below, and padded ones from a sample:
-//! their checks, reads and dumps by both implementations.
+//! The samples that are made here, of several levels and of VAX floats by the builder from the models below, and padded ones
+//! from a sample: their checks, reads and dumps by both implementations.
 
+use std::collections::BTreeMap;
+
+use tlepozaluh_host::appendices;
 use tlepozaluh_host::bindings;
 use tlepozaluh_host::build::in_order;
-use tlepozaluh_host::build::model::{File, Index, IndexEntry, Lower, Values, Variable};
+use tlepozaluh_host::build::model::{
+    Attribute, Entry, File, Index, IndexEntry, Lower, Values, Variable,
+};
 use tlepozaluh_host::build::records::put;
-use tlepozaluh_host::dump;
-use tlepozaluh_host::questions::{proved, second, Given, Question};
+use tlepozaluh_host::dump::{self, askable};
+use tlepozaluh_host::questions::{proved, second, vax_float, Given, Question};
 use tlepozaluh_host::samples::{self, CheckLine};
 use tlepozaluh_host::second::check::run;
 use tlepozaluh_host::second::dump::dump as second_dump;
-use tlepozaluh_host::second::tables::{data_type, encoding, DataType};
+use tlepozaluh_host::second::tables::{data_type, encoding, DataType, Form, DATA_TYPES};
+use tlepozaluh_host::vax::{Kind, Parts, KINDS};
 
 fn base(of_encoding: i64) -> File {
     File::base(encoding(of_encoding).expect("encoding"))
@@ -108,6 +114,158 @@ fn linked_h() -> Vec<u8> {
     file
 }
 
+/// The elements of one value or entry of any type: numbers below zero and above, letters, floats of both signs.
+fn some_elements(of_encoding: i64, data_type: DataType, place: u64, count: u64) -> Vec<u64> {
+    let element = |at: u64| match (Kind::of(of_encoding, data_type.number), data_type.form) {
+        (Some(kind), _) => {
+            let exponent = kind.offset() + 5 * place + at;
+            let mantissa = kind.greatest_mantissa() / (7 + place) + at;
+            kind.pattern(Parts { negative: (place + at) % 2 == 1, exponent, mantissa })
+        }
+        (None, Form::Signed) => (-50 * (place as i64 + 1) + at as i64) as u64,
+        (None, Form::Character) => u64::from(b'A') + place + at,
+        (None, _) => 200 + place + at,
+    };
+    (0..count).map(element).collect()
+}
+
+/// A variable of any type with three records and a pad value.
+fn typed_variable(of_encoding: i64, data_type: DataType, letter: char) -> Variable {
+    let count = if data_type.form == Form::Character { 3 } else { 1 };
+    let value = |place| some_elements(of_encoding, data_type, place, count);
+    Variable {
+        name: format!("{letter}{}", data_type.number).into_bytes(),
+        elements: count as i64,
+        pad: Some(value(3)),
+        max_rec: 2,
+        chain: vec![Index::of(vec![Values { first: 0, records: (0..3).map(value).collect() }])],
+        ..Variable::plain(data_type, Vec::new())
+    }
+}
+
+/// An entry of any type, of three elements.
+fn typed_entry(of_encoding: i64, (number, data_type): (i64, DataType)) -> Entry {
+    let elements = some_elements(of_encoding, data_type, number as u64 % 5, 3);
+    Entry { number, data_type, elements }
+}
+
+/// All data types: as rVariables, zVariables and entries of each kind.
+fn all_types(of_encoding: i64) -> File {
+    let mut file = base(of_encoding);
+    let variables = |letter| DATA_TYPES.map(|of| typed_variable(of_encoding, of, letter)).to_vec();
+    file.r_variables = variables('r');
+    file.z_variables = variables('z');
+    let entries = || (0..).zip(DATA_TYPES).map(|of| typed_entry(of_encoding, of)).collect();
+    for (name, scope, z_entries) in [("of file", 1, Vec::new()), ("of variables", 2, entries())] {
+        let name = name.as_bytes().to_vec();
+        file.attributes.push(Attribute { name, scope, gr_entries: entries(), z_entries });
+    }
+    file
+}
+
+/// Mantissas of every sort: the least and the greatest, around the middle, one bit, every other bit.
+fn mantissas(kind: Kind) -> Vec<u64> {
+    let greatest = kind.greatest_mantissa();
+    let middle = greatest / 2;
+    let ends = (0..16).flat_map(|low| [low, greatest - low]);
+    let single = (4..kind.width()).map(|bit| 1 << bit);
+    ends.chain([middle - 1, middle, middle + 2, greatest / 3]).chain(single).collect()
+}
+
+/// The special patterns of a kind: zeros and reserved operands of every mantissa; then for the exponents at both ends and
+/// about 1.0 the mantissas at both ends, which with D_FLOAT, and with G_FLOAT's exponents 1 and 2, are rounded in every way.
+fn patterns(kind: Kind) -> Vec<u64> {
+    let greatest = kind.greatest_exponent();
+    let exponents = [1, 2, 3, kind.offset(), kind.offset() + 1, greatest - 1, greatest];
+    let ends = (0..16).flat_map(|low| [low, kind.greatest_mantissa() - low]);
+    let ends: Vec<u64> = ends.chain([kind.greatest_mantissa() / 3]).collect();
+    let zeros = mantissas(kind).into_iter().map(|mantissa| (0, mantissa));
+    let others = exponents.iter().flat_map(|of| ends.iter().map(|mantissa| (*of, *mantissa)));
+    let both = |(exponent, mantissa)| {
+        [false, true].map(|negative| kind.pattern(Parts { negative, exponent, mantissa }))
+    };
+    zeros.chain(others).flat_map(both).collect()
+}
+
+/// The encoding of the sample with special patterns of a kind, and the types that are floats of it.
+fn of_kind(kind: Kind) -> (i64, Vec<DataType>) {
+    match kind {
+        Kind::F => (14, vec![of_type(21), of_type(44)]),
+        Kind::D => (3, vec![of_type(22), of_type(31), of_type(45)]),
+        Kind::G => (15, vec![of_type(22), of_type(31), of_type(45)]),
+    }
+}
+
+/// A zVariable of floats, one a record.
+fn floats(name: &str, data_type: DataType, patterns: &[u64]) -> Variable {
+    let records = patterns.iter().map(|pattern| vec![*pattern]).collect();
+    Variable {
+        name: name.as_bytes().to_vec(),
+        max_rec: patterns.len() as i64 - 1,
+        chain: vec![Index::of(vec![Values { first: 0, records }])],
+        ..Variable::plain(data_type, Vec::new())
+    }
+}
+
+/// Special patterns as values of every type of a kind, as elements of entries and as pad values; and values of two, entries
+/// and pad values of which the first or the second is a reserved operand.
+fn special_patterns(kind: Kind) -> File {
+    let (of_encoding, types) = of_kind(kind);
+    let one = kind.pattern(Parts { negative: false, exponent: kind.offset() + 1, mantissa: 0 });
+    let reserved = kind.pattern(Parts { negative: true, exponent: 0, mantissa: 5 });
+    let zero = kind.pattern(Parts { negative: false, exponent: 0, mantissa: 5 });
+    let mut file = base(of_encoding);
+    for (data_type, pad) in types.iter().zip([reserved, one, zero]) {
+        let variable = floats(&format!("v{}", data_type.number), *data_type, &patterns(kind));
+        file.z_variables.push(Variable { pad: Some(vec![pad]), ..variable });
+    }
+    let pairs = vec![vec![one, reserved], vec![reserved, one], vec![zero, zero]];
+    file.z_variables.push(Variable {
+        sizes: vec![2],
+        variances: vec![true],
+        max_rec: 2,
+        chain: vec![Index::of(vec![Values { first: 0, records: pairs }])],
+        ..floats("pairs", types[0], &[])
+    });
+    file.r_variables.push(Variable { pad: Some(vec![reserved]), ..floats("r", types[1], &[one]) });
+    let entry =
+        |number, elements| Entry { number, data_type: types[number as usize % 2], elements };
+    let gr_entries = vec![entry(0, patterns(kind)), entry(1, vec![reserved, one])];
+    let z_entries = vec![entry(0, vec![one, reserved, zero]), entry(1, vec![reserved])];
+    let name = b"special".to_vec();
+    file.attributes.push(Attribute { name, scope: 2, gr_entries, z_entries });
+    file
+}
+
+/// The floats of a kind in the rows of the appendices, and the same with the sign set.
+fn of_appendix(kind: Kind) -> File {
+    let (of_encoding, types) = of_kind(kind);
+    let mut file = base(of_encoding);
+    for (name, negative) in [("rows", false), ("negative", true)] {
+        let cases = appendices::cases(kind).into_iter();
+        let cases = cases.map(|case| kind.pattern(Parts { negative, ..case.parts }));
+        file.z_variables.push(floats(name, types[0], &cases.collect::<Vec<u64>>()));
+    }
+    file
+}
+
+/// The samples of VAX floats.
+fn of_vax() -> Vec<(&'static str, Vec<u8>)> {
+    let [f, d, g] = KINDS;
+    let models = [
+        ("all_types_03.cdf", all_types(3)),
+        ("all_types_14.cdf", all_types(14)),
+        ("all_types_15.cdf", all_types(15)),
+        ("patterns_f.cdf", special_patterns(f)),
+        ("patterns_d.cdf", special_patterns(d)),
+        ("patterns_g.cdf", special_patterns(g)),
+        ("appendix_f.cdf", of_appendix(f)),
+        ("appendix_d.cdf", of_appendix(d)),
+        ("appendix_g.cdf", of_appendix(g)),
+    ];
+    models.into_iter().map(|(name, model)| (name, in_order(&model))).collect()
+}
+
 /// Each sample of a folder with its bytes.
 fn built(folder: &str) -> Vec<(&'static str, Vec<u8>)> {
     match folder {
@@ -117,6 +275,7 @@ fn built(folder: &str) -> Vec<(&'static str, Vec<u8>)> {
             ("nine_levels.cdf", in_order(&of_levels(9))),
             ("sparse_levels.cdf", in_order(&sparse_levels())),
         ],
+        "vax" => of_vax(),
         "padded" => vec![("padding_512.cdf", padded_h(512)), ("padding_link.cdf", linked_h())],
         _ => vec![
             ("padding_001.cdf", padded_h(1)),
@@ -127,7 +286,7 @@ fn built(folder: &str) -> Vec<(&'static str, Vec<u8>)> {
 }
 
 /// Folders with such samples, and how many lines `built_reads.txt` has there.
-const FOLDERS: [(&str, usize); 3] = [("", 21), ("levels", 134), ("padded", 15)];
+const FOLDERS: [(&str, usize); 4] = [("", 21), ("levels", 134), ("padded", 15), ("vax", 5662)];
 
 fn text(folder: &str, name: &str) -> String {
     std::fs::read_to_string(samples::directory().join(folder).join(name)).expect(name)
@@ -185,6 +344,24 @@ fn every_read() {
     }
 }
 
+/// The answers of the list for VAX floats are right by the plainest statement of them, and are of every sort.
+#[test]
+fn every_vax_float() {
+    let path = samples::directory().join("vax").join("built_reads.txt");
+    let mut seen: BTreeMap<(Kind, &str), usize> = BTreeMap::new();
+    for line in samples::read_lines(&path).expect("built_reads.txt") {
+        let file = sample("vax", &line.name);
+        let float = vax_float(&file, &line.question, line.answer);
+        let found = float.unwrap_or_else(|wrong| panic!("{line:?}: {wrong}"));
+        for (kind, name) in
+            found.into_iter().flat_map(|(kind, all)| all.into_iter().map(move |of| (kind, of)))
+        {
+            *seen.entry((kind, name)).or_insert(0) += 1;
+        }
+    }
+    assert!(seen.len() == 3 + 6 + 7 && seen.values().all(|count| *count > 5), "{seen:?}");
+}
+
 /// All that a reader finds in the accepted ones; in one that is not opened or has a broken list, 20.
 #[test]
 fn every_dump() {
@@ -196,7 +373,9 @@ fn every_dump() {
         let dump = line.name.replace(".cdf", ".dump");
         let expected = if accepted { Ok(text(folder, &dump)) } else { Err(20) };
         assert_eq!(second_dump(&file), expected.clone(), "second: {}", line.name);
-        assert_eq!(dump::dump(&file), expected.map_err(|number| number as i32), "{}", line.name);
+        let lines = |text: String| text.lines().map(|line| askable(line) + "\n").collect();
+        let expected = expected.map(lines).map_err(|number| number as i32);
+        assert_eq!(dump::dump(&file), expected, "{}", line.name);
     }
 }
 

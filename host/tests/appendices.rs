@@ -1,0 +1,109 @@
+//! Every VAX float of appendices A and B of source document 001, by the second implementation and, from the samples, by the
+//! proved reader.
+
+use tlepozaluh_host::appendices::{cases, Case, DOUBLE, MISPRINTS, SINGLE};
+use tlepozaluh_host::questions::{agreed, Given, Question};
+use tlepozaluh_host::samples;
+use tlepozaluh_host::second::vax::{D_FLOAT, F_FLOAT, G_FLOAT};
+use tlepozaluh_host::vax::{self, Kind, Parts, KINDS};
+
+/// What the second implementation answers.
+fn answer(kind: Kind, parts: Parts) -> Result<u64, i32> {
+    let bytes = kind.pattern(parts).to_le_bytes();
+    let of_kind = match kind {
+        Kind::F => F_FLOAT,
+        Kind::D => D_FLOAT,
+        Kind::G => G_FLOAT,
+    };
+    of_kind.double(&bytes[..kind.bits() as usize / 8]).ok_or(22)
+}
+
+/// 41 rows in A; 99 in B, 48 with a G_FLOAT and 63 with a D_FLOAT, 12 with both.
+#[test]
+fn every_row_is_there() {
+    assert_eq!((SINGLE.lines().count(), DOUBLE.lines().count()), (41, 99));
+    assert_eq!(KINDS.map(|kind| cases(kind).len()), [41, 63, 48]);
+    let with_double = |kind| cases(kind).iter().filter(|case| case.double.is_some()).count();
+    assert_eq!(KINDS.map(with_double), [20, 8, 27]);
+    for (printed, right) in MISPRINTS {
+        assert_eq!(DOUBLE.lines().filter(|row| *row == printed).count(), 1, "{printed}");
+        assert_eq!(DOUBLE.lines().filter(|row| *row == right).count(), 0, "{right}");
+    }
+}
+
+/// A misprinted row contradicts itself or the one before it.
+#[test]
+fn misprints() {
+    let g_float = |mantissa, exponent| {
+        answer(Kind::G, Parts { negative: false, exponent, mantissa }).expect("a value")
+    };
+    assert_ne!(g_float(2, 0x381), 0x37F << 52 | 0x20);
+    assert_eq!(g_float(2, 0x381), 0x37F << 52 | 2);
+    assert_ne!(g_float((1 << 52) - 2, 0x47F), 0x47D << 52 | ((1 << 52) - 1));
+    assert_eq!(g_float((1 << 52) - 1, 0x47F), 0x47D << 52 | ((1 << 52) - 1));
+}
+
+/// Digits and exponent of a number as printed.
+fn printed(text: &str) -> (&str, i32) {
+    let (digits, exponent) = text.split_once('e').expect(text);
+    (digits, exponent.parse().expect(text))
+}
+
+/// The answer is the row's double, and its printed value: rounded to so many digits if the float is a double's value; else
+/// the double nearest to what is printed, or the even one of two.
+fn check(kind: Kind, case: &Case, bits: u64) {
+    assert!(case.double.is_none_or(|double| double == bits), "{case:?}: {bits:x}");
+    let traits = kind.traits(kind.pattern(case.parts));
+    if traits.contains(&vax::EXACT) || traits.contains(&vax::ZERO) {
+        let places = printed(case.value).0.len() - 2;
+        let text = format!("{:.places$e}", f64::from_bits(bits));
+        assert_eq!(printed(&text), printed(case.value), "{case:?}");
+        return;
+    }
+    let near: f64 = case.value.parse().expect(case.value);
+    if traits.contains(&vax::TIE) {
+        assert!(bits % 2 == 0 && near.to_bits().abs_diff(bits) <= 1, "{case:?}: {bits:x}");
+    } else {
+        assert_eq!(near.to_bits(), bits, "{case:?}");
+    }
+}
+
+#[test]
+fn every_row() {
+    for kind in KINDS {
+        for case in cases(kind) {
+            let bits = answer(kind, case.parts).expect("a value");
+            check(kind, &case, bits);
+            kind.judge(kind.pattern(case.parts), Ok(bits)).expect("the nearest double");
+            let negative = Parts { negative: true, ..case.parts };
+            let refused = case.parts.exponent == 0;
+            let expected = if refused { Err(22) } else { Ok(1 << 63 | bits) };
+            assert_eq!(answer(kind, negative), expected, "{case:?}");
+        }
+    }
+}
+
+/// The samples that hold the rows: zVariable 0 as they are, zVariable 1 with the sign set.
+#[test]
+fn every_row_by_both_readers() {
+    let mut refused = 0;
+    for (kind, name) in
+        KINDS.into_iter().zip(["appendix_f.cdf", "appendix_d.cdf", "appendix_g.cdf"])
+    {
+        let file = std::fs::read(samples::directory().join("vax").join(name)).expect(name);
+        for (case, record) in cases(kind).iter().zip(0..) {
+            let ask = |number| {
+                let question = Question::Value(8, number, record, Vec::new(), 0);
+                agreed(&file, &question).expect("one answer")
+            };
+            let Ok(Given::Value(3, bits, _)) = ask(0) else { panic!("{case:?}") };
+            check(kind, case, bits);
+            match ask(1) {
+                Ok(Given::Value(3, negative, _)) => assert_eq!(negative, 1 << 63 | bits),
+                other => assert_eq!((other, case.parts.exponent), (Err(22), 0), "{case:?}"),
+            }
+            refused += usize::from(case.parts.exponent == 0);
+        }
+    }
+    assert_eq!(refused, 15);
+}
