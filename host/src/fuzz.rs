@@ -234,8 +234,8 @@ const QUESTIONS: usize = 40;
 
 fn with_questions(file: &[u8], random: &mut Random, covered: &mut Covered) -> Result<(), String> {
     let accepted = check::run(file, &mut vec![0; file.len()]).verdict == 0;
-    for _ in 0..QUESTIONS {
-        let question = questions::any(file, random);
+    let any = (0..QUESTIONS).map(|_| questions::any(file, random)).collect::<Vec<Question>>();
+    for question in any.into_iter().chain(questions::for_vax_floats(file, random)) {
         let answer = questions::agreed(file, &question)?;
         count(&mut covered.questions, questions::call(&question));
         count(&mut covered.answers, answer.err().unwrap_or(0));
@@ -429,7 +429,12 @@ mod tests {
         assert_eq!(one.files, 200);
         assert!(one.verdicts.len() > 8 && one.made_up_states.len() == 10, "{one}");
         assert!(one.compared.steps.len() == 10 && one.bad_steps().len() > 12, "{one}");
-        assert!(one.questions.len() == questions::CALLS && one.answers.len() == 7, "{one}");
+        assert_eq!(one.questions.len(), questions::CALLS, "{one}");
+        let answers: Vec<i32> = one.answers.keys().copied().collect();
+        assert_eq!(answers, [0, 15, 16, 17, 18, 20, 22], "{one}");
+        assert!(one.vax_floats.len() == 3 && one.vax_traits.len() == 7, "{one}");
+        assert!(one.vax_floats.values().all(|floats| *floats > 150), "{one}");
+        assert!(one.vax_floats.values().sum::<u64>() > 800 && one.reserved() > 40, "{one}");
         assert!(one.levels.len() == 10 && one.compared.levels.len() == 8, "{one}");
         assert!(one.levels_answered.len() >= 5, "{one}");
         assert!(one.padding.len() == 5 && one.padded() > 60, "{one}");

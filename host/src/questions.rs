@@ -257,6 +257,34 @@ pub fn vax_float(
     }
 }
 
+/// The most variables, attributes, entries of a list and records that are asked for VAX floats.
+const MOST: i64 = 8;
+
+/// Questions for the VAX floats of a file, if it has such an encoding: pad values, values and elements of entries.
+pub fn for_vax_floats(file: &[u8], random: &mut Random) -> Vec<Question> {
+    if read::encoding(file).map_or(true, |of| of.vax_double.is_none()) {
+        return Vec::new();
+    }
+    let mut found = Vec::new();
+    for (kind, number) in [3, 8].iter().flat_map(|kind| (0..MOST).map(|number| (*kind, number))) {
+        let Ok(of) = read::variable(file, kind, number) else { continue };
+        found.push(Question::Pad(kind, number, 0));
+        for record in 0..=of.max_rec.min(MOST) {
+            let indices = of.sizes.iter().map(|size| random.below(*size)).collect();
+            found.push(Question::Value(kind, number, record, indices, 0));
+        }
+    }
+    let lists = (0..MOST).flat_map(|attribute| [(attribute, 5), (attribute, 9)]);
+    for ((attribute, kind), place) in lists.flat_map(|list| (0..MOST).map(move |at| (list, at))) {
+        let Ok(of) = read::entry_at_place(file, attribute, kind, place) else { continue };
+        let elements = 0..of.elements.min(MOST);
+        found.extend(elements.map(|at| Question::EntryValueAt(attribute, kind, place as u64, at)));
+        found.push(Question::Entry(attribute, kind, of.number, 0));
+    }
+    found.retain(|question| vax_kind(file, question).is_some());
+    found
+}
+
 /// Numbers that no good question has, and some that it may have.
 const EDGES: [i64; 18] = [
     i64::MIN,

@@ -10,12 +10,13 @@ use tlepozaluh_host::samples;
 use tlepozaluh_host::second::bytes::field;
 use tlepozaluh_host::second::{check, read};
 
-/// What was answered: how often each number, and by which calls anything was given.
+/// What was answered: how often each number, by which calls anything was given, and how many VAX floats, by kind.
 #[derive(Default)]
 struct Tally {
     numbers: BTreeMap<i32, u64>,
     given: BTreeSet<&'static str>,
     asked: u64,
+    vax_floats: BTreeMap<&'static str, u64>,
 }
 
 impl Tally {
@@ -31,6 +32,10 @@ impl Tally {
             self.given.insert(questions::call(question));
         }
         self.asked += 1;
+        let float = questions::vax_float(file, question, answer);
+        if let Some((kind, _)) = float.unwrap_or_else(|wrong| panic!("{}: {wrong}", what())) {
+            *self.vax_floats.entry(kind.name()).or_insert(0) += 1;
+        }
         answer
     }
 
@@ -41,7 +46,7 @@ impl Tally {
     }
 }
 
-/// Sample files, rings, files of several levels, padded files and the files of all archives, by name.
+/// Sample files, rings, files of several levels, padded files, VAX floats and the files of all archives, by name.
 fn sample_files() -> Vec<(String, Vec<u8>)> {
     let mut found = Vec::new();
     let directory = samples::directory();
@@ -67,7 +72,7 @@ fn sample_files() -> Vec<(String, Vec<u8>)> {
 #[test]
 fn every_edge_on_every_sample() {
     let files = sample_files();
-    assert_eq!(files.len(), 46 + 11 + 4 + 2 + 830 + 400 + 400);
+    assert_eq!(files.len(), 46 + 11 + 4 + 2 + 9 + 830 + 4 * 400);
     let all = questions::edges();
     let mut tally = Tally::default();
     for (name, file) in &files {
@@ -134,7 +139,8 @@ fn built_files() {
     let mut random = Random::seeded(12);
     let mut tally = Tally::default();
     for seed in 0..2000 {
-        let (_, file) = build::any(seed);
+        let built = if seed % 4 == 0 { build::with_vax_floats } else { build::any };
+        let file = built(seed).1;
         let what = || format!("seed {seed}");
         all_of(&file, &mut tally, &what);
         for _ in 0..60 {
@@ -145,6 +151,9 @@ fn built_files() {
     let numbers: Vec<i32> = tally.numbers.keys().copied().collect();
     assert_eq!(numbers, [0, 15, 16, 17, 18, 22], "{:?}", tally.numbers);
     assert_eq!(tally.given.len(), CALLS);
+    let floats = &tally.vax_floats;
+    assert!(floats.len() == 3 && floats.values().all(|count| *count > 5000), "{floats:?}");
+    assert!(tally.numbers[&22] > 2000, "{:?}", tally.numbers);
 }
 
 /// Asks a damaged file; on one that is still accepted no call answers 20.
@@ -161,7 +170,8 @@ fn ask_all(seeds: std::ops::Range<u64>, damages: impl Fn(&[u8]) -> Vec<Damage>) 
     let mut random = Random::seeded(seeds.start + 13);
     let mut tally = Tally::default();
     for seed in seeds {
-        let (_, file) = build::any(seed);
+        let built = if seed % 4 == 0 { build::with_vax_floats } else { build::any };
+        let file = built(seed).1;
         for damage in damages(&file) {
             let damaged = damage::damaged(&file, &damage);
             let what = || format!("seed {seed}: {damage:?}");
@@ -214,7 +224,8 @@ fn several_damages_and_bytes_at_random() {
     let mut random = Random::seeded(14);
     let mut tally = Tally::default();
     for seed in 0..1500 {
-        let (_, mut file) = build::any(seed);
+        let built = if seed % 4 == 0 { build::with_vax_floats } else { build::any };
+        let mut file = built(seed).1;
         let all = damage::all_damages(&file);
         let damages = damage::some_of(&all, &mut random);
         let damaged =
