@@ -120,10 +120,11 @@ impl Kind {
     /// Any mantissa, of whose last bits so many are beyond a double's.
     fn any_mantissa(self, beyond: u64, random: &mut Random) -> u64 {
         let (any, low) = (random.number() & self.greatest_mantissa(), random.number() % 16);
-        match random.below(6) {
+        match random.below(8) {
             0 => low,
             1 => self.greatest_mantissa() - low,
-            2 | 3 if beyond > 0 => any >> beyond << beyond | 1 << (beyond - 1),
+            2 => self.greatest_mantissa() - low % 4,
+            3 | 4 if beyond > 0 => any >> beyond << beyond | 1 << (beyond - 1),
             _ => any,
         }
     }

@@ -1,6 +1,8 @@
 //! Files that the builder makes: accepted, with the steps, marks, values and descriptors of
 //! the model they are made of.
 
+use std::collections::BTreeMap;
+
 use tlepozaluh_host::build;
 use tlepozaluh_host::build::model::{Attribute, Entry, File, Index, Variable};
 use tlepozaluh_host::build::random::Random;
@@ -367,6 +369,38 @@ fn descriptors_are_the_models() {
         }
         assert_eq!(read::attribute(&file, counts.attributes), Err(15));
         assert_eq!(read::variable(&file, 5, 0), Err(15));
+    }
+}
+
+/// Counts what is to be said of a VAX float.
+fn count_traits(counts: &mut BTreeMap<(Kind, &str), usize>, kind: Kind, patterns: &[u64]) {
+    for name in patterns.iter().flat_map(|pattern| kind.traits(*pattern)) {
+        *counts.entry((kind, name)).or_insert(0) += 1;
+    }
+}
+
+/// VAX floats of every sort are built as values, as pad values and as elements of entries.
+#[test]
+fn every_sort_of_vax_float_is_built() {
+    let mut counts = [BTreeMap::new(), BTreeMap::new(), BTreeMap::new()];
+    for model in (0..FILES).map(|seed| any_file(seed).0) {
+        let kind = |data_type: DataType| Kind::of(model.encoding.number, data_type.number);
+        for variable in model.r_variables.iter().chain(&model.z_variables) {
+            let Some(kind) = kind(variable.data_type) else { continue };
+            for values in variable.values() {
+                count_traits(&mut counts[0], kind, &values.records.concat());
+            }
+            count_traits(&mut counts[1], kind, variable.pad.as_deref().unwrap_or(&[]));
+        }
+        let entries = |of: &Attribute| [of.gr_entries.clone(), of.z_entries.clone()].concat();
+        for entry in model.attributes.iter().flat_map(entries) {
+            let Some(kind) = kind(entry.data_type) else { continue };
+            count_traits(&mut counts[2], kind, &entry.elements);
+        }
+    }
+    let traits = 3 + 6 + 7;
+    for counts in counts {
+        assert!(counts.len() == traits && counts.values().all(|count| *count > 5), "{counts:?}");
     }
 }
 
