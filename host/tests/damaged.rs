@@ -5,6 +5,7 @@ use tlepozaluh_host::build;
 use tlepozaluh_host::build::random::Random;
 use tlepozaluh_host::damage::{self, Damage, Found};
 use tlepozaluh_host::places;
+use tlepozaluh_host::questions::REFUSALS;
 use tlepozaluh_host::second::check::run;
 use tlepozaluh_host::second::read;
 use tlepozaluh_host::second::rules::body;
@@ -56,7 +57,7 @@ fn tried(file: &[u8], what: &dyn Fn() -> String) -> i32 {
     let mut refusals = Vec::new();
     ask_values(file, &mut refusals);
     ask_entries(file, &mut refusals);
-    assert!(refusals.iter().all(|refusal| (15..=20).contains(refusal)), "{}", what());
+    assert!(refusals.iter().all(|number| REFUSALS.contains(&(*number as i32))), "{}", what());
     let broken = refusals.iter().filter(|refusal| **refusal == 20).count();
     if answer.verdict == 0 {
         assert_eq!(broken, 0, "{}", what());

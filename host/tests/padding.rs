@@ -1,5 +1,7 @@
 //! Padded files, by both implementations: the padding cannot matter, and a padded file is what it is without padding.
 
+use std::collections::BTreeMap;
+
 use tlepozaluh_host::bindings::{Granted, FILE_PADDING};
 use tlepozaluh_host::build;
 use tlepozaluh_host::build::model::File;
@@ -9,7 +11,7 @@ use tlepozaluh_host::damage;
 use tlepozaluh_host::made_up::Source;
 use tlepozaluh_host::padding::{other_behind, same_answer, same_check};
 use tlepozaluh_host::pair::{Compared, Pair};
-use tlepozaluh_host::questions::{self, agreed, Given, Question};
+use tlepozaluh_host::questions::{self, agreed, Given, Question, REFUSALS};
 use tlepozaluh_host::samples;
 use tlepozaluh_host::second::check::FRESH;
 use tlepozaluh_host::second::rules::body;
@@ -80,13 +82,20 @@ fn any_padded(seed: u64, random: &mut Random) -> Source {
     Source::new(damaged.as_ref().filter(|_| random.once_in(2)).unwrap_or(&file))
 }
 
+/// Questions about a file: some at random, and those for its VAX floats.
+fn asked(file: &[u8], random: &mut Random) -> Vec<Question> {
+    let mut found: Vec<Question> = (0..40).map(|_| questions::any(file, random)).collect();
+    found.extend(questions::for_vax_floats(file, random));
+    found
+}
+
 /// Two files that differ from their end on alone have the same verdict, steps, states and marks below the end, whatever
 /// the marks and the saved state are; the marks from the end on stay; and every question has the same answer.
 #[test]
 fn the_padding_cannot_matter() {
     let mut random = Random::seeded(101);
     let mut compared = Compared::default();
-    let mut answers = [0; 21];
+    let mut answers: BTreeMap<i32, u64> = BTreeMap::new();
     for seed in 0..400 {
         let source = any_padded(seed, &mut random);
         let (file, end) = (source.file(), body(source.file()).len());
@@ -101,16 +110,16 @@ fn the_padding_cannot_matter() {
                 assert!(same.is_ok(), "seed {seed}: {same:?}");
             }
         }
-        for _ in 0..40 {
-            let question = questions::any(file, &mut random);
+        for question in asked(file, &mut random) {
             let answer = same_answer([file, &other], &question);
             let answer = answer.unwrap_or_else(|wrong| panic!("seed {seed}: {wrong}"));
-            answers[answer.err().unwrap_or(0) as usize] += 1;
+            *answers.entry(answer.err().unwrap_or(0)).or_insert(0) += 1;
         }
     }
     let ends: Vec<i32> = compared.answers.keys().copied().collect();
     assert!([0, 6, 7, 8, 9, 10, 11, 12, 13, 20].iter().all(|end| ends.contains(end)), "{ends:?}");
-    assert!(answers[0] > 1000 && answers[15..].iter().all(|number| *number > 3), "{answers:?}");
+    let refused = REFUSALS.iter().all(|number| answers.get(number) > Some(&3));
+    assert!(answers[&0] > 1000 && refused, "{answers:?}");
 }
 
 /// The marks below an offset that a fresh check leaves after so many steps, with its answer, its place and all numbers of
@@ -158,21 +167,22 @@ fn a_padded_file_is_checked_as_the_unpadded_one() {
 #[test]
 fn a_padded_file_is_read_as_the_unpadded_one() {
     let mut random = Random::seeded(103);
-    let mut answers = [0; 20];
+    let mut answers: BTreeMap<i32, u64> = BTreeMap::new();
     for seed in 0..500 {
         let (model, padded) = build::any(seed);
         let file = body(&padded);
         assert_eq!((told(&padded), told(file)), (Ok(model.padding as i64), Ok(0)), "seed {seed}");
-        for _ in 0..40 {
-            let question = questions::any(&padded, &mut random);
+        for question in asked(&padded, &mut random) {
             let answer = agreed(&padded, &question).unwrap_or_else(|wrong| panic!("{wrong}"));
             if question != Question::File(FILE_PADDING) {
                 assert_eq!(agreed(file, &question), Ok(answer), "seed {seed}: {question}");
-                answers[answer.err().unwrap_or(0) as usize] += 1;
+                *answers.entry(answer.err().unwrap_or(0)).or_insert(0) += 1;
             }
         }
     }
-    assert!(answers[15..].iter().all(|number| *number > 10), "{answers:?}");
+    let numbers: Vec<i32> = answers.keys().copied().collect();
+    assert_eq!(numbers, [0, 15, 16, 17, 18, 22], "{answers:?}");
+    assert!(answers.values().all(|count| *count > 10), "{answers:?}");
 }
 
 /// One byte too many: 6 in one step, no mark is written, and the reader opens nothing.
