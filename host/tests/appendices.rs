@@ -62,7 +62,7 @@ fn check(kind: Kind, case: &Case, bits: u64) {
     }
     let near: f64 = case.value.parse().expect(case.value);
     if traits.contains(&vax::TIE) {
-        assert!(bits % 2 == 0 && near.to_bits().abs_diff(bits) <= 1, "{case:?}: {bits:x}");
+        assert!(bits.is_multiple_of(2) && near.to_bits().abs_diff(bits) <= 1, "{case:?}: {bits:x}");
     } else {
         assert_eq!(near.to_bits(), bits, "{case:?}");
     }

@@ -1,8 +1,12 @@
-//! VAX floats: the second implementation against the plainest statement of what is right, on patterns of every kind.
+//! VAX floats: both implementations against the plainest statement of what is right, on patterns of every kind.
 
 use std::collections::BTreeMap;
 
+use tlepozaluh_host::build::in_order;
+use tlepozaluh_host::build::model::{File, Index, Values, Variable};
 use tlepozaluh_host::build::random::Random;
+use tlepozaluh_host::questions::{agreed, Given, Question};
+use tlepozaluh_host::second::tables::{data_type, encoding};
 use tlepozaluh_host::second::vax::{VaxFloat, D_FLOAT, F_FLOAT, G_FLOAT};
 use tlepozaluh_host::vax::{self, Kind, Parts, KINDS};
 
@@ -67,6 +71,38 @@ fn no_double_is_nearer() {
         assert_eq!(seen.len(), expected.len(), "{kind:?}: {seen:?}");
         for (name, floor) in expected {
             assert!(seen[name] >= *floor, "{kind:?}: {name}: {seen:?}");
+        }
+    }
+}
+
+/// A file with a zVariable of these floats, one a record.
+fn file_of(kind: Kind, patterns: &[u64]) -> Vec<u8> {
+    let (of_encoding, of_type) = [(14, 44), (3, 45), (15, 31)][kind as usize];
+    let mut file = File::base(encoding(of_encoding).expect("encoding"));
+    let records = patterns.iter().map(|pattern| vec![*pattern]).collect();
+    file.z_variables.push(Variable {
+        max_rec: patterns.len() as i64 - 1,
+        chain: vec![Index::of(vec![Values { first: 0, records }])],
+        ..Variable::plain(data_type(of_type).expect("data type"), Vec::new())
+    });
+    in_order(&file)
+}
+
+/// The same patterns in a file, by both readers.
+#[test]
+fn no_double_is_nearer_by_both_readers() {
+    for kind in KINDS {
+        let mut random = Random::seeded(106);
+        let patterns: Vec<u64> = (0..100_000).map(|_| kind.any(&mut random)).collect();
+        let file = file_of(kind, &patterns);
+        for (record, pattern) in (0..).zip(&patterns) {
+            let question = Question::Value(8, 0, record, Vec::new(), 0);
+            let answer = agreed(&file, &question).unwrap_or_else(|wrong| panic!("{wrong}"));
+            let bits = answer.map(|given| match given {
+                Given::Value(3, bits, _) => bits,
+                other => panic!("{other:?} is no double"),
+            });
+            kind.judge(*pattern, bits).unwrap_or_else(|wrong| panic!("{wrong}"));
         }
     }
 }

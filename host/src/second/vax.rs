@@ -2,6 +2,7 @@
 
 use super::whole::Fraction;
 use std::cmp::Ordering;
+use Part::{Exponent, Mantissa, Sign};
 
 /// What bits of a float are.
 #[derive(Clone, Copy, Debug, PartialEq, Eq)]
@@ -10,8 +11,6 @@ enum Part {
     Exponent,
     Mantissa,
 }
-
-use Part::{Exponent, Mantissa, Sign};
 
 /// A row of a table: a byte, its bits from the first to the last, and which bits of which part they are.
 #[derive(Debug, PartialEq, Eq)]
