@@ -10,120 +10,6 @@ pub struct DataType {
     pub kind: u32,
 }
 
-// The data types by their numbers: the bytes of an element.
-const SIZES: [u8; 53] = [
-    0,
-    1,
-    2,
-    0,
-    4,
-    0,
-    0,
-    0,
-    0,
-    0,
-    0,
-    1,
-    2,
-    0,
-    4,
-    0,
-    0,
-    0,
-    0,
-    0,
-    0,
-    4,
-    8,
-    0,
-    0,
-    0,
-    0,
-    0,
-    0,
-    0,
-    0,
-    8,
-    0,
-    0,
-    0,
-    0,
-    0,
-    0,
-    0,
-    0,
-    0,
-    1,
-    0,
-    0,
-    4,
-    8,
-    0,
-    0,
-    0,
-    0,
-    0,
-    1,
-    1,
-];
-
-// And the kinds of their values.
-const KINDS: [u8; 53] = [
-    0,
-    0,
-    0,
-    0,
-    0,
-    0,
-    0,
-    0,
-    0,
-    0,
-    0,
-    1,
-    1,
-    0,
-    1,
-    0,
-    0,
-    0,
-    0,
-    0,
-    0,
-    2,
-    3,
-    0,
-    0,
-    0,
-    0,
-    0,
-    0,
-    0,
-    0,
-    3,
-    0,
-    0,
-    0,
-    0,
-    0,
-    0,
-    0,
-    0,
-    0,
-    0,
-    0,
-    0,
-    2,
-    3,
-    0,
-    0,
-    0,
-    0,
-    0,
-    4,
-    4,
-];
-
 // A number of a table.
 pub fn number(x: u8) -> u32
     ensures { λ r. ⌜ r ≡ x ⌝ }
@@ -131,22 +17,7 @@ pub fn number(x: u8) -> u32
     x as u32
 }
 
-// The data type of a number.
-pub fn type_of(t: u32) -> DataType
-    ensures { λ r. ⌜ r ≡ typeOf t ⌝ }
-{
-    if t < 53 {
-        let i = t as usize;
-        DataType {
-            size: number(SIZES[i]),
-            kind: number(KINDS[i]),
-        }
-    } else {
-        DataType { size: 0, kind: 0 }
-    }
-}
-
-// The bytes of one element of a data type, 0 for a number that is no data type. It is the size of `type_of`, without the table.
+// The bytes of one element of a data type, 0 for a number that is no data type.
 pub fn size_of(t: u32) -> u32
     ensures { λ r. ⌜ (r ≡ typeOf t .size) × (r ≤ 8) ⌝ }
 {
@@ -163,4 +34,33 @@ pub fn size_of(t: u32) -> u32
         return 8;
     }
     0
+}
+
+// The kind of a data type's values, 0 for a number that is no data type.
+fn kind_of(t: u32) -> u32
+    ensures { λ r. ⌜ r ≡ typeOf t .kind ⌝ }
+{
+    if (t == 11) | (t == 12) | (t == 14) {
+        return 1;
+    }
+    if (t == 21) | (t == 44) {
+        return 2;
+    }
+    if (t == 22) | (t == 31) | (t == 45) {
+        return 3;
+    }
+    if (t == 51) | (t == 52) {
+        return 4;
+    }
+    0
+}
+
+// The data type of a number.
+pub fn type_of(t: u32) -> DataType
+    ensures { λ r. ⌜ r ≡ typeOf t ⌝ }
+{
+    DataType {
+        size: size_of(t),
+        kind: kind_of(t),
+    }
 }
