@@ -5,7 +5,6 @@ use mathlib.Core.List.{List}
 use lib.IntN.{ℤ, pos}
 use lib.Signed.{leZ, ltZ}
 use Rattle.format.specs.Fields.{fieldAt, natAt, natOr, bitAt}
-use Rattle.values.specs.declared.value.Answer.{Answer}
 use Rattle.values.specs.declared.value.Decoded.{Decoded}
 use Rattle.values.specs.declared.value.Decoded.the-variants.{Given, Reserved, Nothing}
 use Rattle.values.specs.Values.{decodedOf}

@@ -1,22 +1,22 @@
 -- NEVER 20, on an accepted file. Assumes nothing.
 use mathlib.Core.Path.{_≡_, refl, subst}
 use mathlib.Core.Logic.{_≢_, _⊎_, inl, inr}
-use mathlib.Core.Bool.{Bool, true, false, cond, _&&_}
+use mathlib.Core.Bool.{Bool, true, false, cond}
 use mathlib.Core.List.{List}
 use Prim.Native.Nat.{ℕ, _+_, _*_}
 use native.Mathlib.Omega.{arith}
 use lib.Dec.{leb, eqb}
 use lib.IntN.{ℤ}
-use Rattle.format.specs.Fields.{fieldAt, natOr, bitAt}
+use Rattle.format.specs.Fields.{fieldAt, natOr}
 use Rattle.records.specs.Opening.{gdrAt, rNumDims, bodyOf}
 use Rattle.variables.specs.Vdr.{variableOf}
 use Rattle.variables.specs.Place.{indexRight}
 use Rattle.values.specs.declared.value.Answer.{Answer}
-use Rattle.ways.specs.Lists.{kindAmong, entriesPlace, variableWay, attributeWay, entryWay}
+use Rattle.ways.specs.Lists.{kindAmong, variableWay, attributeWay, entryWay}
 use Rattle.ways.specs.declared.lists.Wanted.{Wanted}
 use Rattle.ways.specs.declared.lists.Way.{Way}
 use Rattle.ways.specs.declared.lists.Way.the-variants.{Found, Stopped}
-use Rattle.answers.specs.Answers.{numberOf, elementThere, elementRead, valueRead, entryOn, entryValue, padRead}
+use Rattle.answers.specs.Answers.{numberOf, valueRead, entryValue, padRead}
 use Rattle.answers.proofs.Telling.{Tells}
 use Rattle.answers.specs.declared.Read.{Read}
 use Rattle.answers.specs.declared.Read.the-variants.{Value, Refused}

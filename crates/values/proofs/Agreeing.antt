@@ -1,11 +1,11 @@
 -- What an element is, by what it was decoded to: its bits agree with it, a VAX float is the nearest double, 22 is for reserved operands. Assumes nothing.
-use mathlib.Core.Path.{_≡_, refl, sym, ap, _∙_, subst}
+use mathlib.Core.Path.{_≡_, refl, sym, _∙_, subst}
 use mathlib.Core.Bool.{Bool, true, false, not, cond, _||_, true≢false}
 use mathlib.Core.List.{List}
 use Prim.Native.Nat.{ℕ, zero, suc, _+_, _*_, _^_, _<_}
 use native.Mathlib.Omega.{arith}
 use lib.Dec.{T, ltb, eqb, eqb→eq}
-use lib.Ieee.{Float, Format, binary32, binary64, ofBits, toBits, isNan, top}
+use lib.Ieee.{Format, binary32, binary64, ofBits, top}
 use lib.Ieee.Bits.{toBits-ofBits}
 use Rattle.format.specs.Bytes.{OfBytes, bigAt, littleAt}
 use Rattle.format.specs.Fields.{endOf}

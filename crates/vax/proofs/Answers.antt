@@ -2,7 +2,7 @@
 -- nearest double, ties to an even last bit; and it is the VAX value itself where the double has as many digits. Assumes nothing.
 use Prim.Native.Nat.{ℕ, zero, suc, _+_, _-_, _*_, _^_, _≤_, _<_}
 use mathlib.Core.Path.{_≡_, refl, sym, _∙_, subst}
-use mathlib.Core.Bool.{Bool, true, false, cond}
+use mathlib.Core.Bool.{Bool, true, false}
 use native.Mathlib.Nat.{pow-suc, zero-add, zero-mul, lt-irrefl}
 use native.Mathlib.Numerals.{add-one}
 use native.Mathlib.Omega.{arith}
@@ -11,8 +11,6 @@ use borrow.Author.Tests.{ltb-true, ltb-false, ne-eqb}
 use Rattle.vax.specs.Doubles.{unitsOf, unitsBy, Finite, distance, Nearest, Equal}
 use Rattle.vax.specs.Vax.{denOf, isReserved, Holds}
 use Rattle.vax.specs.Rounding.{keptOf, sizeOf, withSign, leading, vaxOf}
-use Rattle.vax.specs.declared.Vax.{Vax}
-use Rattle.vax.specs.declared.Vax.the-variants.{Given, Reserved}
 use Rattle.vax.proofs.Rounded.{is-nearest, is-equal}
 
 -- ---- how many digits are kept, and how many are dropped before the point

@@ -7,7 +7,7 @@ use lib.Dec.{eqb}
 use lib.Ieee.{nan, inf, binary64, odd, ofFields, ofBits}
 use lib.Ieee.Exact.{HasValue, odd-sign}
 use borrow.Author.Tests.{ne-eqb}
-use Rattle.vax.specs.Doubles.{signOf, fieldOf, digitsOf, unitsBy, unitsOf, Finite}
+use Rattle.vax.specs.Doubles.{signOf, fieldOf, digitsOf, unitsBy, unitsOf}
 use Rattle.vax.specs.Promises.{NumbersRight}
 
 below-ones : (x : ℕ) → x < 2047 → eqb x 2047 ≡ false

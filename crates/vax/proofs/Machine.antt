@@ -1,6 +1,6 @@
 -- What the functions need of machine numbers: they fit. Assumes nothing.
 use Prim.Native.Nat.{ℕ, zero, suc, _+_, _-_, _*_, _/_, _%_, _^_, _≤_, _<_}
-use mathlib.Core.Path.{_≡_, refl, sym, ap, _∙_, subst}
+use mathlib.Core.Path.{_≡_, sym, ap, _∙_, subst}
 use native.Mathlib.Nat.{le-trans, lt-of-lt-of-le, le-of-lt, le-of-eq, one-mul, mod-eq-of-lt, mod-lt, pow-suc, lt-irrefl, zero-add}
 use native.Mathlib.Numerals.{add-one}
 use native.Mathlib.Omega.{arith}
@@ -10,9 +10,8 @@ use lib.Dec.{leb, eqb}
 use borrow.Author.Tests.{le-leb, lt-leb, eq-eqb, ne-eqb}
 use Rattle.vax.specs.Rounding.{keptOf, sizeOf, withSign, vaxOf}
 use Rattle.vax.specs.Words.{vaxIn}
-use Rattle.vax.specs.declared.Vax.{Vax}
 use Rattle.vax.specs.declared.Vax.the-variants.{Given, Reserved}
-use Rattle.vax.proofs.Digits.{kept-le, joined}
+use Rattle.vax.proofs.Digits.{kept-le}
 
 pub one-shifted : (k : ℕ) → k < 64 → (1 * 2 ^ k % 2 ^ 64 ≡ 2 ^ k) × (0 < 1 * 2 ^ k % 2 ^ 64)
 one-shifted k h =

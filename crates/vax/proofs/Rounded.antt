@@ -1,17 +1,16 @@
 -- The definition of the double for a VAX float gives the nearest double, ties to an even last bit: once over the width w of the mantissa and the offset b of the
 -- exponent; and it is the VAX value itself where the double keeps all its digits. Assumes nothing.
-use Prim.Native.Nat.{ℕ, zero, suc, _+_, _-_, _*_, _/_, _%_, _^_, _≤_, _<_}
+use Prim.Native.Nat.{ℕ, suc, _+_, _*_, _/_, _%_, _^_, _≤_, _<_}
 use mathlib.Core.Path.{_≡_, refl, sym, ap, _∙_, subst}
-use mathlib.Core.Logic.{_⊎_, inl, inr}
-use mathlib.Core.Bool.{Bool, true, false, cond}
+use mathlib.Core.Logic.{inl, inr}
+use mathlib.Core.Bool.{Bool, true, false}
 use native.Mathlib.Nat.{le-trans, le-of-eq, le-antisymm, lt-irrefl, mul-assoc, mul-le-mul-right, mod-lt}
 use native.Mathlib.Omega.{arith}
-use lib.Dec.{ltb, leb, lit<}
-use lib.Pow.{pow-add, pow-pos, pow-mono}
+use lib.Dec.{ltb}
+use lib.Pow.{pow-pos, pow-mono}
 use borrow.Author.Tests.{ltb-true, ltb-false, leb-true, leb-false, le-leb, lt-leb}
 use Rattle.vax.specs.Doubles.{signOf, fieldOf, digitsOf, unitsBy, unitsOf, Finite, between, distance, Nearest, Equal}
-use Rattle.vax.specs.Vax.{numOf, denOf}
-use Rattle.vax.specs.Rounding.{keptOf, sizeOf, withSign}
+use Rattle.vax.specs.Rounding.{keptOf, withSign}
 use Rattle.vax.proofs.Grid.{made, units-lt, near, tie}
 use Rattle.vax.proofs.Digits.{joined, kept-le, kept-ge, kept-best, kept-all}
 

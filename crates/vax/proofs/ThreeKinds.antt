@@ -1,6 +1,5 @@
 -- The three kinds: the fields of any bytes are within the bounds of their kind, so the theorem over width and offset holds of them. Assumes nothing.
 use Prim.Native.Nat.{ℕ, _+_, _^_, _≤_, _<_}
-use mathlib.Core.Path.{_≡_}
 use mathlib.Core.List.{List}
 use native.Mathlib.Omega.{arith}
 use Rattle.vax.specs.Layouts.{Kind, ffloat, dfloat, gfloat}

@@ -1,9 +1,9 @@
 -- Rounding to a whole number: `nearestOf n d` is the nearest to n / d, of two as near the even one. Once for every n and d. Assumes nothing.
-use Prim.Native.Nat.{ℕ, zero, suc, _+_, _-_, _*_, _/_, _%_, _^_, _≤_, _<_}
-use mathlib.Core.Path.{_≡_, refl, sym, ap, _∙_, subst}
+use Prim.Native.Nat.{ℕ, zero, suc, _+_, _-_, _*_, _/_, _%_, _≤_, _<_}
+use mathlib.Core.Path.{_≡_, refl, sym, ap, _∙_}
 use mathlib.Core.Logic.{_⊎_, inl, inr}
 use mathlib.Core.Bool.{Bool, true, false}
-use native.Mathlib.Nat.{le-trans, le-of-eq, suc-mul, mul-le-mul-right, mul-le-mul-left, mul-add, mul-sub, mul-left-comm, mul-comm, mod-lt, div-add-mod', eq-of-mul-eq-mul-right, eq-of-mul-eq-mul-left, lt-irrefl}
+use native.Mathlib.Nat.{le-trans, le-of-eq, suc-mul, mul-le-mul-right, mul-le-mul-left, mul-add, mul-sub, mul-left-comm, mod-lt, div-add-mod', eq-of-mul-eq-mul-right, eq-of-mul-eq-mul-left}
 use native.Mathlib.Omega.{arith}
 use lib.Dec.{ltb}
 use lib.Arith.{digits-div}

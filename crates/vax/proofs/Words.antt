@@ -1,5 +1,5 @@
 -- The bytes of a VAX float, read as words of which the first is the most significant, have the fields that the tables give. Assumes nothing.
-use Prim.Native.Nat.{ℕ, _+_, _-_, _*_, _/_, _%_, _^_, _≤_, _<_}
+use Prim.Native.Nat.{ℕ, _+_, _*_, _/_, _%_, _^_, _<_}
 use mathlib.Core.Path.{_≡_, refl, sym, ap, _∙_}
 use mathlib.Core.Bool.{Bool, true, false}
 use mathlib.Core.List.{List}
@@ -14,7 +14,6 @@ use Rattle.vax.specs.Layouts.{ffloat, dfloat, gfloat}
 use Rattle.vax.specs.Vax.{signAt, exponentAt, mantissaAt}
 use Rattle.vax.specs.Rounding.{vaxOf, vaxAt}
 use Rattle.vax.specs.Words.{vaxIn, wordAt, tailOf}
-use Rattle.vax.specs.declared.Vax.{Vax}
 
 -- ---- a first word h, of whose bits i are the mantissa's, and g bits after it
 module _ (h l i g x b : ℕ) (small : l < 2 ^ g) where

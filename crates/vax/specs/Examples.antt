@@ -1,7 +1,6 @@
 -- Worked examples, computed. Assumes nothing.
 use mathlib.Core.Path.{_≡_, refl}
-use mathlib.Core.List.{List, [], _∷_}
-use Prim.Native.Nat.{ℕ}
+use mathlib.Core.List.{[], _∷_}
 use Rattle.vax.specs.Layouts.{ffloat, dfloat, gfloat}
 use Rattle.vax.specs.Vax.{signAt, exponentAt, mantissaAt}
 use Rattle.vax.specs.Rounding.{nearestOf, keptOf, sizeOf, vaxOf, vaxAt}

@@ -1,5 +1,4 @@
 use Rattle.format.proofs.Table.{kind-by}
-use borrow.Author.Needs.{needs}
 use Rattle.format.proofs.types.kind_of.Statement.{statement}
 use Rattle.format.proofs.types.kind_of.Tie as tie
 
