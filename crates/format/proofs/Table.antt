@@ -1,5 +1,5 @@
 -- A table that holds f k at each place k below its length, and tables of numbered rows. Assumes nothing.
-use mathlib.Core.Path.{_≡_, refl, sym, ap, _∙_}
+use mathlib.Core.Path.{_≡_, refl}
 use mathlib.Core.Bool.{Bool, true, false, cond, _&&_, _||_}
 use mathlib.Core.List.{List, [], _∷_}
 use Prim.Native.Nat.{ℕ, zero, suc, _<_, _≤_}
@@ -7,10 +7,10 @@ use native.Mathlib.Omega.{arith}
 use lib.Dec.{ltb, leb, eqb, T, ltb→lt, leb→le}
 use lib.ListN.{getD}
 use mir.Facts.{and-yes}
-use borrow.Author.Tests.{ne-eqb, ltb-true, ltb-false}
+use borrow.Author.Tests.{ne-eqb}
 use Rattle.format.specs.declared.types.DataType.{DataType}
 use Rattle.format.specs.Tables.{lookup}
-use Rattle.format.specs.Types.{typeOf, types, takes, signed, unsigned, single, double, code}
+use Rattle.format.specs.Types.{typeOf, types, takes, signed}
 
 -- f 0, f 1, .. f (n - 1)
 abbrev pub tabulate : {A : Type 0} → ℕ → (ℕ → A) → List A
@@ -73,29 +73,3 @@ sizeBy t =
 pub size-by : (t : ℕ) → typeOf t .size ≡ sizeBy t
 unfolding typeOf
 size-by t = simp (pick-size, or-cond)
-
--- kinds by groups of data types
-abbrev pub kindBy : ℕ → ℕ
-kindBy t =
-    cond (eqb t 11 || eqb t 12 || eqb t 14) unsigned
-    (cond (eqb t 21 || eqb t 44) single (cond (eqb t 22 || eqb t 31 || eqb t 45) double (cond (eqb t 51 || eqb t 52) code signed)))
-
--- compared number by number, up to the greatest
-pub kind-by : (t : ℕ) → typeOf t .kind ≡ kindBy t
-unfolding typeOf
-kind-by t = go (ltb t 53) refl
-  where
-    same : tabulate 53 (λ (k : ℕ). typeOf k .kind) ≡ tabulate 53 kindBy
-    same = refl
-
-    go : (b : Bool) → ltb t 53 ≡ b → typeOf t .kind ≡ kindBy t
-    go true e =
-        let h = ltb-true t 53 e in
-        sym (tabled 53 (λ (k : ℕ). typeOf k .kind) signed t h) ∙ ap (λ (l : List ℕ). getD l t signed) same ∙ tabled 53 kindBy signed t h
-    go false e =
-        let h = ltb-false t 53 e in
-        ap (λ (d : DataType). d .kind) (lookup-above (takes 0 signed) 53 types t tt h)
-        ∙ sym (rw (other 11 h tt, other 12 h tt, other 14 h tt, other 21 h tt, other 44 h tt, other 22 h tt, other 31 h tt, other 45 h tt, other 51 h tt, other 52 h tt))
-      where
-        other : (k : ℕ) → 53 ≤ t → T (ltb k 53) → eqb t k ≡ false
-        other k h l = ne-eqb t k (λ q. omega (arith, h, q, ltb→lt k 53 l))

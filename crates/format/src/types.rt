@@ -10,6 +10,63 @@ pub struct DataType {
     pub kind: u32,
 }
 
+// The data types by their numbers: sixteen times the kind of the value, and the bytes of an element.
+const TYPES: [u8; 53] = [
+    0,
+    0x01,
+    0x02,
+    0,
+    0x04,
+    0,
+    0,
+    0,
+    0,
+    0,
+    0,
+    0x11,
+    0x12,
+    0,
+    0x14,
+    0,
+    0,
+    0,
+    0,
+    0,
+    0,
+    0x24,
+    0x38,
+    0,
+    0,
+    0,
+    0,
+    0,
+    0,
+    0,
+    0,
+    0x38,
+    0,
+    0,
+    0,
+    0,
+    0,
+    0,
+    0,
+    0,
+    0,
+    0x01,
+    0,
+    0,
+    0x24,
+    0x38,
+    0,
+    0,
+    0,
+    0,
+    0,
+    0x41,
+    0x41,
+];
+
 // A number of a table.
 pub fn number(x: u8) -> u32
     ensures { λ r. ⌜ r ≡ x ⌝ }
@@ -17,7 +74,22 @@ pub fn number(x: u8) -> u32
     x as u32
 }
 
-// The bytes of one element of a data type, 0 for a number that is no data type.
+// The data type of a number.
+pub fn type_of(t: u32) -> DataType
+    ensures { λ r. ⌜ r ≡ typeOf t ⌝ }
+{
+    if t < 53 {
+        let row = number(TYPES[t as usize]);
+        DataType {
+            size: row % 16,
+            kind: row / 16,
+        }
+    } else {
+        DataType { size: 0, kind: 0 }
+    }
+}
+
+// The bytes of one element of a data type, 0 for a number that is no data type. It is the size of `type_of`, without the table.
 pub fn size_of(t: u32) -> u32
     ensures { λ r. ⌜ (r ≡ typeOf t .size) × (r ≤ 8) ⌝ }
 {
@@ -34,33 +106,4 @@ pub fn size_of(t: u32) -> u32
         return 8;
     }
     0
-}
-
-// The kind of a data type's values, 0 for a number that is no data type.
-fn kind_of(t: u32) -> u32
-    ensures { λ r. ⌜ r ≡ typeOf t .kind ⌝ }
-{
-    if (t == 11) | (t == 12) | (t == 14) {
-        return 1;
-    }
-    if (t == 21) | (t == 44) {
-        return 2;
-    }
-    if (t == 22) | (t == 31) | (t == 45) {
-        return 3;
-    }
-    if (t == 51) | (t == 52) {
-        return 4;
-    }
-    0
-}
-
-// The data type of a number.
-pub fn type_of(t: u32) -> DataType
-    ensures { λ r. ⌜ r ≡ typeOf t ⌝ }
-{
-    DataType {
-        size: size_of(t),
-        kind: kind_of(t),
-    }
 }
