@@ -77,16 +77,24 @@ module _ (n d q r : ℕ) (is : n ≡ q * d + r) (less : r < d) where
   tie-closest h j x (after l) (inl y) = omega arith
   tie-closest h j x (after l) (inr y) = omega arith
 
-even-sum : (q : ℕ) → (q + q % 2) % 2 ≡ 0
-even-sum q = omega arith
-
-tie-at : (q d : ℕ) → ((q + q % 2) * d ≡ q * d) ⊎ ((q + q % 2) * d ≡ q * d + d)
-tie-at q d = go (q % 2) refl
+even-or-odd : (q : ℕ) → q % 2 ≡ 0 ⊎ q % 2 ≡ 1
+even-or-odd q = go (q % 2) (mod-lt q (omega arith))
   where
-    go : (b : ℕ) → q % 2 ≡ b → ((q + b) * d ≡ q * d) ⊎ ((q + b) * d ≡ q * d + d)
-    go zero e = inl (omega arith)
-    go (suc zero) e = inr (omega arith)
-    go (suc (suc b)) e = absurd (omega arith)
+    go : (b : ℕ) → b < 2 → (b ≡ 0) ⊎ (b ≡ 1)
+    go zero l = inl refl
+    go (suc zero) l = inr refl
+    go (suc (suc b)) l = absurd (omega arith)
+
+-- of two as near the even one, which is one of the two
+tie-even : (q : ℕ) → chosen false false q % 2 ≡ 0
+tie-even q = omega arith
+
+tie-at : (q d : ℕ) → (chosen false false q * d ≡ q * d) ⊎ (chosen false false q * d ≡ q * d + d)
+tie-at q d = go (even-or-odd q)
+  where
+    go : (q % 2 ≡ 0) ⊎ (q % 2 ≡ 1) → (chosen false false q * d ≡ q * d) ⊎ (chosen false false q * d ≡ q * d + d)
+    go (inl e) = let z : chosen false false q ≡ q = omega (arith, e) in inl (ap (λ (k : ℕ). k * d) z)
+    go (inr e) = let z : chosen false false q ≡ q + 1 = omega (arith, e) in inr (ap (λ (k : ℕ). k * d) z ∙ one-more q d)
 
 pub nearest-best : (n d : ℕ) → 0 < d → Best n d (nearestOf n d)
 unfolding nearestOf
@@ -113,8 +121,8 @@ nearest-best n d D = go (ltb (n % d) (d - n % d)) refl (ltb (d - n % d) (n % d))
         let b : n % d ≤ d - n % d = ltb-false _ _ v in
         let t : n % d ≡ d - n % d = omega arith in
         record {
-          closest = λ j. tie-closest n d (n / d) (n % d) is less t j ((n / d + n / d % 2) * d) (place j (n / d) d) (tie-at (n / d) d);
-          even = λ j k e. even-sum (n / d);
+          closest = λ j. tie-closest n d (n / d) (n % d) is less t j (chosen false false (n / d) * d) (place j (n / d) d) (tie-at (n / d) d);
+          even = λ j k e. tie-even (n / d);
         }
 
 -- ---- its bounds
@@ -183,15 +191,7 @@ module _ (n h d : ℕ) (some : 0 < h) (twice : d ≡ h + h) where
       less : n % d < d
       less = mod-lt n (omega arith)
 
-      even-or-odd : (q : ℕ) → q % 2 ≡ 0 ⊎ q % 2 ≡ 1
-      even-or-odd q = go (q % 2) (mod-lt q (omega arith))
-        where
-          go : (b : ℕ) → b < 2 → (b ≡ 0) ⊎ (b ≡ 1)
-          go zero l = inl refl
-          go (suc zero) l = inr refl
-          go (suc (suc b)) l = absurd (omega arith)
-
-      tied : n % d ≡ h → (n / d % 2 ≡ 0) ⊎ (n / d % 2 ≡ 1) → (n + (h - 1) + n / d % 2) / d ≡ n / d + n / d % 2
+      tied : n % d ≡ h → (n / d % 2 ≡ 0) ⊎ (n / d % 2 ≡ 1) → (n + (h - 1) + n / d % 2) / d ≡ chosen false false (n / d)
       tied e (inl b) = stays (omega arith) ∙ omega arith
       tied e (inr b) = moves (omega arith) (omega arith) ∙ omega arith
 

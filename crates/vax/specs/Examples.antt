@@ -6,7 +6,7 @@ use Rattle.vax.specs.Vax.{signAt, exponentAt, mantissaAt}
 use Rattle.vax.specs.Rounding.{nearestOf, keptOf, sizeOf, vaxOf, vaxAt}
 use Rattle.vax.specs.declared.Vax.the-variants.{Given, Reserved}
 
--- F_FLOAT 1.0, -0.5 and the greatest; a zero whose mantissa is not; the reserved operand
+-- F_FLOAT 1.0, -0.5, the least, 2 ^ -128, and the greatest; a zero whose mantissa is not; the reserved operand
 f-one : vaxAt ffloat (0x80 ∷ 0x40 ∷ 0 ∷ 0 ∷ []) 0 ≡ Given 0x3ff0_0000_0000_0000
 unfolding vaxAt vaxOf sizeOf keptOf nearestOf signAt exponentAt mantissaAt
 f-one = refl
@@ -14,6 +14,10 @@ f-one = refl
 f-minus-half : vaxAt ffloat (0x00 ∷ 0xc0 ∷ 0 ∷ 0 ∷ []) 0 ≡ Given 0xbfe0_0000_0000_0000
 unfolding vaxAt vaxOf sizeOf keptOf nearestOf signAt exponentAt mantissaAt
 f-minus-half = refl
+
+f-least : vaxAt ffloat (0x80 ∷ 0x00 ∷ 0 ∷ 0 ∷ []) 0 ≡ Given 0x37f0_0000_0000_0000
+unfolding vaxAt vaxOf sizeOf keptOf nearestOf signAt exponentAt mantissaAt
+f-least = refl
 
 f-greatest : vaxAt ffloat (0xff ∷ 0x7f ∷ 0xff ∷ 0xff ∷ []) 0 ≡ Given 0x47df_ffff_e000_0000
 unfolding vaxAt vaxOf sizeOf keptOf nearestOf signAt exponentAt mantissaAt
@@ -45,7 +49,7 @@ d-places : vaxAt dfloat (0x81 ∷ 0x40 ∷ 0x23 ∷ 0x45 ∷ 0x67 ∷ 0x89 ∷ 0
 unfolding vaxAt vaxOf sizeOf keptOf nearestOf signAt exponentAt mantissaAt
 d-places = refl
 
--- G_FLOAT 1.0; the least, 2 ^ -1024, a subnormal; the greatest subnormal bits rounded into the least normal double; the greatest
+-- G_FLOAT 1.0; the least, 2 ^ -1024, a subnormal; the greatest below the least normal double, half a unit from it, which it comes as; the greatest
 g-one : vaxAt gfloat (0x10 ∷ 0x40 ∷ 0 ∷ 0 ∷ 0 ∷ 0 ∷ 0 ∷ 0 ∷ []) 0 ≡ Given 0x3ff0_0000_0000_0000
 unfolding vaxAt vaxOf sizeOf keptOf nearestOf signAt exponentAt mantissaAt
 g-one = refl

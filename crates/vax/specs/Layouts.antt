@@ -22,7 +22,9 @@ abbrev pub parts : List ℕ → ℕ → List Row → ℕ
 parts f at [] = 0
 parts f at (r ∷ rs) = part f at r + parts f at rs
 
--- a kind of VAX float: the rows of its fields, how many bits the mantissa has, and the offset of the exponent
+-- a kind of VAX float: the rows of its fields, how many bits the mantissa has, and the offset that its exponent counts from. The tables do not give the
+-- offset; the appendices do, by the least values: exponent 01 and mantissa 0 of an F_FLOAT are 2.9387358771e-39, of a D_FLOAT 2.93873587705571877e-039, which
+-- is 2 ^ -128, and exponent 001 and mantissa 0 of a G_FLOAT are 5.56268464626800346e-309, which is 2 ^ -1024. They are 0.1 (binary) * 2 ^ (1 - offset).
 pub record Kind : Type 0 where
   pub sign : List Row
   pub exponent : List Row

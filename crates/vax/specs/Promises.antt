@@ -12,14 +12,15 @@ use Rattle.vax.specs.Rounding.{vaxOf, vaxAt}
 use Rattle.vax.specs.declared.Vax.{Vax}
 use Rattle.vax.specs.declared.Vax.the-variants.{Given}
 
--- "Prove the rounding once over mantissa width and exponent offset": for exponents that a double's reach
+-- "Prove the rounding once over mantissa width and exponent offset". e ≤ b + 1023: the value is below 2 ^ 1023, where a double does not overflow
 pub record Rounds (w b : ℕ) : Type 0 where
   pub nearest : (e m : ℕ) (s : Bool) → m < 2 ^ w → e ≤ b + 1023 → Holds Nearest w b s e m (vaxOf w b s e m)
   -- no other double is
   pub only : (e m : ℕ) (s : Bool) (r q : ℕ) → Holds Nearest w b s e m (Given r) → Holds Nearest w b s e m (Given q) → r ≡ q
-  -- with 53 digits at most, all of them whole in units of the smallest double, it is exact
+  -- with 53 digits at most, none of them behind the point in units of the smallest double, it is exact
   pub exact : w ≤ 52 → (e m : ℕ) (s : Bool) → m < 2 ^ w → e ≤ b + 1023 → (0 < e → b + w < e + 1074) → Holds Equal w b s e m (vaxOf w b s e m)
 
+-- b ≤ 1074: no value but zero is below the smallest double
 abbrev pub RoundsOnce : Type 0
 RoundsOnce = (w b : ℕ) → b ≤ 1074 → Rounds w b
 

@@ -20,17 +20,20 @@ mantissaIn w raw = raw % 2 ^ w
 unfoldable pub vaxIn : ℕ → ℕ → ℕ → ℕ → Vax
 vaxIn w x b raw = vaxOf w b (signIn w x raw) (exponentIn w x raw) (mantissaIn w raw)
 
--- what a kind may be: its mantissa fits 63 bits with the leading digit, its exponents have no more bits than a double's, and stay within a double's
+-- what a kind may be: with the leading digit its mantissa fits 63 bits; its exponent has no more bits than a double's; its greatest value is below
+-- 2 ^ 1023, and its least is no less than the smallest double
 pub record Bounds (w x b : ℕ) : Type 0 where
   pub width : w ≤ 62
   pub range : x ≤ 11
   pub greatest : 2 ^ x ≤ b + 1024
   pub least : b ≤ 1074
 
--- a word of two bytes, the second the more significant; of several words the first is the most significant
+-- a word of two bytes, the second the more significant; of two and of four words the first is the most significant
 abbrev pub wordAt : List ℕ → ℕ → ℕ
 wordAt f at = getD f at 0 + getD f (at + 1) 0 * 256
 
--- the last three words of a D_FLOAT or a G_FLOAT, from an offset on
-unfoldable pub tailOf : List ℕ → ℕ → ℕ
-tailOf f at = (wordAt f at * 2 ^ 16 + wordAt f (at + 2)) * 2 ^ 16 + wordAt f (at + 4)
+unfoldable pub pairAt : List ℕ → ℕ → ℕ
+pairAt f at = wordAt f at * 2 ^ 16 + wordAt f (at + 2)
+
+unfoldable pub fourAt : List ℕ → ℕ → ℕ
+fourAt f at = pairAt f at * 2 ^ 32 + pairAt f (at + 4)

@@ -4,7 +4,7 @@ ghost use Prim.Native.Nat.{_+_, _-_, _*_, _/_, _%_, _^_, _≤_, _<_};
 ghost use lib.ListN.{length};
 ghost use Rattle.vax.specs.Layouts.{ffloat, dfloat, gfloat};
 ghost use Rattle.vax.specs.Rounding.{nearestOf, keptOf, sizeOf, vaxAt};
-ghost use Rattle.vax.specs.Words.{vaxIn, Bounds, wordAt, tailOf};
+ghost use Rattle.vax.specs.Words.{vaxIn, Bounds, wordAt, pairAt, fourAt};
 
 // A VAX float: the bits of the nearest double, or the reserved operand.
 pub enum Vax {
@@ -71,7 +71,7 @@ fn vax_to_double(raw: u64, width: u32, range: u32, offset: u32) -> Vax
         return Vax::Given(0);
     }
     let bits = size(width, exponent + 1074 - offset, unit + mantissa);
-    if span <= upper {
+    if upper >= span {
         return Vax::Given(0x8000_0000_0000_0000 + bits);
     }
     Vax::Given(bits)
@@ -92,25 +92,32 @@ fn word(s: &[u8], at: usize) -> u64
     wide(s[at]) + wide(s[at + 1]) * 256
 }
 
+// Two words as one number, the first the more significant.
+fn pair(s: &[u8], at: usize) -> u64
+    requires { ⌜ at + 4 ≤ length (now s) ⌝ }
+    ensures { λ r. ⌜ (r ≡ pairAt (now (s .entry)) at) × (r < 2 ^ 32) ⌝ }
+{
+    let a = word(s, at);
+    let b = word(s, at + 2);
+    a * 0x1_0000 + b
+}
+
+// Four words as one number, the first the most significant.
+fn four(s: &[u8], at: usize) -> u64
+    requires { ⌜ at + 8 ≤ length (now s) ⌝ }
+    ensures { λ r. ⌜ r ≡ fourAt (now (s .entry)) at ⌝ }
+{
+    let a = pair(s, at);
+    let b = pair(s, at + 4);
+    a * 0x1_0000_0000 + b
+}
+
 // The F_FLOAT at an offset, as a double.
 pub fn f_float(s: &[u8], at: usize) -> Vax
     requires { ⌜ at + 4 ≤ length (now s) ⌝ }
     ensures { λ r. ⌜ r ≡ vaxAt ffloat (now (s .entry)) at ⌝ }
 {
-    let a = word(s, at);
-    let b = word(s, at + 2);
-    vax_to_double(a * 0x1_0000 + b, 23, 8, 128)
-}
-
-// The last three words of a D_FLOAT or a G_FLOAT.
-fn tail(s: &[u8], at: usize) -> u64
-    requires { ⌜ at + 6 ≤ length (now s) ⌝ }
-    ensures { λ r. ⌜ (r ≡ tailOf (now (s .entry)) at) × (r < 2 ^ 48) ⌝ }
-{
-    let a = word(s, at);
-    let b = word(s, at + 2);
-    let c = word(s, at + 4);
-    (a * 0x1_0000 + b) * 0x1_0000 + c
+    vax_to_double(pair(s, at), 23, 8, 128)
 }
 
 // The D_FLOAT at an offset, as a double.
@@ -118,9 +125,7 @@ pub fn d_float(s: &[u8], at: usize) -> Vax
     requires { ⌜ at + 8 ≤ length (now s) ⌝ }
     ensures { λ r. ⌜ r ≡ vaxAt dfloat (now (s .entry)) at ⌝ }
 {
-    let a = word(s, at);
-    let b = tail(s, at + 2);
-    vax_to_double(a * 0x1_0000_0000_0000 + b, 55, 8, 128)
+    vax_to_double(four(s, at), 55, 8, 128)
 }
 
 // The G_FLOAT at an offset, as a double.
@@ -128,7 +133,5 @@ pub fn g_float(s: &[u8], at: usize) -> Vax
     requires { ⌜ at + 8 ≤ length (now s) ⌝ }
     ensures { λ r. ⌜ r ≡ vaxAt gfloat (now (s .entry)) at ⌝ }
 {
-    let a = word(s, at);
-    let b = tail(s, at + 2);
-    vax_to_double(a * 0x1_0000_0000_0000 + b, 52, 11, 1024)
+    vax_to_double(four(s, at), 52, 11, 1024)
 }
