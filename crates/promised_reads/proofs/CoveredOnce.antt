@@ -1,5 +1,5 @@
 -- COVERED ONCE, and 16, 17, 18 and 22 exactly where they are due, of an accepted file. Assumes nothing.
-use mathlib.Core.Path.{_≡_, refl, sym, ap, _∙_, subst}
+use mathlib.Core.Path.{_≡_, refl, sym, _∙_, subst}
 use mathlib.Core.Logic.{_↔_, inl, inr}
 use mathlib.Core.Bool.{true, false, true≢false}
 use mathlib.Core.List.{List}
@@ -7,7 +7,6 @@ use Prim.Native.Nat.{ℕ, _+_}
 use native.Mathlib.Omega.{arith}
 use lib.IntN.{ℤ}
 use Rattle.records.specs.Opening.{bodyOf}
-use Rattle.variables.specs.Vdr.{variableOf}
 use Rattle.ways.specs.Lists.{kindAmong, variableWay}
 use Rattle.ways.specs.Indexes.{recordThere, recordRead, levelsWay}
 use Rattle.ways.specs.declared.lists.Way.the-variants.{Found}
@@ -16,14 +15,14 @@ use Rattle.ways.specs.declared.indexes.Values.the-variants.{Record, Refused as 
 use Rattle.ways.specs.declared.indexes.Levels.{Levels}
 use Rattle.ways.specs.declared.indexes.Levels.the-variants.{Are, Unknown}
 use Rattle.descriptors.specs.Descriptors.{fieldNumber, levelsField, variableLevels}
-use Rattle.answers.specs.Answers.{numberOf, inValues, inVariable, valueRead}
+use Rattle.answers.specs.Answers.{numberOf, valueRead}
 use Rattle.records.specs.Tree.{Slot, lowestEntries}
 use Rattle.demands.specs.Acceptance.{_∈_, IndexRight}
 use Rattle.promised_reads.specs.Reading.{CoveredBy, reserved, valueAt, NoneCovers, CoversOnce, CoveredOnce, RecordsThere}
 use Rattle.demands.proofs.NestedDemand.{NestedAccepted}
 use Rattle.demands.proofs.IndexFacts.{index-reads}
 use Rattle.promised_reads.proofs.Shown.{wayOf, valueAsked}
-use Rattle.promised_reads.proofs.Exact.{Judged, judged-wrong, judged-operand, judged-there, value-judged}
+use Rattle.promised_reads.proofs.Exact.{Judged, judged-wrong, judged-operand, judged-there, value-judged, value-lost}
 use Rattle.demands.proofs.Lowest.{lowest-rise, covered-once}
 use Rattle.promised_reads.proofs.Indexes.{LevelsOn, empty-covers}
 use Rattle.promised_reads.proofs.Demand2Values.{nested, vdr, chain, On, way-on, levels-way-on, begins, value-there}
@@ -39,11 +38,6 @@ module _ (f : List ℕ) (n : NestedAccepted f) (k j : ℤ) (v left : ℕ) (way :
 
   abbrev vxrs : List ℕ
   vxrs = chain f n k j v left way
-
-  -- the answer where the way to the record is known
-  answer-at : (r : ℤ) (is : List ℤ) (x : ℤ) (s : Values) → wayOf f k r v left ≡ s → valueRead f k j r is x ≡ inValues body v (variableOf body (kindAmong 3 8 k) v) is x s
-  unfolding valueRead inVariable
-  answer-at r is x s e = rw (way, e)
 
   abbrev Free : ℤ → Type 0
   Free r = NoneCovers body vxrs (recordRead body v r)
@@ -62,7 +56,7 @@ module _ (f : List ℕ) (n : NestedAccepted f) (k j : ℤ) (v left : ℕ) (way :
 
     -- where the way to the record leads nowhere
     lost : (m : ℕ) → wayOf f k r v left ≡ NoRecord m → number ≡ m
-    lost m e = ap numberOf (answer-at r is x (NoRecord m) e)
+    lost m = value-lost f k j r is x v left m way
 
     is-missing : (number ≡ 16) ↔ (recordThere body v r ≡ false)
     is-missing = go (wayOf f k r v left) refl (way-on f n k j v left way r)

@@ -175,8 +175,8 @@ module _ (f : List ℕ) (n : NestedAccepted f) where
         (λ v left at e h g. inr (there k j v left e, v, met k j v left e, wrong-why k j v left e r at h is x g))
         (λ v left at e h g i. inr (there k j v left e, v, met k j v left e, operand-why k j v left e r at h is x g i)));
     entry = λ b k j x.
-        told (EntryShown body b k j x) (EntryRefused body b k j x) (entryRead f b k j x)
-        (entry-tells f b k j x (EntryRefused body b k j x)
+        told (EntryShown body b k (Number j) x) (EntryRefused body b k j x) (entryRead f b k j x)
+        (entry-tells f b k (Number j) x (EntryRefused body b k j x)
         (λ m e. entry-why b k j x m (subst (EntryOn f n b k (Number j)) e (entry-on f n b k (Number j))))
         (λ e left q h.
         inr (

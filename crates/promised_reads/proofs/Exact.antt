@@ -1,6 +1,6 @@
 -- 16 of an entry, and 18 and 22 of values, entries and pad values, exactly where they are due. Assumes nothing.
 use mathlib.Core.Path.{_≡_, refl, sym, ap, _∙_, subst}
-use mathlib.Core.Logic.{_↔_, _⊎_, inl, inr}
+use mathlib.Core.Logic.{_≢_, _↔_, _⊎_, inl, inr}
 use mathlib.Core.Bool.{Bool, true, false, cond, _&&_, true≢false}
 use mathlib.Core.List.{List, [], _∷_}
 use Prim.Native.Nat.{ℕ, zero, suc, _+_}
@@ -9,22 +9,25 @@ use lib.Dec.{eqb}
 use lib.IntN.{ℤ}
 use Rattle.format.specs.Fields.{isAt, linkAt, natOr}
 use Rattle.records.specs.Opening.{bodyOf}
+use Rattle.variables.specs.Vdr.{variableOf}
 use Rattle.ways.specs.Lists.{opened, allowance, ofKinds, meets, overOf, lastLink, sought, headPlace, kindAmong, entriesPlace, entriesOf, fileWay, variableWay, entryWay}
 use Rattle.ways.specs.declared.lists.Wanted.{Wanted}
 use Rattle.ways.specs.declared.lists.Wanted.the-variants.{Number}
 use Rattle.ways.specs.declared.lists.Way.{Way}
 use Rattle.ways.specs.declared.lists.Way.the-variants.{Found, Stopped}
+use Rattle.ways.specs.declared.indexes.Values.{Values}
 use Rattle.ways.specs.declared.indexes.Values.the-variants.{Record, Refused as NoRecord}
-use Rattle.answers.specs.Answers.{numberOf, valueRead, entryValue, entryRead, padRead}
+use Rattle.answers.specs.Answers.{numberOf, inVariable, valueRead, entryValue, entryRead, padRead}
 use Rattle.answers.specs.declared.Read.{Read}
 use Rattle.answers.specs.declared.Read.the-variants.{Value, Refused}
 use Rattle.demands.specs.Acceptance.{Each, Linked}
-use Rattle.promised_reads.specs.Reading.{Met, EntryShown, entryAt, attributeThere, NoEntry, NoEntryNumber, ElementsRefused, EntryRefused, GivenOrRefused}
+use Rattle.promised_reads.specs.Reading.{Met, EntryShown, entryAt, attributeThere, NoEntry, NoEntryNumber, FoundWith, RecordWith, RecordFound, ElementsRefused, EntryRefused, GivenOrRefused}
 use Rattle.demands.proofs.NestedDemand.{NestedAccepted}
 use Rattle.format.proofs.Tests.{both}
 use Rattle.ways.proofs.Sought.{Finds, found-not-stopped, found-same, Listed, place-listed}
+use Rattle.ways.proofs.Stops.{Stops, Refuses, record-refuses, variable-stops, entry-stops}
 use Rattle.answers.proofs.Telling.{Tells}
-use Rattle.answers.proofs.Asked.{entry-stopped}
+use Rattle.answers.proofs.Asked.{value-stopped, entry-stopped, pad-stopped}
 use Rattle.promised_reads.proofs.Down.{nth-same}
 use Rattle.promised_reads.proofs.Shown.{given-plain, wayOf, valueAsked, valueReserved, value-tells, entryHas, entryReserved, wanted-tells, padHas, padReserved, pad-tells}
 use Rattle.promised_reads.proofs.Accepted.{EntryOn, entry-on, attribute-not-there}
@@ -95,6 +98,12 @@ module _ (f : List ℕ) where
           subst (λ (z : ℕ). Judged (valueAsked f k is x z) (valueReserved f k is x z at) m) (e .0)
           (subst (λ (z : ℕ). Judged (valueAsked f k is x u) (valueReserved f k is x u z) m) (record-same o at (sym g ∙ on u rest e)) j)
 
+  -- ---- one that was not
+  pub value-lost : (k n r : ℤ) (is : List ℤ) (x : ℤ) (v left m : ℕ) → variableWay f k n ≡ Found v left → wayOf f k r v left ≡ NoRecord m
+      → numberOf (valueRead f k n r is x) ≡ m
+  unfolding valueRead inVariable
+  value-lost k n r is x v left m way there = rw (way, there)
+
   -- ---- an entry that was found
   entry-judged : (b k : ℤ) (w : Wanted) (x : ℤ) (e left : ℕ) → entryWay f b k w ≡ Found e left
       → Judged (entryHas f x e) (entryReserved f x e) (numberOf (entryValue f b k w x))
@@ -143,15 +152,68 @@ module _ (f : List ℕ) where
       go false true s a = a
       go false false s a = tt
 
+-- ---- a number that no way stops with: it comes back exactly where a fact holds of what was found
+pub record NoStop (c : ℕ) : Type 0 where
+  pub none : 15 ≢ c
+  pub missing : 16 ≢ c
+  pub gap : 17 ≢ c
+  pub broken : 20 ≢ c
+
+no-stop-18 : NoStop 18
+no-stop-18 = record { none = λ q. omega (arith, q); missing = λ q. omega (arith, q); gap = λ q. omega (arith, q); broken = λ q. omega (arith, q) }
+
+no-stop-22 : NoStop 22
+no-stop-22 = record { none = λ q. omega (arith, q); missing = λ q. omega (arith, q); gap = λ q. omega (arith, q); broken = λ q. omega (arith, q) }
+
+module _ (c number : ℕ) where
+  found-due : (Fact : ℕ → ℕ → Type 0) (s : Way) → Stops (λ m. m ≢ c) s → ((m : ℕ) → s ≡ Stopped m → number ≡ m)
+      → ((o left : ℕ) → s ≡ Found o left → (number ≡ c) ↔ Fact o left) → (number ≡ c) ↔ FoundWith Fact s
+  found-due Fact (Found o left) h stopped found = found o left refl
+  found-due Fact (Stopped m) h stopped found = (λ q. h (sym (stopped m refl) ∙ q), λ z. absurd z)
+
+  record-due : (Fact : ℕ → Type 0) (s : Values) → Refuses (λ m. m ≢ c) s → ((m : ℕ) → s ≡ NoRecord m → number ≡ m)
+      → ((o : ℕ) → s ≡ Record o → (number ≡ c) ↔ Fact o) → (number ≡ c) ↔ RecordWith Fact s
+  record-due Fact (Record o) h lost found = found o refl
+  record-due Fact (NoRecord m) h lost found = (λ q. h (sym (lost m refl) ∙ q), λ z. absurd z)
+
+module _ (f : List ℕ) (c : ℕ) (no : NoStop c) where
+  variable-no : (k n : ℤ) → Stops (λ m. m ≢ c) (variableWay f k n)
+  variable-no k n = variable-stops (λ m. m ≢ c) (no .none) (no .missing) (no .gap) (no .broken) f k n
+
+  value-due : (k n r : ℤ) (is : List ℤ) (x : ℤ) (Fact : ℕ → ℕ → Type 0)
+      → ((v left o : ℕ) → variableWay f k n ≡ Found v left → wayOf f k r v left ≡ Record o → (numberOf (valueRead f k n r is x) ≡ c) ↔ Fact v o)
+      → (numberOf (valueRead f k n r is x) ≡ c) ↔ RecordFound f k n r Fact
+  value-due k n r is x Fact found =
+      found-due c (numberOf (valueRead f k n r is x)) (λ v left. RecordWith (Fact v) (wayOf f k r v left)) (variableWay f k n) (variable-no k n)
+      (λ m e. ap numberOf (value-stopped f k n r is x m e))
+      (λ v left way.
+      record-due c (numberOf (valueRead f k n r is x)) (Fact v) (wayOf f k r v left)
+      (record-refuses (λ m. m ≢ c) (no .none) (no .missing) (no .gap) (no .broken) (bodyOf f) v (variableOf (bodyOf f) (kindAmong 3 8 k) v .bytes) r left)
+      (λ m. value-lost f k n r is x v left m way) (λ o. found v left o way))
+
+  entry-due : (b k : ℤ) (w : Wanted) (x : ℤ) (Fact : ℕ → ℕ → Type 0)
+      → ((e left : ℕ) → entryWay f b k w ≡ Found e left → (numberOf (entryValue f b k w x) ≡ c) ↔ Fact e left)
+      → (numberOf (entryValue f b k w x) ≡ c) ↔ FoundWith Fact (entryWay f b k w)
+  entry-due b k w x Fact =
+      found-due c (numberOf (entryValue f b k w x)) Fact (entryWay f b k w)
+      (entry-stops (λ m. m ≢ c) (no .none) (no .missing) (no .gap) (no .broken) f b k w)
+      (λ m e. ap numberOf (entry-stopped f b k w x m e))
+
+  pad-due : (k n x : ℤ) (Fact : ℕ → ℕ → Type 0)
+      → ((v left : ℕ) → variableWay f k n ≡ Found v left → (numberOf (padRead f k n x) ≡ c) ↔ Fact v left)
+      → (numberOf (padRead f k n x) ≡ c) ↔ FoundWith Fact (variableWay f k n)
+  pad-due k n x Fact =
+      found-due c (numberOf (padRead f k n x)) Fact (variableWay f k n) (variable-no k n) (λ m e. ap numberOf (pad-stopped f k n x m e))
+
 -- THE THEOREM of every file
 pub elements-refused : ElementsRefused
 elements-refused f = record {
-  valueWrong = λ k n r is x v left o way there. judged-wrong _ _ _ (value-judged f k n r is x v left o way there);
-  valueOperand = λ k n r is x v left o way there. judged-operand _ _ _ (value-judged f k n r is x v left o way there);
-  entryWrong = λ b k w x e left way. judged-wrong _ _ _ (entry-judged f b k w x e left way);
-  entryOperand = λ b k w x e left way. judged-operand _ _ _ (entry-judged f b k w x e left way);
-  padWrong = λ k n x v left way. judged-wrong _ _ _ (pad-judged f k n x v left way);
-  padOperand = λ k n x v left way. judged-operand _ _ _ (pad-judged f k n x v left way);
+  valueWrong = λ k n r is x. value-due f 18 no-stop-18 k n r is x _ (λ v left o way there. judged-wrong _ _ _ (value-judged f k n r is x v left o way there));
+  valueOperand = λ k n r is x. value-due f 22 no-stop-22 k n r is x _ (λ v left o way there. judged-operand _ _ _ (value-judged f k n r is x v left o way there));
+  entryWrong = λ b k w x. entry-due f 18 no-stop-18 b k w x _ (λ e left way. judged-wrong _ _ _ (entry-judged f b k w x e left way));
+  entryOperand = λ b k w x. entry-due f 22 no-stop-22 b k w x _ (λ e left way. judged-operand _ _ _ (entry-judged f b k w x e left way));
+  padWrong = λ k n x. pad-due f 18 no-stop-18 k n x _ (λ v left way. judged-wrong _ _ _ (pad-judged f k n x v left way));
+  padOperand = λ k n x. pad-due f 22 no-stop-22 k n x _ (λ v left way. judged-operand _ _ _ (pad-judged f k n x v left way));
 }
 
 -- ---- 16 of an entry
@@ -200,7 +262,7 @@ module _ (f : List ℕ) (c : NestedAccepted f) (b k n x : ℤ) where
   sixteen : (numberOf (entryRead f b k n x) ≡ 16) ↔ Lacks
   sixteen = (go (entryRead f b k n x) (reads-right f c .entry b k n x), lacks-sixteen)
     where
-      go : (s : Read) → GivenOrRefused (EntryShown body b k n x) (EntryRefused body b k n x) s → numberOf s ≡ 16 → Lacks
+      go : (s : Read) → GivenOrRefused (EntryShown body b k (Number n) x) (EntryRefused body b k n x) s → numberOf s ≡ 16 → Lacks
       go (Value a) t q = absurd (omega arith)
       go (Refused m) t q = sixteen-lacks m q t
 

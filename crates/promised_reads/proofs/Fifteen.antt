@@ -91,7 +91,7 @@ module _ (f : List ℕ) (n : NestedAccepted f) where
       λ h. ap numberOf (value-stopped f k j r is x 15 (no-variable k j h)),
     );
     entry = λ b k j x. (
-      fifteen (EntryShown body b k j x) (EntryRefused body b k j x) (attributeThere body b k ≡ false) (entry-fifteen b k j x) (entryRead f b k j x) (reads-right f n .entry b k j x),
+      fifteen (EntryShown body b k (Number j) x) (EntryRefused body b k j x) (attributeThere body b k ≡ false) (entry-fifteen b k j x) (entryRead f b k j x) (reads-right f n .entry b k j x),
       λ h. ap numberOf (entry-stopped f b k (Number j) x 15 (no-attribute b k j h)),
     );
     pad = λ k j x. (

@@ -3,7 +3,7 @@ use mathlib.Core.Path.{_≡_, refl, sym, ap, _∙_, subst}
 use mathlib.Core.Bool.{Bool, true, false, cond, _&&_, _||_}
 use mathlib.Core.List.{List}
 use Prim.Native.Nat.{ℕ, suc, _+_, _-_, _*_, _≤_, _<_}
-use native.Mathlib.Nat.{mul-le-mul-right, suc-mul, mul-comm}
+use native.Mathlib.Nat.{zero-add, mul-le-mul-right, suc-mul, mul-comm}
 use native.Mathlib.Omega.{arith}
 use lib.Dec.{ltb, leb, eqb}
 use lib.IntN.{ℤ, pos, negsuc}
@@ -26,10 +26,9 @@ use Rattle.variables.specs.declared.vdr.Variable.{Variable}
 use Rattle.variables.specs.declared.place.Place.the-variants.{At, Wrong}
 use Rattle.values.specs.declared.value.Answer.{Answer}
 use Rattle.values.specs.declared.value.Decoded.the-variants.{Given}
-use Rattle.ways.specs.Lists.{opened, landsOn, meets, kindAmong, headPlace, entriesPlace, variableWay, entryWay}
+use Rattle.ways.specs.Lists.{opened, landsOn, meets, wantedAt, kindAmong, headPlace, entriesPlace, variableWay, entryWay}
 use Rattle.ways.specs.Indexes.{recordPlace, recordThere, recordRead, recordWay, levelsWay}
 use Rattle.ways.specs.declared.lists.Wanted.{Wanted}
-use Rattle.ways.specs.declared.lists.Wanted.the-variants.{Number}
 use Rattle.ways.specs.declared.lists.Way.{Way}
 use Rattle.ways.specs.declared.lists.Way.the-variants.{Found, Stopped}
 use Rattle.ways.specs.declared.indexes.Values.{Values}
@@ -38,7 +37,7 @@ use Rattle.ways.specs.declared.indexes.Levels.{Levels}
 use Rattle.ways.specs.declared.indexes.Levels.the-variants.{Are, Unknown}
 use Rattle.descriptors.specs.Descriptors.{levelsField, levelsOn, variableLevels}
 use Rattle.descriptors.specs.declared.Field.{Field}
-use Rattle.answers.specs.Answers.{encodingAt, rowMajority, elementThere, elementAt, elementOf, elementRead, atPlace, inRecord, inValues, inVariable, valueOn, valueRead, entryOn, entryValue, entryRead, padIn, padOn, padRead}
+use Rattle.answers.specs.Answers.{encodingAt, rowMajority, elementThere, elementAt, elementOf, elementRead, atPlace, inRecord, inValues, inVariable, valueOn, valueRead, entryOn, entryValue, padIn, padOn, padRead}
 use Rattle.answers.specs.declared.Read.the-variants.{Refused}
 use Rattle.promised_reads.specs.Reading.{Met, ElementShown, ValueShown, EntryShown, PadShown, LevelsShown, ValuesShown, reserved, inRecordAt, valueAt, entryAt, padAt, questionRight, padRight, ShownOrRefused}
 use Rattle.variables.proofs.Capped.{capped-small}
@@ -358,11 +357,11 @@ module _ (f : List ℕ) (b k : ℤ) (w : Wanted) (x : ℤ) (Fact : Answer → Ty
       go (Found e left) q t = in-entry (bodyOf f) b k w x Fact N (ordered f (t .0)) e (t .1) (fact e left q (t .1)) (wrong e left q) (refused e left q)
       go (Stopped m) q t = stopped m q
 
-module _ (f : List ℕ) (b k n x : ℤ) where
-  entry-shown : (e : ℕ) → ToEntry b k (Number n) f e → (a : Answer) → elementThere f (e + 24) x ≡ true → elementOf f (entryAt f e x) (e + 16) ≡ Given a
-      → EntryShown f b k n x a
+module _ (f : List ℕ) (b k : ℤ) (w : Wanted) (x : ℤ) where
+  entry-shown : (e : ℕ) → ToEntry b k w f e → (a : Answer) → elementThere f (e + 24) x ≡ true → elementOf f (entryAt f e x) (e + 16) ≡ Given a
+      → EntryShown f b k w x a
   entry-shown e t a h d =
-      let j = entry-element f k e (entry-meets f b k (Number n) e t) x h in
+      let j = entry-element f k e (entry-meets f b k w e t) x h in
       record {
         kind = t .kind;
         number = t .attribute .least;
@@ -371,21 +370,21 @@ module _ (f : List ℕ) (b k n x : ℤ) where
         aedr = e;
         place = t .entry .place;
         entry = list-met f (kindAmong 5 9 k) (t .adr + entriesPlace (kindAmong 5 9 k)) (t .entry .place) e (t .entry .is) (t .entry .met);
-        first = t .entry .wanted;
+        first = ap (λ (i : ℕ). wantedAt f w i e) (sym (zero-add (t .entry .place))) ∙ t .entry .wanted;
         earlier = λ g l.
-            ap (λ (o : ℕ). isAt f (o + 20) n) (sym (nth-same f (t .adr + entriesPlace (kindAmong 5 9 k)) g)) ∙ t .entry .earlier g l;
+            ap (λ (o : ℕ). wantedAt f w g o) (sym (nth-same f (t .adr + entriesPlace (kindAmong 5 9 k)) g))
+            ∙ ap (λ (i : ℕ). wantedAt f w i (nth f (t .adr + entriesPlace (kindAmong 5 9 k)) g)) (sym (zero-add g)) ∙ t .entry .earlier g l;
         element = h;
         inside = record { begins = omega arith; ends = omega (arith, j) };
         shown = element-shown f (entryAt f e x) (e + 16) a d;
       }
 
-module _ (f : List ℕ) (b k n x : ℤ) (N : ℕ → Type 0) where
-  pub entry-tells : ((m : ℕ) → entryWay f b k (Number n) ≡ Stopped m → N m)
-      → ((e left : ℕ) → entryWay f b k (Number n) ≡ Found e left → entryHas f x e ≡ false → N 18)
-      → ((e left : ℕ) → entryWay f b k (Number n) ≡ Found e left → entryHas f x e ≡ true
-      → entryReserved f x e ≡ true → N 22)
-      → Tells (EntryShown (bodyOf f) b k n x) N (entryRead f b k n x)
-  entry-tells stopped = wanted-tells f b k (Number n) x (EntryShown (bodyOf f) b k n x) N stopped (λ e left q t. entry-shown (bodyOf f) b k n x e t)
+module _ (f : List ℕ) (b k : ℤ) (w : Wanted) (x : ℤ) (N : ℕ → Type 0) where
+  pub entry-tells : ((m : ℕ) → entryWay f b k w ≡ Stopped m → N m)
+      → ((e left : ℕ) → entryWay f b k w ≡ Found e left → entryHas f x e ≡ false → N 18)
+      → ((e left : ℕ) → entryWay f b k w ≡ Found e left → entryHas f x e ≡ true → entryReserved f x e ≡ true → N 22)
+      → Tells (EntryShown (bodyOf f) b k w x) N (entryValue f b k w x)
+  entry-tells stopped = wanted-tells f b k w x (EntryShown (bodyOf f) b k w x) N stopped (λ e left q t. entry-shown (bodyOf f) b k w x e t)
 
 -- ---- A PAD VALUE
 pad-is : (f : List ℕ) (o : ℕ) → bitAt f (o + 28) 2 ≡ true → padBytes f o ≡ valueBytes f o
@@ -514,9 +513,9 @@ values-shown f = record {
   value = λ k n r is x a e.
       subst (Tells (ValueShown (bodyOf f) k n r is x) Any) e
       (value-tells f k n r is x (ValueShown (bodyOf f) k n r is x) Any (λ m q. tt) (λ v left m q h. tt) (λ v left at q h a w g i. w) (λ v left at q h g. tt) (λ v left at q h g i. tt));
-  entry = λ b k n x a e.
-      subst (Tells (EntryShown (bodyOf f) b k n x) Any) e
-      (entry-tells f b k n x Any (λ m q. tt) (λ e left q h. tt) (λ e left q h g. tt));
+  entry = λ b k w x a e.
+      subst (Tells (EntryShown (bodyOf f) b k w x) Any) e
+      (entry-tells f b k w x Any (λ m q. tt) (λ e left q h. tt) (λ e left q h g. tt));
   pad = λ k n x a e.
       subst (Tells (PadShown (bodyOf f) k n x) Any) e
       (pad-tells f k n x (PadShown (bodyOf f) k n x) Any (λ m q. tt) (λ v left q a w h g. w) (λ v left q h. tt) (λ v left q h g. tt));

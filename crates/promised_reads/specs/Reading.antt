@@ -26,11 +26,14 @@ use Rattle.variables.specs.Place.{elementPlace, placed}
 use Rattle.checker.specs.Step.{answerOf}
 use Rattle.demands.specs.Acceptance.{_∈_, Each, Linked, IndexRight}
 use Rattle.demands.specs.Demands.{endStage}
-use Rattle.ways.specs.Lists.{meets, headPlace, entriesPlace, ofKinds, kindAmong, variableWay, entryWay}
+use Rattle.ways.specs.Lists.{meets, wantedAt, headPlace, entriesPlace, ofKinds, kindAmong, variableWay, entryWay}
 use Rattle.ways.specs.Indexes.{recordVaries, recordThere, recordRead, indexMet, lowerMet, recordWay}
 use Rattle.ways.specs.declared.lists.Wanted.{Wanted}
-use Rattle.ways.specs.declared.lists.Way.the-variants.{Found}
-use Rattle.ways.specs.declared.indexes.Values.the-variants.{Record}
+use Rattle.ways.specs.declared.lists.Wanted.the-variants.{Number}
+use Rattle.ways.specs.declared.lists.Way.{Way}
+use Rattle.ways.specs.declared.lists.Way.the-variants.{Found, Stopped}
+use Rattle.ways.specs.declared.indexes.Values.{Values}
+use Rattle.ways.specs.declared.indexes.Values.the-variants.{Record, Refused as NoRecord}
 use Rattle.answers.specs.Answers.{numberOf, encodingAt, rowMajority, elementThere, elementAt, elementOf, valueRead, entryValue, entryRead, padRead}
 use Rattle.answers.specs.declared.Read.{Read}
 use Rattle.answers.specs.declared.Read.the-variants.{Value, Refused}
@@ -102,9 +105,9 @@ reserved f at t = reservedFloat f at (typeOf (natAt f t) .kind) (encodingOf (enc
 pub record ElementShown (f : List ℕ) (at t : ℕ) (a : Answer) : Type 0 where
   -- "with it comes the file offset it was read from"
   pub offset : a .offset ≡ at
-  -- what data type and encoding make of the bytes there; "Floats keep their bits"
+  -- what data type and encoding make of the bytes there; "Floats keep their bits", but for VAX floats
   pub decoded : elementOf f at t ≡ Given a
-  -- the bits are those of the value
+  -- the bits are those of the value, where the numbers of f are bytes, as those of every file are
   pub bits : OfBytes f → Agrees (a .value) (a .bits)
   -- #102: "Turn F_FLOAT, D_FLOAT and G_FLOAT .. into doubles"
   pub vax : vaxFloat f t ≡ true → VaxGiven f at (typeOf (natAt f t) .kind) (encodingOf (encodingAt f) .float) a
@@ -155,19 +158,19 @@ pub record ValueShown (f : List ℕ) (k n r : ℤ) (is : List ℤ) (x : ℤ) (a 
   pub inside : LiesIn f (namedBy f slot) 8 (valueAt f (kindAmong 3 8 k) vdr slot (recordRead f vdr r) is x) (elementSize f (vdr + 12))
   pub shown : ElementShown f (valueAt f (kindAmong 3 8 k) vdr slot (recordRead f vdr r) is x) (vdr + 12) a
 
--- what is shown for element x of the entry of number n, of kind k, of attribute b
-pub record EntryShown (f : List ℕ) (b k n x : ℤ) (a : Answer) : Type 0 where
+-- what is shown for element x of the entry that is wanted, by its number or its place, of kind k, of attribute b
+pub record EntryShown (f : List ℕ) (b k : ℤ) (w : Wanted) (x : ℤ) (a : Answer) : Type 0 where
   -- "kinds are record types .. 5, 9"; "a place below 0, is 15"
   pub kind : ofKinds 5 9 k ≡ true
   pub number : leZ (pos 0) b ≡ true
   pub adr : ℕ
   pub attribute : Met f 4 (headPlace f 4) (natOr 0 b) adr
-  -- "for an entry, the ADR's list to the first of that number": the entry is one of that number, none before it is
+  -- "for an entry, the ADR's list to the first of that number": the entry is a wanted one, none before it is
   pub aedr : ℕ
   pub place : ℕ
   pub entry : Met f (kindAmong 5 9 k) (adr + entriesPlace (kindAmong 5 9 k)) place aedr
-  pub first : isAt f (aedr + 20) n ≡ true
-  pub earlier : (h : ℕ) → h < place → isAt f (nthRecord f (adr + entriesPlace (kindAmong 5 9 k)) h + 20) n ≡ false
+  pub first : wantedAt f w place aedr ≡ true
+  pub earlier : (h : ℕ) → h < place → wantedAt f w h (nthRecord f (adr + entriesPlace (kindAmong 5 9 k)) h) ≡ false
   pub element : elementThere f (aedr + 24) x ≡ true
   pub inside : LiesIn f aedr 48 (entryAt f aedr x) (elementSize f (aedr + 16))
   pub shown : ElementShown f (entryAt f aedr x) (aedr + 16) a
@@ -197,7 +200,7 @@ pub record LevelsShown (f : List ℕ) (k n r : ℤ) (levels : ℤ) : Type 0 wher
 -- every value given is the one shown so, and every number of levels
 pub record ShowsRight (f : List ℕ) : Type 0 where
   pub value : (k n r : ℤ) (is : List ℤ) (x : ℤ) (a : Answer) → valueRead f k n r is x ≡ Value a → ValueShown (bodyOf f) k n r is x a
-  pub entry : (b k n x : ℤ) (a : Answer) → entryRead f b k n x ≡ Value a → EntryShown (bodyOf f) b k n x a
+  pub entry : (b k : ℤ) (w : Wanted) (x : ℤ) (a : Answer) → entryValue f b k w x ≡ Value a → EntryShown (bodyOf f) b k w x a
   pub pad : (k n x : ℤ) (a : Answer) → padRead f k n x ≡ Value a → PadShown (bodyOf f) k n x a
   pub levels : (k n r x : ℤ) → variableLevels f k n r ≡ Is x → LevelsShown (bodyOf f) k n r x
 
@@ -309,26 +312,40 @@ NoEntryNumber = (f : List ℕ) → PlainAccepts f → (b k n x : ℤ)
     → (numberOf (entryRead f b k n x) ≡ 16)
     ↔ ((attributeThere (bodyOf f) b k ≡ true) × (a : ℕ) × Met (bodyOf f) 4 (headPlace (bodyOf f) 4) (natOr 0 b) a × NoEntry (bodyOf f) a (kindAmong 5 9 k) n)
 
--- of every file, where the way to the values was found: 18, and 22, "the reserved operand, refused with 22"
+-- the way found a record, at o, of which a fact holds; and one through an index
+abbrev pub FoundWith : (ℕ → ℕ → Type 0) → Way → Type 0
+FoundWith Fact (Found o left) = Fact o left
+FoundWith Fact (Stopped m) = ⊥
+
+abbrev pub RecordWith : (ℕ → Type 0) → Values → Type 0
+RecordWith Fact (Record o) = Fact o
+RecordWith Fact (NoRecord m) = ⊥
+
+-- the way to record r of the variable of kind k and number n found its VDR, at v, and where the record begins, at o
+abbrev pub RecordFound : List ℕ → ℤ → ℤ → ℤ → (ℕ → ℕ → Type 0) → Type 0
+RecordFound f k n r Fact =
+    FoundWith (λ v left. RecordWith (Fact v) (recordWay (bodyOf f) v (variableOf (bodyOf f) (kindAmong 3 8 k) v .bytes) r left)) (variableWay f k n)
+
+-- of every file: 18, and 22, "the reserved operand, refused with 22", come exactly where the way was found and the element is so
 pub record ElementsExact (f : List ℕ) : Type 0 where
   -- of the record that begins at o
-  pub valueWrong : (k n r : ℤ) (is : List ℤ) (x : ℤ) (v left o : ℕ) → variableWay f k n ≡ Found v left
-      → recordWay (bodyOf f) v (variableOf (bodyOf f) (kindAmong 3 8 k) v .bytes) r left ≡ Record o
-      → (numberOf (valueRead f k n r is x) ≡ 18) ↔ (questionRight (bodyOf f) (kindAmong 3 8 k) v is x ≡ false)
-  pub valueOperand : (k n r : ℤ) (is : List ℤ) (x : ℤ) (v left o : ℕ) → variableWay f k n ≡ Found v left
-      → recordWay (bodyOf f) v (variableOf (bodyOf f) (kindAmong 3 8 k) v .bytes) r left ≡ Record o
+  pub valueWrong : (k n r : ℤ) (is : List ℤ) (x : ℤ)
+      → (numberOf (valueRead f k n r is x) ≡ 18) ↔ RecordFound f k n r (λ v o. questionRight (bodyOf f) (kindAmong 3 8 k) v is x ≡ false)
+  pub valueOperand : (k n r : ℤ) (is : List ℤ) (x : ℤ)
       → (numberOf (valueRead f k n r is x) ≡ 22)
-      ↔ ((questionRight (bodyOf f) (kindAmong 3 8 k) v is x && reserved (bodyOf f) (inRecordAt (bodyOf f) (kindAmong 3 8 k) v o is x) (v + 12)) ≡ true)
+      ↔ RecordFound f k n r (λ v o.
+      (questionRight (bodyOf f) (kindAmong 3 8 k) v is x && reserved (bodyOf f) (inRecordAt (bodyOf f) (kindAmong 3 8 k) v o is x) (v + 12)) ≡ true)
   -- of the entry at e, wanted by its number or by its place
-  pub entryWrong : (b k : ℤ) (w : Wanted) (x : ℤ) (e left : ℕ) → entryWay f b k w ≡ Found e left
-      → (numberOf (entryValue f b k w x) ≡ 18) ↔ (elementThere (bodyOf f) (e + 24) x ≡ false)
-  pub entryOperand : (b k : ℤ) (w : Wanted) (x : ℤ) (e left : ℕ) → entryWay f b k w ≡ Found e left
+  pub entryWrong : (b k : ℤ) (w : Wanted) (x : ℤ)
+      → (numberOf (entryValue f b k w x) ≡ 18) ↔ FoundWith (λ e left. elementThere (bodyOf f) (e + 24) x ≡ false) (entryWay f b k w)
+  pub entryOperand : (b k : ℤ) (w : Wanted) (x : ℤ)
       → (numberOf (entryValue f b k w x) ≡ 22)
-      ↔ ((elementThere (bodyOf f) (e + 24) x && reserved (bodyOf f) (entryAt (bodyOf f) e x) (e + 16)) ≡ true)
+      ↔ FoundWith (λ e left. (elementThere (bodyOf f) (e + 24) x && reserved (bodyOf f) (entryAt (bodyOf f) e x) (e + 16)) ≡ true) (entryWay f b k w)
   -- of the VDR at v: "pad value as elements (18 if there is none)"
-  pub padWrong : (k n x : ℤ) (v left : ℕ) → variableWay f k n ≡ Found v left → (numberOf (padRead f k n x) ≡ 18) ↔ (padRight (bodyOf f) v x ≡ false)
-  pub padOperand : (k n x : ℤ) (v left : ℕ) → variableWay f k n ≡ Found v left
-      → (numberOf (padRead f k n x) ≡ 22) ↔ ((padRight (bodyOf f) v x && reserved (bodyOf f) (padAt (bodyOf f) v x) (v + 12)) ≡ true)
+  pub padWrong : (k n x : ℤ) → (numberOf (padRead f k n x) ≡ 18) ↔ FoundWith (λ v left. padRight (bodyOf f) v x ≡ false) (variableWay f k n)
+  pub padOperand : (k n x : ℤ)
+      → (numberOf (padRead f k n x) ≡ 22)
+      ↔ FoundWith (λ v left. (padRight (bodyOf f) v x && reserved (bodyOf f) (padAt (bodyOf f) v x) (v + 12)) ≡ true) (variableWay f k n)
 
 abbrev pub ElementsRefused : Type 0
 ElementsRefused = (f : List ℕ) → ElementsExact f
@@ -422,7 +439,7 @@ ShownOrRefused Shown Why (NoField v) = Why v
 
 pub record ReadsRight (f : List ℕ) : Type 0 where
   pub value : (k n r : ℤ) (is : List ℤ) (x : ℤ) → GivenOrRefused (ValueShown (bodyOf f) k n r is x) (ValueRefused (bodyOf f) k n r is x) (valueRead f k n r is x)
-  pub entry : (b k n x : ℤ) → GivenOrRefused (EntryShown (bodyOf f) b k n x) (EntryRefused (bodyOf f) b k n x) (entryRead f b k n x)
+  pub entry : (b k n x : ℤ) → GivenOrRefused (EntryShown (bodyOf f) b k (Number n) x) (EntryRefused (bodyOf f) b k n x) (entryRead f b k n x)
   pub pad : (k n x : ℤ) → GivenOrRefused (PadShown (bodyOf f) k n x) (PadRefused (bodyOf f) k n x) (padRead f k n x)
   pub levels : (k n r : ℤ) → ShownOrRefused (LevelsShown (bodyOf f) k n r) (LevelsRefused (bodyOf f) k n r) (variableLevels f k n r)
 
