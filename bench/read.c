@@ -126,17 +126,20 @@ static uint64_t number_at(const uint8_t *f, int64_t o, int64_t size, int little)
     return n;
 }
 
-/* The bytes of a VAX float as a number: of its 16-bit little-endian words the first is the most significant. */
-static uint64_t words_at(const uint8_t *f, int64_t o, int64_t size)
+/* The 4 or 8 bytes of a VAX float as a number: of its 16-bit little-endian words the first is the most significant. */
+static inline uint32_t two_words(const uint8_t *p)
 {
-    uint64_t n = 0;
-    for (int64_t i = 0; i < size; i += 2)
-        n = n << 16 | (uint64_t)f[o + i + 1] << 8 | f[o + i];
-    return n;
+    uint32_t n = (uint32_t)p[3] << 24 | (uint32_t)p[2] << 16 | (uint32_t)p[1] << 8 | p[0];
+    return n << 16 | n >> 16;
+}
+
+static inline uint64_t four_words(const uint8_t *p)
+{
+    return (uint64_t)two_words(p) << 32 | two_words(p + 4);
 }
 
 /* The first `kept` of so many binary digits: rounded to nearest, ties to even, or with zeros behind them. */
-static uint64_t rounded(uint64_t n, int digits, int kept)
+static inline uint64_t rounded(uint64_t n, int digits, int kept)
 {
     if (digits <= kept)
         return n << (kept - digits);
@@ -150,7 +153,7 @@ static uint64_t rounded(uint64_t n, int digits, int kept)
  * has e + 1074 - b digits before the point in units of 2^-1074; up to 53 of them are kept. The sum puts the leading digit, and a
  * carry out of the rounding, into the double's exponent.
  */
-static int32_t vax_to_double(uint64_t n, int size, int w, int b, uint64_t *bits)
+static inline int32_t vax_to_double(uint64_t n, int size, int w, int b, uint64_t *bits)
 {
     uint64_t hidden = UINT64_C(1) << w, sign = n >> (size - 1);
     int e = (int)(n >> w & ((UINT64_C(1) << (size - 1 - w)) - 1));
@@ -165,9 +168,9 @@ static int32_t vax_to_double(uint64_t n, int size, int w, int b, uint64_t *bits)
 /* A float of encoding 3, 14 or 15: F_FLOAT, and D_FLOAT or G_FLOAT. */
 static int32_t vax_float(const uint8_t *f, int64_t o, int64_t size, int32_t encoding, uint64_t *bits)
 {
-    uint64_t n = words_at(f, o, size);
     if (size == 4)
-        return vax_to_double(n, 32, 23, 128, bits);
+        return vax_to_double(two_words(f + o), 32, 23, 128, bits);
+    uint64_t n = four_words(f + o);
     return encoding == 15 ? vax_to_double(n, 64, 52, 1024, bits) : vax_to_double(n, 64, 55, 128, bits);
 }
 
