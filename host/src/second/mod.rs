@@ -2,10 +2,8 @@
 //! floats, with the saved state of docs/STATE.md.
 //!
 //! `bytes`, `tables` and `rules` say what fields, numbers and records are, `vax` what VAX floats are, by the numbers of
-//! `whole`;
-//! `check` makes the steps from one saved state (`state`) to the next, `read`
-//! gives values and descriptors, and `dump` writes all that the reader finds
-//! in a file as text.
+//! `whole`; `check` makes the steps from one saved state (`state`) to the next, `read` gives values and descriptors, and
+//! `dump` writes all that the reader finds in a file as text.
 
 pub mod bytes;
 pub mod check;
@@ -17,4 +15,4 @@ pub mod tables;
 pub mod vax;
 mod walk;
 mod way;
-pub mod whole;
+mod whole;

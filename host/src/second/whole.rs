@@ -29,21 +29,6 @@ impl Whole {
         Whole { digits }
     }
 
-    /// The sum.
-    pub fn plus(&self, other: &Whole) -> Whole {
-        let length = self.digits.len().max(other.digits.len()) + 1;
-        let mut digits = self.digits.clone();
-        digits.resize(length, 0);
-        let mut carry = 0;
-        for (place, digit) in digits.iter_mut().enumerate() {
-            let more = other.digits.get(place).copied().unwrap_or(0);
-            let sum = u128::from(*digit) + u128::from(more) + carry;
-            *digit = sum as u64;
-            carry = sum >> 64;
-        }
-        Whole::trimmed(digits)
-    }
-
     /// The product.
     pub fn times(&self, other: &Whole) -> Whole {
         let mut digits = vec![0; self.digits.len() + other.digits.len()];
@@ -133,9 +118,23 @@ mod tests {
     use super::*;
     use crate::build::random::Random;
 
+    /// The sum.
+    fn sum(one: &Whole, other: &Whole) -> Whole {
+        let mut digits = one.digits.clone();
+        digits.resize(one.digits.len().max(other.digits.len()) + 1, 0);
+        let mut carry = 0;
+        for (place, digit) in digits.iter_mut().enumerate() {
+            let more = other.digits.get(place).copied().unwrap_or(0);
+            let sum = u128::from(*digit) + u128::from(more) + carry;
+            *digit = sum as u64;
+            carry = sum >> 64;
+        }
+        Whole::trimmed(digits)
+    }
+
     fn of(number: u128) -> Whole {
         let high = Whole::of((number >> 64) as u64).times(&Whole::two_to(64));
-        high.plus(&Whole::of(number as u64))
+        sum(&high, &Whole::of(number as u64))
     }
 
     /// Sums, products, distances and order of numbers that fit in 128 bits.
@@ -147,7 +146,7 @@ mod tests {
             let [one, two] = shifts.map(|shift| u128::from(random.number() >> shift));
             assert_eq!(of(one).times(&of(two)), of(one * two));
             let (high, low) = (one << random.place(63), two << random.place(63));
-            assert_eq!(of(high).plus(&of(low)), of(high + low));
+            assert_eq!(sum(&of(high), &of(low)), of(high + low));
             assert_eq!(of(high).distance(&of(low)), of(high.abs_diff(low)));
             assert_eq!(of(high).cmp(&of(low)), high.cmp(&low));
         }
@@ -159,9 +158,10 @@ mod tests {
         let mut random = Random::seeded(22);
         for _ in 0..2000 {
             let powers = [random.below(2000), random.below(2000)];
-            let [a, b] = powers
-                .map(|power| Whole::of(random.number()).plus(&Whole::two_to(power.unsigned_abs())));
-            let product = a.plus(&b).times(&a.distance(&b));
+            let [a, b] = powers.map(|power| {
+                sum(&Whole::of(random.number()), &Whole::two_to(power.unsigned_abs()))
+            });
+            let product = sum(&a, &b).times(&a.distance(&b));
             assert_eq!(product, a.times(&a).distance(&b.times(&b)));
             let fraction = |above: &Whole, below: &Whole| Fraction {
                 above: above.clone(),
@@ -177,7 +177,7 @@ mod tests {
     #[test]
     fn powers_of_two() {
         for power in 0..200 {
-            let twice = Whole::two_to(power).plus(&Whole::two_to(power));
+            let twice = sum(&Whole::two_to(power), &Whole::two_to(power));
             assert_eq!(twice, Whole::two_to(power + 1));
             assert_eq!(Whole::of(2).times(&Whole::two_to(power)), twice);
             assert!(Whole::two_to(power) < twice);
