@@ -3,10 +3,12 @@
 //! A round builds a good file and damages it or not. Both check it, in one grant and in grants at random. Then both go on
 //! from points of the check with marks made up, from states made up, and after bytes of the file have been changed. At
 //! every stop they must agree in the answer, the steps, the place, all 34 numbers of the state and every mark, one grant must
-//! leave what several do, and a grant after the end must say the same again. Then both readers are asked: they must answer the same, VAX floats as the
-//! plainest statement of them says, and never 20 on an accepted file. On a padded file all this must be the same with other bytes and other marks in the padding, which must stay.
+//! leave what several do, and a grant after the end must say the same again. Then both readers are asked: they must answer
+//! the same, and never 20 on an accepted file. An answer for a VAX float must be what the plainest statement of them says of
+//! the bytes that are stored there: the double, or 22 for a reserved operand; 22 must come for nothing else. On a padded
+//! file all this must be the same with other bytes and other marks in the padding, which must stay.
 
-use crate::bindings::{Granted, RESERVED_OPERAND};
+use crate::bindings::Granted;
 use crate::build;
 use crate::build::model::{File, Index};
 use crate::build::random::Random;
@@ -59,10 +61,10 @@ pub struct Covered {
     pub levels_answered: BTreeMap<i64, u64>,
     /// What they answered: 0, or a refusal.
     pub answers: BTreeMap<i32, u64>,
-    /// VAX floats that they answered alike, by kind; a reserved operand with 22.
+    /// VAX floats that they answered alike and rightly, by kind: with a double, or with 22 for a reserved operand.
     pub vax_floats: BTreeMap<&'static str, u64>,
-    /// The same by what is to be said of them.
-    pub vax_traits: BTreeMap<&'static str, u64>,
+    /// The same by sort.
+    pub vax_sorts: BTreeMap<&'static str, u64>,
 }
 
 impl fmt::Display for Covered {
@@ -88,10 +90,9 @@ impl fmt::Display for Covered {
         writeln!(out, "questions         {}", list(&self.questions))?;
         writeln!(out, "levels answered   {}", list(&self.levels_answered))?;
         writeln!(out, "reader's answers  {}", list(&self.answers))?;
-        let (floats, reserved) = (self.vax_floats.values().sum::<u64>(), self.reserved());
+        let floats = self.vax_floats.values().sum::<u64>();
         writeln!(out, "VAX floats        {floats}: {}", list(&self.vax_floats))?;
-        writeln!(out, "of them           {}", list(&self.vax_traits))?;
-        write!(out, "22                {reserved}")
+        write!(out, "of them           {}", list(&self.vax_sorts))
     }
 }
 
@@ -99,11 +100,6 @@ impl Covered {
     /// Files with padding.
     fn padded(&self) -> u64 {
         PADDED.iter().filter_map(|kind| self.padding.get(kind)).sum()
-    }
-
-    /// Answers that were 22.
-    fn reserved(&self) -> u64 {
-        self.answers.get(&RESERVED_OPERAND).copied().unwrap_or(0)
     }
 
     /// Steps that gave 20, by what was wrong.
@@ -239,9 +235,9 @@ fn with_questions(file: &[u8], random: &mut Random, covered: &mut Covered) -> Re
         let answer = questions::agreed(file, &question)?;
         count(&mut covered.questions, questions::call(&question));
         count(&mut covered.answers, answer.err().unwrap_or(0));
-        if let Some((kind, traits)) = questions::vax_float(file, &question, answer)? {
+        if let Some((kind, sorts)) = questions::vax_float(file, &question, answer)? {
             count(&mut covered.vax_floats, kind.name());
-            traits.into_iter().for_each(|name| count(&mut covered.vax_traits, name));
+            sorts.into_iter().for_each(|name| count(&mut covered.vax_sorts, name));
         }
         if let (Question::Levels(..), Ok(Given::Field(levels))) = (&question, answer) {
             count(&mut covered.levels_answered, levels);
@@ -432,9 +428,9 @@ mod tests {
         assert_eq!(one.questions.len(), questions::CALLS, "{one}");
         let answers: Vec<i32> = one.answers.keys().copied().collect();
         assert_eq!(answers, [0, 15, 16, 17, 18, 20, 22], "{one}");
-        assert!(one.vax_floats.len() == 3 && one.vax_traits.len() == 7, "{one}");
+        assert!(one.vax_floats.len() == 3 && one.vax_sorts.len() == 7, "{one}");
         assert!(one.vax_floats.values().all(|floats| *floats > 150), "{one}");
-        assert!(one.vax_floats.values().sum::<u64>() > 800 && one.reserved() > 40, "{one}");
+        assert!(one.vax_floats.values().sum::<u64>() > 800 && one.answers[&22] > 40, "{one}");
         assert!(one.levels.len() == 10 && one.compared.levels.len() == 8, "{one}");
         assert!(one.levels_answered.len() >= 5, "{one}");
         assert!(one.padding.len() == 5 && one.padded() > 60, "{one}");

@@ -7,7 +7,8 @@ use crate::second::bytes::{field, unsigned};
 use crate::second::read;
 use crate::second::rules::{Attribute, Entry, Name, Variable};
 use crate::second::tables::Form;
-use crate::vax::{self, Kind};
+use crate::second::vax::{D_FLOAT, F_FLOAT, G_FLOAT};
+use crate::vax::Kind;
 use std::fmt;
 
 /// A question: a call of the reader with its numbers.
@@ -216,6 +217,30 @@ pub fn agreed(file: &[u8], question: &Question) -> Result<Answer, String> {
     Ok(ours)
 }
 
+/// The kind that VAX floats are answered as.
+const DOUBLE: u64 = Form::Double.number();
+
+/// What both readers answer for the value of a record, of a zVariable without dimensions: a double's bits or a refusal.
+pub fn agreed_double(file: &[u8], number: i64, record: i64) -> Result<Result<u64, i32>, String> {
+    let question = Question::Value(8, number, record, Vec::new(), 0);
+    match agreed(file, &question)? {
+        Ok(Given::Value(DOUBLE, bits, _)) => Ok(Ok(bits)),
+        Ok(other) => Err(format!("{question}: {other:?} is no double")),
+        Err(refusal) => Ok(Err(refusal)),
+    }
+}
+
+/// What the second implementation answers for the pattern of a VAX float: a double's bits or 22.
+pub fn second_double(kind: Kind, pattern: u64) -> Result<u64, i32> {
+    let of_kind = match kind {
+        Kind::F => F_FLOAT,
+        Kind::D => D_FLOAT,
+        Kind::G => G_FLOAT,
+    };
+    let bytes = pattern.to_le_bytes();
+    of_kind.double(&bytes[..kind.bits() as usize / 8]).ok_or(RESERVED_OPERAND)
+}
+
 /// The kind of VAX float that a question asks for; nothing if it is none, or if the variable or entry is not there.
 pub fn vax_kind(file: &[u8], question: &Question) -> Option<Kind> {
     use Question::*;
@@ -235,26 +260,58 @@ pub fn vax_kind(file: &[u8], question: &Question) -> Option<Kind> {
     Kind::of(read::encoding(file).ok()?.number, data_type.number)
 }
 
-/// Judges a VAX float that was answered to a question by the plainest statement: its kind and what is to be said of it;
-/// nothing if it is none, or if it was refused for another reason than being a reserved operand.
+/// File offset of the element that a question asks for, whatever is stored there; nothing if there is no such element.
+fn element_offset(file: &[u8], question: &Question) -> Option<i64> {
+    use Question::*;
+    let (first, elements, size, element) = match question {
+        Value(kind, number, record, indices, element) => {
+            let of = read::variable(file, *kind, *number).ok()?;
+            let first = read::value_offset(file, *kind, *number, *record, indices).ok()?;
+            (first, of.elements, of.data_type.size, element)
+        }
+        Pad(kind, number, element) => {
+            let of = read::variable(file, *kind, *number).ok()?;
+            (of.pad?, of.elements, of.data_type.size, element)
+        }
+        Entry(attribute, kind, entry, element) => {
+            let of = read::entry(file, *attribute, *kind, *entry).ok()?;
+            (of.value, of.elements, of.data_type.size, element)
+        }
+        EntryValueAt(attribute, kind, place, element) => {
+            let place = i64::try_from(*place).ok()?;
+            let of = read::entry_at_place(file, *attribute, *kind, place).ok()?;
+            (of.value, of.elements, of.data_type.size, element)
+        }
+        _ => return None,
+    };
+    (0..elements).contains(element).then_some(first + element * size)
+}
+
+/// Judges the answer to a question for a VAX float, 22 too, by the bytes of the file and the plainest statement: the float's
+/// kind and sorts; nothing if no VAX float is asked for, or if it is refused for another reason. A 22 where no VAX float is
+/// asked for is an error.
 pub fn vax_float(
     file: &[u8],
     question: &Question,
     answer: Answer,
 ) -> Result<Option<(Kind, Vec<&'static str>)>, String> {
-    let Some(kind) = vax_kind(file, question) else { return Ok(None) };
-    match answer {
-        Ok(Given::Value(of_kind, bits, offset)) => {
-            let bytes = (kind.bits() / 8) as i64;
-            let pattern = unsigned(file, offset as i64, bytes, true).ok_or("no such offset")?;
-            kind.judge(pattern, Ok(bits))?;
-            let is_double = of_kind == Form::Double.number();
-            let found = Some((kind, kind.traits(pattern)));
-            is_double.then_some(found).ok_or(format!("{question}: {answer:?} is no double"))
-        }
-        Err(RESERVED_OPERAND) => Ok(Some((kind, vec![vax::RESERVED]))),
-        _ => Ok(None),
-    }
+    let wrong = |what: &str| format!("{question}: {answer:?}: {what}");
+    let Some(kind) = vax_kind(file, question) else {
+        return match answer {
+            Err(RESERVED_OPERAND) => Err(wrong("no VAX float is asked for")),
+            _ => Ok(None),
+        };
+    };
+    let (bits, offset) = match answer {
+        Ok(Given::Value(DOUBLE, bits, offset)) => (Ok(bits), i64::try_from(offset).ok()),
+        Ok(_) => return Err(wrong("no double")),
+        Err(RESERVED_OPERAND) => (Err(RESERVED_OPERAND), element_offset(file, question)),
+        Err(_) => return Ok(None),
+    };
+    let stored = |at| unsigned(file, at, (kind.bits() / 8) as i64, true);
+    let pattern = offset.and_then(stored).ok_or_else(|| wrong("no such element"))?;
+    kind.judge(pattern, bits).map_err(|what| wrong(&what))?;
+    Ok(Some((kind, kind.sorts(pattern))))
 }
 
 /// The most variables, attributes, entries of a list and records that are asked for VAX floats.
@@ -269,7 +326,7 @@ pub fn for_vax_floats(file: &[u8], random: &mut Random) -> Vec<Question> {
     for (kind, number) in [3, 8].iter().flat_map(|kind| (0..MOST).map(|number| (*kind, number))) {
         let Ok(of) = read::variable(file, kind, number) else { continue };
         found.push(Question::Pad(kind, number, 0));
-        for record in 0..=of.max_rec.min(MOST) {
+        for record in 0..(of.max_rec + 1).min(MOST) {
             let indices = of.sizes.iter().map(|size| random.below(*size)).collect();
             found.push(Question::Value(kind, number, record, indices, 0));
         }

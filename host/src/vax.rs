@@ -129,8 +129,8 @@ impl Kind {
         }
     }
 
-    /// What is to be said of a pattern.
-    pub fn traits(self, pattern: u64) -> Vec<&'static str> {
+    /// The sorts that a pattern is of.
+    pub fn sorts(self, pattern: u64) -> Vec<&'static str> {
         let parts = self.parts(pattern);
         if parts.exponent == 0 {
             return vec![if parts.negative { RESERVED } else { ZERO }];
@@ -154,7 +154,10 @@ impl Kind {
     /// Judges what a reader answers for a pattern: the bits of a double, or a refusal.
     pub fn judge(self, pattern: u64, answer: Result<u64, i32>) -> Result<(), String> {
         let parts = self.parts(pattern);
-        let wrong = |what: &str| Err(format!("{}: {parts:?}: {what}: {answer:x?}", self.name()));
+        let wrong = |what: &str| {
+            let given = answer.map(|bits| format!("{bits:x}"));
+            Err(format!("{}: {parts:?}: {what}: {given:?}", self.name()))
+        };
         if parts.exponent == 0 {
             let expected = if parts.negative { Err(RESERVED_OPERAND) } else { Ok(0) };
             return if answer == expected { Ok(()) } else { wrong("zero exponent") };
@@ -175,7 +178,7 @@ impl Kind {
             return wrong("the even one is as near");
         }
         let exact = here == [0; DIGITS];
-        if exact != self.traits(pattern).contains(&EXACT) || self == Kind::F && !exact {
+        if exact != self.sorts(pattern).contains(&EXACT) || self == Kind::F && !exact {
             return wrong("exact or not");
         }
         Ok(())
@@ -198,7 +201,7 @@ pub const EXACT: &str = "exact";
 pub const TIE: &str = "tie";
 /// The double above is the answer.
 pub const UP: &str = "up";
-/// The double above, which has a greater exponent, is the answer.
+/// The double above, a power of two, is the answer: all bits that a double has a place for are ones.
 pub const CARRY: &str = "carry";
 /// The answer is a subnormal double.
 pub const SUBNORMAL: &str = "subnormal";

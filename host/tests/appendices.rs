@@ -2,20 +2,21 @@
 //! proved reader.
 
 use tlepozaluh_host::appendices::{cases, Case, DOUBLE, MISPRINTS, SINGLE};
-use tlepozaluh_host::questions::{agreed, Given, Question};
+use tlepozaluh_host::questions::{agreed_double, second_double};
 use tlepozaluh_host::samples;
-use tlepozaluh_host::second::vax::{D_FLOAT, F_FLOAT, G_FLOAT};
 use tlepozaluh_host::vax::{self, Kind, Parts, KINDS};
 
 /// What the second implementation answers.
 fn answer(kind: Kind, parts: Parts) -> Result<u64, i32> {
-    let bytes = kind.pattern(parts).to_le_bytes();
-    let of_kind = match kind {
-        Kind::F => F_FLOAT,
-        Kind::D => D_FLOAT,
-        Kind::G => G_FLOAT,
-    };
-    of_kind.double(&bytes[..kind.bits() as usize / 8]).ok_or(22)
+    second_double(kind, kind.pattern(parts))
+}
+
+/// What is right for a row with the sign set: a reserved operand where the exponent is zero, else the row's double negated.
+fn negated(case: &Case, bits: u64) -> Result<u64, i32> {
+    match case.parts.exponent {
+        0 => Err(22),
+        _ => Ok(1 << 63 | bits),
+    }
 }
 
 /// 41 rows in A; 99 in B, 48 with a G_FLOAT and 63 with a D_FLOAT, 12 with both.
@@ -53,15 +54,15 @@ fn printed(text: &str) -> (&str, i32) {
 /// the double nearest to what is printed, or the even one of two.
 fn check(kind: Kind, case: &Case, bits: u64) {
     assert!(case.double.is_none_or(|double| double == bits), "{case:?}: {bits:x}");
-    let traits = kind.traits(kind.pattern(case.parts));
-    if traits.contains(&vax::EXACT) || traits.contains(&vax::ZERO) {
+    let sorts = kind.sorts(kind.pattern(case.parts));
+    if sorts.contains(&vax::EXACT) || sorts.contains(&vax::ZERO) {
         let places = printed(case.value).0.len() - 2;
         let text = format!("{:.places$e}", f64::from_bits(bits));
         assert_eq!(printed(&text), printed(case.value), "{case:?}");
         return;
     }
     let near: f64 = case.value.parse().expect(case.value);
-    if traits.contains(&vax::TIE) {
+    if sorts.contains(&vax::TIE) {
         assert!(bits.is_multiple_of(2) && near.to_bits().abs_diff(bits) <= 1, "{case:?}: {bits:x}");
     } else {
         assert_eq!(near.to_bits(), bits, "{case:?}");
@@ -76,9 +77,7 @@ fn every_row() {
             check(kind, &case, bits);
             kind.judge(kind.pattern(case.parts), Ok(bits)).expect("the nearest double");
             let negative = Parts { negative: true, ..case.parts };
-            let refused = case.parts.exponent == 0;
-            let expected = if refused { Err(22) } else { Ok(1 << 63 | bits) };
-            assert_eq!(answer(kind, negative), expected, "{case:?}");
+            assert_eq!(answer(kind, negative), negated(&case, bits), "{case:?}");
         }
     }
 }
@@ -92,17 +91,12 @@ fn every_row_by_both_readers() {
     {
         let file = std::fs::read(samples::directory().join("vax").join(name)).expect(name);
         for (case, record) in cases(kind).iter().zip(0..) {
-            let ask = |number| {
-                let question = Question::Value(8, number, record, Vec::new(), 0);
-                agreed(&file, &question).expect("one answer")
-            };
-            let Ok(Given::Value(3, bits, _)) = ask(0) else { panic!("{case:?}") };
+            let ask = |number| agreed_double(&file, number, record).expect("one answer");
+            let bits = ask(0).expect("a value");
             check(kind, case, bits);
-            match ask(1) {
-                Ok(Given::Value(3, negative, _)) => assert_eq!(negative, 1 << 63 | bits),
-                other => assert_eq!((other, case.parts.exponent), (Err(22), 0), "{case:?}"),
-            }
-            refused += usize::from(case.parts.exponent == 0);
+            let with_sign = ask(1);
+            assert_eq!(with_sign, negated(case, bits), "{case:?}");
+            refused += usize::from(with_sign.is_err());
         }
     }
     assert_eq!(refused, 15);

@@ -13,15 +13,7 @@ use tlepozaluh_host::second::rules::Name;
 use tlepozaluh_host::second::tables::{DataType, DATA_TYPES, ENCODINGS};
 use tlepozaluh_host::vax::Kind;
 
-const FILES: u64 = 5000;
-
-/// Any good file; one in five has VAX floats for the most part.
-fn any_file(seed: u64) -> (File, Vec<u8>) {
-    match seed % 5 {
-        0 => build::with_vax_floats(seed),
-        _ => build::any(seed),
-    }
-}
+const FILES: u64 = 8000;
 
 /// Links of a list of so many records: one each, and the zero link.
 fn links<T>(list: &[T]) -> u64 {
@@ -53,7 +45,7 @@ fn steps(model: &File, records: usize) -> u64 {
 #[test]
 fn accepted_with_steps_and_marks() {
     for seed in 0..FILES {
-        let (model, file) = any_file(seed);
+        let (model, file) = build::mixed(seed);
         let records = damage::records(&file);
         let mut marks = vec![0xAA; file.len()];
         let answer = run(&file, &mut marks);
@@ -143,7 +135,7 @@ fn values_are_the_models() {
     let mut given = 0;
     let mut refused = [0; 23];
     for seed in 0..FILES {
-        let (model, file) = any_file(seed);
+        let (model, file) = build::mixed(seed);
         for kind in [3, 8] {
             for (number, of) in model.variables(kind).iter().enumerate() {
                 let asked = any_question(&mut random, of);
@@ -247,7 +239,7 @@ fn check_pad(model: &File, file: &[u8], kind: i64, number: i64, of: &Variable) -
 fn pad_values_are_the_models() {
     let mut found = [0, 0];
     for seed in 0..FILES {
-        let (model, file) = any_file(seed);
+        let (model, file) = build::mixed(seed);
         for kind in [3, 8] {
             for (number, of) in (0..).zip(model.variables(kind)) {
                 found = sum(found, check_pad(&model, &file, kind, number, of));
@@ -281,7 +273,7 @@ fn check_entries(model: &File, file: &[u8], attribute: i64, kind: i64, entries: 
 fn entries_are_the_models() {
     let mut found = [0, 0];
     for seed in 0..FILES {
-        let (model, file) = any_file(seed);
+        let (model, file) = build::mixed(seed);
         for (number, attribute) in model.attributes.iter().enumerate() {
             for kind in [5, 9] {
                 let entries = attribute.entries(kind);
@@ -372,9 +364,9 @@ fn descriptors_are_the_models() {
     }
 }
 
-/// Counts what is to be said of a VAX float.
-fn count_traits(counts: &mut BTreeMap<(Kind, &str), usize>, kind: Kind, patterns: &[u64]) {
-    for name in patterns.iter().flat_map(|pattern| kind.traits(*pattern)) {
+/// Counts the sorts of VAX floats.
+fn count_sorts(counts: &mut BTreeMap<(Kind, &str), usize>, kind: Kind, patterns: &[u64]) {
+    for name in patterns.iter().flat_map(|pattern| kind.sorts(*pattern)) {
         *counts.entry((kind, name)).or_insert(0) += 1;
     }
 }
@@ -383,24 +375,24 @@ fn count_traits(counts: &mut BTreeMap<(Kind, &str), usize>, kind: Kind, patterns
 #[test]
 fn every_sort_of_vax_float_is_built() {
     let mut counts = [BTreeMap::new(), BTreeMap::new(), BTreeMap::new()];
-    for model in (0..FILES).map(|seed| any_file(seed).0) {
+    for model in (0..FILES).map(|seed| build::mixed(seed).0) {
         let kind = |data_type: DataType| Kind::of(model.encoding.number, data_type.number);
         for variable in model.r_variables.iter().chain(&model.z_variables) {
             let Some(kind) = kind(variable.data_type) else { continue };
             for values in variable.values() {
-                count_traits(&mut counts[0], kind, &values.records.concat());
+                count_sorts(&mut counts[0], kind, &values.records.concat());
             }
-            count_traits(&mut counts[1], kind, variable.pad.as_deref().unwrap_or(&[]));
+            count_sorts(&mut counts[1], kind, variable.pad.as_deref().unwrap_or(&[]));
         }
         let entries = |of: &Attribute| [of.gr_entries.clone(), of.z_entries.clone()].concat();
         for entry in model.attributes.iter().flat_map(entries) {
             let Some(kind) = kind(entry.data_type) else { continue };
-            count_traits(&mut counts[2], kind, &entry.elements);
+            count_sorts(&mut counts[2], kind, &entry.elements);
         }
     }
-    let traits = 3 + 6 + 7;
+    let sorts = 3 + 6 + 7;
     for counts in counts {
-        assert!(counts.len() == traits && counts.values().all(|count| *count > 5), "{counts:?}");
+        assert!(counts.len() == sorts && counts.values().all(|count| *count > 5), "{counts:?}");
     }
 }
 

@@ -187,34 +187,18 @@ fn patterns(kind: Kind) -> Vec<u64> {
     zeros.chain(others).flat_map(both).collect()
 }
 
-/// The encoding of the sample with special patterns of a kind, and the types that are floats of it.
-fn of_kind(kind: Kind) -> (i64, Vec<DataType>) {
-    match kind {
-        Kind::F => (14, vec![of_type(21), of_type(44)]),
-        Kind::D => (3, vec![of_type(22), of_type(31), of_type(45)]),
-        Kind::G => (15, vec![of_type(22), of_type(31), of_type(45)]),
-    }
-}
-
 /// A zVariable of floats, one a record.
 fn floats(name: &str, data_type: DataType, patterns: &[u64]) -> Variable {
-    let records = patterns.iter().map(|pattern| vec![*pattern]).collect();
-    Variable {
-        name: name.as_bytes().to_vec(),
-        max_rec: patterns.len() as i64 - 1,
-        chain: vec![Index::of(vec![Values { first: 0, records }])],
-        ..Variable::plain(data_type, Vec::new())
-    }
+    Variable { name: name.as_bytes().to_vec(), ..Variable::of_elements(data_type, patterns) }
 }
 
 /// Special patterns as values of every type of a kind, as elements of entries and as pad values; and values of two, entries
 /// and pad values of which the first or the second is a reserved operand.
 fn special_patterns(kind: Kind) -> File {
-    let (of_encoding, types) = of_kind(kind);
+    let (mut file, types) = File::base_of(kind);
     let one = kind.pattern(Parts { negative: false, exponent: kind.offset() + 1, mantissa: 0 });
     let reserved = kind.pattern(Parts { negative: true, exponent: 0, mantissa: 5 });
     let zero = kind.pattern(Parts { negative: false, exponent: 0, mantissa: 5 });
-    let mut file = base(of_encoding);
     for (data_type, pad) in types.iter().zip([reserved, one, zero]) {
         let variable = floats(&format!("v{}", data_type.number), *data_type, &patterns(kind));
         file.z_variables.push(Variable { pad: Some(vec![pad]), ..variable });
@@ -239,8 +223,7 @@ fn special_patterns(kind: Kind) -> File {
 
 /// The floats of a kind in the rows of the appendices, and the same with the sign set.
 fn of_appendix(kind: Kind) -> File {
-    let (of_encoding, types) = of_kind(kind);
-    let mut file = base(of_encoding);
+    let (mut file, types) = File::base_of(kind);
     for (name, negative) in [("rows", false), ("negative", true)] {
         let cases = appendices::cases(kind).into_iter();
         let cases = cases.map(|case| kind.pattern(Parts { negative, ..case.parts }));
@@ -344,7 +327,8 @@ fn every_read() {
     }
 }
 
-/// The answers of the list for VAX floats are right by the plainest statement of them, and are of every sort.
+/// The answers of the list for VAX floats, 22 too, are right by the bytes of the samples and the plainest statement of VAX
+/// floats, and are of every sort.
 #[test]
 fn every_vax_float() {
     let path = samples::directory().join("vax").join("built_reads.txt");

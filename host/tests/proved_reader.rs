@@ -10,7 +10,8 @@ use tlepozaluh_host::samples;
 use tlepozaluh_host::second::bytes::field;
 use tlepozaluh_host::second::{check, read};
 
-/// What was answered: how often each number, by which calls anything was given, and how many VAX floats, by kind.
+/// What was answered: how often each number, by which calls anything was given, and how many VAX floats and reserved
+/// operands, by kind; each of these is judged by the bytes of the file.
 #[derive(Default)]
 struct Tally {
     numbers: BTreeMap<i32, u64>,
@@ -139,8 +140,7 @@ fn built_files() {
     let mut random = Random::seeded(12);
     let mut tally = Tally::default();
     for seed in 0..2000 {
-        let built = if seed % 4 == 0 { build::with_vax_floats } else { build::any };
-        let file = built(seed).1;
+        let file = build::mixed(seed).1;
         let what = || format!("seed {seed}");
         all_of(&file, &mut tally, &what);
         for _ in 0..60 {
@@ -170,8 +170,7 @@ fn ask_all(seeds: std::ops::Range<u64>, damages: impl Fn(&[u8]) -> Vec<Damage>) 
     let mut random = Random::seeded(seeds.start + 13);
     let mut tally = Tally::default();
     for seed in seeds {
-        let built = if seed % 4 == 0 { build::with_vax_floats } else { build::any };
-        let file = built(seed).1;
+        let file = build::mixed(seed).1;
         for damage in damages(&file) {
             let damaged = damage::damaged(&file, &damage);
             let what = || format!("seed {seed}: {damage:?}");
@@ -224,8 +223,7 @@ fn several_damages_and_bytes_at_random() {
     let mut random = Random::seeded(14);
     let mut tally = Tally::default();
     for seed in 0..1500 {
-        let built = if seed % 4 == 0 { build::with_vax_floats } else { build::any };
-        let mut file = built(seed).1;
+        let mut file = build::mixed(seed).1;
         let all = damage::all_damages(&file);
         let damages = damage::some_of(&all, &mut random);
         let damaged =

@@ -43,6 +43,14 @@ pub fn with_vax_floats(seed: u64) -> (File, Vec<u8>) {
     (file, bytes)
 }
 
+/// Any good file; one in four has VAX floats for the most part.
+pub fn mixed(seed: u64) -> (File, Vec<u8>) {
+    match seed % 4 {
+        0 => with_vax_floats(seed),
+        _ => any(seed),
+    }
+}
+
 /// Any file with so many bytes behind eof: good, if there are no more than 511.
 pub fn with_padding(seed: u64, padding: usize) -> (File, Vec<u8>) {
     let mut random = Random::seeded(seed);

@@ -2,7 +2,9 @@
 
 use super::random::Random;
 use crate::second::rules::MOST_PADDING;
-use crate::second::tables::{data_type, DataType, Encoding, Form, DATA_TYPES, ENCODINGS, GREATEST};
+use crate::second::tables::{
+    data_type, encoding, DataType, Encoding, Form, DATA_TYPES, ENCODINGS, GREATEST,
+};
 use crate::vax::Kind;
 
 /// A good file: its descriptors, variables, attributes and unused records.
@@ -231,6 +233,14 @@ impl File {
         }
     }
 
+    /// A base in an encoding with VAX floats of this kind, and the data types that are such floats.
+    pub fn base_of(kind: Kind) -> (File, Vec<DataType>) {
+        let number = [14, 3, 15][kind as usize];
+        let is_float = |of: &DataType| Kind::of(number, of.number) == Some(kind);
+        let file = File::base(encoding(number).unwrap_or(ENCODINGS[0]));
+        (file, DATA_TYPES.into_iter().filter(is_float).collect())
+    }
+
     /// Any good file.
     pub fn any(random: &mut Random) -> File {
         let encoding = random.one_of(&ENCODINGS).copied().unwrap_or(ENCODINGS[0]);
@@ -408,6 +418,17 @@ impl Variable {
             variances: sizes.iter().map(|size| *size < 1000).collect(),
             sizes,
             chain: Vec::new(),
+        }
+    }
+
+    /// A variable without dimensions, with a record for each of these elements.
+    pub fn of_elements(data_type: DataType, elements: &[u64]) -> Variable {
+        let values =
+            Values { first: 0, records: elements.iter().map(|bits| vec![*bits]).collect() };
+        Variable {
+            max_rec: values.last(),
+            chain: vec![Index::of(vec![values])],
+            ..Variable::plain(data_type, Vec::new())
         }
     }
 

@@ -20,11 +20,15 @@ pub fn read_value(
 ) -> Result<Answer, u32> {
     let mut way = Way::open(file)?;
     let (_, variable) = way.variable(kind, number)?;
-    let start = way.record(&variable, record)?;
-    let place = place_in_record(&variable, way.header.row_majority, indices)?;
-    let value_bytes = variable.elements * variable.data_type.size;
-    let value = start + place * value_bytes;
+    let value = value_at(&mut way, &variable, record, indices)?;
     element_at(&way, variable.data_type, variable.elements, value, element)
+}
+
+/// File offset of a value's first byte.
+fn value_at(way: &mut Way, variable: &Variable, record: i64, indices: &[i64]) -> Result<i64, u32> {
+    let start = way.record(variable, record)?;
+    let place = place_in_record(variable, way.header.row_majority, indices)?;
+    Ok(start + place * variable.elements * variable.data_type.size)
 }
 
 /// One element of an attribute's entry: the first entry of that number.
@@ -160,6 +164,19 @@ pub fn record_offset(file: &[u8], kind: i64, number: i64, record: i64) -> Result
     let mut way = Way::open(file)?;
     let (_, variable) = way.variable(kind, number)?;
     way.record(&variable, record)
+}
+
+/// File offset of the first byte of a variable's value, whatever is stored there.
+pub fn value_offset(
+    file: &[u8],
+    kind: i64,
+    number: i64,
+    record: i64,
+    indices: &[i64],
+) -> Result<i64, u32> {
+    let mut way = Way::open(file)?;
+    let (_, variable) = way.variable(kind, number)?;
+    value_at(&mut way, &variable, record, indices)
 }
 
 /// How many levels a variable's index has on the way to a record, 1 to 8.

@@ -22,7 +22,7 @@ pub enum Form {
 
 impl Form {
     /// The number of this value kind in the interface for C.
-    pub fn number(self) -> u64 {
+    pub const fn number(self) -> u64 {
         match self {
             Form::Signed => 0,
             Form::Unsigned => 1,
