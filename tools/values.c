@@ -96,7 +96,7 @@ int32_t values_print(struct source *source, values_read *read, const void *asked
             return answer;
         fputs(i > 0 ? between : "", stdout);
         if (answer != 0)
-            fputs(source->json ? "null" : "reserved", stdout);
+            fputs(source->json ? "\"reserved\"" : "reserved", stdout);
         else if (value.kind == TLZ_CHARACTER)
             return print_characters(source, read, asked, elements, &value);
         else

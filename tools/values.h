@@ -34,7 +34,7 @@ void values_string(const struct source *source, const uint8_t *bytes, size_t len
 
 /*
  * Prints so many elements: numbers with what is given between them, characters together as one string. Nothing of them is
- * printed if the first is refused; a reserved operand is shown as reserved, or null. Gives the answer that ended it.
+ * printed if the first is refused; a reserved operand is shown as reserved, in JSON a string. Gives the answer that ended it.
  */
 int32_t values_print(struct source *source, values_read *read, const void *asked, int64_t elements, const char *between);
 

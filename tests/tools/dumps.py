@@ -36,11 +36,11 @@ def float_bits(value, letter, form):
 def token(value, kind, encoding):
     global values_compared
     values_compared += 1
-    if value is None:
-        assert kind in (21, 22, 31, 44, 45) and encoding in VAX
-        return "reserved"
     if kind in (51, 52):
         return "c" + value.encode("latin-1").hex()
+    if value == "reserved":
+        assert kind in (21, 22, 31, 44, 45) and encoding in VAX
+        return value
     if kind in (21, 44) and encoding not in VAX:
         return float_bits(value, "f", ">f")
     if kind in (21, 22, 31, 44, 45):
@@ -76,9 +76,8 @@ def record_lines(path, of, encoding):
         yield f"R {found['record']} " + " ".join(token(shown[place(at)], kind, encoding) for at in places)
 
 
-def variable_lines(path, of, encoding, has_pad):
-    pad = token(of["pad"], of["type"], encoding) if has_pad else "-"
-    assert has_pad or of["pad"] is None
+def variable_lines(path, of, encoding):
+    pad = "-" if of["pad"] is None else token(of["pad"], of["type"], encoding)
     varys = "".join(map(letter, of["variances"])) or "-"
     sparse = {"none": 0, "pad": 1, "previous": 2}[of["sparseness"]]
     yield (f"VAR {of['kind']} num={of['num']} name={name(of['name'])} type={of['type']} elems={of['elements']}"
@@ -100,13 +99,10 @@ def attribute_lines(of, encoding):
 def ours(path):
     file = json.loads(asked("--json", path))
     encoding = file["encoding"]
-    # In JSON no pad value is null, and so is a reserved operand; the text has them apart.
-    pads = re.findall("^  pad         (.*)$", asked(path), re.MULTILINE)
-    assert len(pads) == len(file["variables"])
     yield (f"CDF encoding={file['encoding']} majority={file['majority']} rdims={numbers(file['r_dimensions'])}"
            f" nr={file['r_variable_count']} nz={file['z_variable_count']} na={file['attribute_count']}")
-    for variable, pad in zip(file["variables"], pads):
-        yield from variable_lines(path, variable, encoding, pad != "none")
+    for variable in file["variables"]:
+        yield from variable_lines(path, variable, encoding)
     for attribute in file["attributes"]:
         yield from attribute_lines(attribute, encoding)
 

@@ -6,13 +6,11 @@ of 4 bytes.
 """
 import sys
 
+from made import fields, opening
+
 levels, entries, out = int(sys.argv[1]), int(sys.argv[2]), sys.argv[3]
 changes = [int(word) for word in sys.argv[4:]]
 records = entries**levels
-
-
-def fields(*numbers):
-    return b"".join((number % 2**32).to_bytes(4, "big") for number in numbers)
 
 
 def index(level, first, at):
@@ -30,12 +28,9 @@ def index(level, first, at):
     return fields(20 + 12 * entries, 6, 0, entries, entries, *firsts, *lasts, *offsets) + below
 
 
-cdr = fields(304, 1, 312, 2, 7, 6, 3) + bytes(276)
 vdr = fields(132, 8, 0, 2, records - 1, 504, 504, 1, 0, 0, 0, 0, 1, 0, 0, 0) + b"tree".ljust(64, b"\0") + fields(0)
 tree = index(1, 0, 504)
-length = 504 + len(tree)
-gdr = fields(60, 2, 0, 372, 0, length, 0, 0, -1, 0, 1, 0, 0, 0, 0)
-data = bytearray(fields(0xCDF26002, 0x0000FFFF) + cdr + gdr + vdr + tree)
+data = bytearray(opening(6, 504 + len(tree), 1) + vdr + tree)
 for place, number in zip(changes[::2], changes[1::2]):
     data[place:place + 4] = fields(number)
 with open(out, "wb") as file:

@@ -13,6 +13,8 @@ import struct
 import subprocess
 import sys
 
+from made import fields, opening
+
 # Rows of tables 5.4, 5.7 and 5.8: byte, its lowest and highest bit, field (sign, exponent, mantissa), the field's lowest bit.
 REST = [(2, 0, 7, "m", 32), (3, 0, 7, "m", 40), (4, 0, 7, "m", 16), (5, 0, 7, "m", 24), (6, 0, 7, "m", 0), (7, 0, 7, "m", 8)]
 F_FLOAT = [(0, 0, 6, "m", 16), (0, 7, 7, "e", 0), (1, 0, 6, "e", 1), (1, 7, 7, "s", 0), (2, 0, 7, "m", 0), (3, 0, 7, "m", 8)]
@@ -21,6 +23,8 @@ G_FLOAT = [(0, 0, 3, "m", 48), (0, 4, 7, "e", 0), (1, 0, 6, "e", 4), (1, 7, 7, "
 # Rows, bits of the exponent and of the mantissa, what is taken from the exponent.
 FORMS = {"F": (F_FLOAT, 8, 23, 128), "D": (D_FLOAT, 8, 55, 128), "G": (G_FLOAT, 11, 52, 1024)}
 TYPES = {21: 4, 44: 4, 22: 8, 31: 8, 45: 8}
+# What is printed of a reserved operand, as text and in JSON, and the line behind the text.
+RESERVED = "reserved"
 WORDS = "refused 22: the reserved operand of VAX floats: the exponent is zero and the sign is set"
 
 
@@ -65,10 +69,6 @@ def nearest(value):
     return found, away in others
 
 
-def fields(*numbers):
-    return b"".join((number % 2**32).to_bytes(4, "big") for number in numbers)
-
-
 def variable(at, number, kind, values, size, pad, later):
     """A zVariable at an offset, all of its records in one run: of one value each, or of so many along a dimension."""
     dimensions = [] if size == 0 else [size]
@@ -91,10 +91,7 @@ def file_of(encoding, kind, pad, values):
     body = b"".join(values)
     data = fields(116, 4, 0, attribute + 116, 1, 0, 1, 0, 0, 0, 0, -1, 0) + b"floats".ljust(64, b"\0")
     data += fields(48 + len(body), 5, 0, 0, kind, 0, len(values), 0, 0, 0, 0, 0) + body
-    length = attribute + len(data)
-    cdr = fields(304, 1, 312, 2, 6, encoding, 3) + bytes(276)
-    gdr = fields(60, 2, 0, 372, attribute, length, 0, 1, -1, 0, 2, 0, 0, 0, 0)
-    return fields(0xCDF26002, 0x0000FFFF) + cdr + gdr + variables + data
+    return opening(encoding, attribute + len(data), 2, attribute) + variables + data
 
 
 def asked(status, *words):
@@ -104,15 +101,15 @@ def asked(status, *words):
 
 
 def text_of(value):
-    """A double as cdfread prints it, None as the reserved operand."""
-    if value is None:
-        return "reserved"
+    """A double, or RESERVED, as cdfread prints it."""
+    if value == RESERVED:
+        return value
     text = f"{value:.17g}"
     return text if "." in text or "e" in text else text + ".0"
 
 
 def bits_shown(shown):
-    return [None if value is None else bits_of(float(value)) for value in shown]
+    return [value if value == RESERVED else bits_of(float(value)) for value in shown]
 
 
 def compare_values(path, doubles, refused):
@@ -165,7 +162,7 @@ def compare(folder):
         reserved = [data for data in values if exact(form, data) is None]
         pad = reserved[-1] if some else values[-1]
         numbers = [exact(form, data) for data in values]
-        pairs = [(None, False) if number is None else nearest(number) for number in numbers]
+        pairs = [(RESERVED, False) if number is None else nearest(number) for number in numbers]
         doubles = [double for double, _ in pairs]
         path = f"{folder}/vax_{encoding}_{kind}_{some}.cdf"
         with open(path, "wb") as file:
