@@ -2,11 +2,15 @@
 //!
 //! One thing cannot be asked for: the offset of a record, entry value or pad value whose first element is a reserved operand,
 //! which is refused with 22. It is shown as `@?`.
+//!
+//! The VAX floats of any dump of that form can be judged by the bytes of its file.
 
 use crate::bindings::{self, Name, Value, FILE_PADDING, RESERVED_OPERAND};
+use crate::second::bytes::unsigned;
 use crate::second::dump::{advance, bits_token, letter, name_letter, numbers, padding_note};
 use crate::second::dump::{MOST_VALUES, RESERVED};
 use crate::second::tables::{data_type, encoding, Form};
+use crate::vax::Kind;
 
 const GAP: i32 = 17;
 const NO_NUMBER: i32 = 16;
@@ -47,6 +51,57 @@ pub fn askable(line: &str) -> String {
         _ => word.to_string(),
     };
     words.iter().enumerate().map(shown).collect::<Vec<String>>().join(" ")
+}
+
+/// Judges every VAX float of a dump by the bytes of the file, reserved operands too: their kinds and sorts, or what is wrong.
+/// The values of a line must stand in the file as they do in the line.
+pub fn judged_floats(file: &[u8], dump: &str) -> Result<Vec<(Kind, Vec<&'static str>)>, String> {
+    let encoding = number_of(dump, "CDF encoding=").ok_or("no encoding")?;
+    let (mut kind, mut found) = (None, Vec::new());
+    for line in dump.lines() {
+        if let Some(data_type) = number_of(line, " type=") {
+            kind = Kind::of(encoding, data_type);
+        }
+        let (Some(kind), Some((first, tokens))) = (kind, values_of(line)) else { continue };
+        let first: i64 = first.parse().map_err(|_| format!("{line}: no offset"))?;
+        for (token, at) in tokens.iter().zip((first..).step_by(kind.bits() as usize / 8)) {
+            let sorts = judged_token(file, kind, at, token);
+            found.push((kind, sorts.map_err(|wrong| format!("{line}: {wrong}"))?));
+        }
+    }
+    Ok(found)
+}
+
+/// The number behind these words of a text.
+fn number_of(text: &str, words: &str) -> Option<i64> {
+    text.split_once(words)?.1.split(' ').next()?.parse().ok()
+}
+
+/// The offset and the tokens of a line: @OFFSET TOKEN .., or a pad value, TOKEN@OFFSET.
+fn values_of(line: &str) -> Option<(&str, Vec<&str>)> {
+    let has_offset = |word: &str| word.starts_with('@') || word.starts_with("pad=");
+    let mut words = line.split(' ').skip_while(|word| !has_offset(word));
+    let (before, offset) = words.next()?.split_once('@')?;
+    let pad = before.strip_prefix("pad=");
+    Some((offset, pad.map_or_else(|| words.collect(), |token| vec![token])))
+}
+
+/// The sorts of the VAX float at an offset, if its token is right.
+fn judged_token(
+    file: &[u8],
+    kind: Kind,
+    at: i64,
+    token: &str,
+) -> Result<Vec<&'static str>, String> {
+    let size = kind.bits() as i64 / 8;
+    let pattern = unsigned(file, at, size, true).ok_or("no such offset")?;
+    let bits = token.strip_prefix('d').and_then(|digits| u64::from_str_radix(digits, 16).ok());
+    let shown = match token {
+        RESERVED => Err(RESERVED_OPERAND),
+        _ => Ok(bits.ok_or("no double")?),
+    };
+    kind.judge(pattern, shown)?;
+    Ok(kind.sorts(pattern))
 }
 
 fn name_text(file: &[u8], name: Name) -> String {

@@ -269,7 +269,7 @@ fn built(folder: &str) -> Vec<(&'static str, Vec<u8>)> {
 }
 
 /// Folders with such samples, and how many lines `built_reads.txt` has there.
-const FOLDERS: [(&str, usize); 4] = [("", 21), ("levels", 134), ("padded", 15), ("vax", 5662)];
+const FOLDERS: [(&str, usize); 4] = [("", 21), ("levels", 134), ("padded", 15), ("vax", 1338)];
 
 fn text(folder: &str, name: &str) -> String {
     std::fs::read_to_string(samples::directory().join(folder).join(name)).expect(name)
@@ -323,27 +323,28 @@ fn every_read() {
             let file = sample(folder, &line.name);
             assert_eq!(second(&file, &line.question), line.answer, "second: {line:?}");
             assert_eq!(proved(&file, &line.question), line.answer, "proved: {line:?}");
+            let float = vax_float(&file, &line.question, line.answer);
+            float.unwrap_or_else(|wrong| panic!("{line:?}: {wrong}"));
         }
     }
 }
 
-/// The answers of the list for VAX floats, 22 too, are right by the bytes of the samples and the plainest statement of VAX
-/// floats, and are of every sort.
+/// The VAX floats of the dumps, reserved operands too, are right by the bytes of the samples and the plainest statement of
+/// VAX floats, and are of every sort.
 #[test]
 fn every_vax_float() {
-    let path = samples::directory().join("vax").join("built_reads.txt");
     let mut seen: BTreeMap<(Kind, &str), usize> = BTreeMap::new();
-    for line in samples::read_lines(&path).expect("built_reads.txt") {
-        let file = sample("vax", &line.name);
-        let float = vax_float(&file, &line.question, line.answer);
-        let found = float.unwrap_or_else(|wrong| panic!("{line:?}: {wrong}"));
-        for (kind, name) in
-            found.into_iter().flat_map(|(kind, all)| all.into_iter().map(move |of| (kind, of)))
-        {
-            *seen.entry((kind, name)).or_insert(0) += 1;
+    let mut floats = 0;
+    for (name, file) in built("vax") {
+        let dump = text("vax", &name.replace(".cdf", ".dump"));
+        let judged = dump::judged_floats(&file, &dump);
+        for (kind, sorts) in judged.unwrap_or_else(|wrong| panic!("{name}: {wrong}")) {
+            sorts.into_iter().for_each(|sort| *seen.entry((kind, sort)).or_insert(0) += 1);
+            floats += 1;
         }
     }
-    assert!(seen.len() == 3 + 6 + 7 && seen.values().all(|count| *count > 5), "{seen:?}");
+    assert!(seen.len() == 3 + 6 + 7 && seen.values().all(|count| *count >= 30), "{seen:?}");
+    assert_eq!(floats, 7389);
 }
 
 /// All that a reader finds in the accepted ones; in one that is not opened or has a broken list, 20.

@@ -7,7 +7,6 @@ use tlepozaluh_host::samples;
 use tlepozaluh_host::second;
 use tlepozaluh_host::second::check::{run, ACCEPTED};
 use tlepozaluh_host::second::read::{read_entry, read_value};
-use tlepozaluh_host::vax::Kind;
 
 /// What is compared where JCDF's dump is not the whole truth.
 #[derive(Clone, Copy, Debug, PartialEq)]
@@ -170,42 +169,17 @@ fn every_sample_by_the_proved_reader() {
     assert!(lines > 800 && vax == VAX_FLOATS, "{lines} {vax}");
 }
 
-/// The floats of the samples with VAX floats: each token of the dump against the bytes at its offset.
+/// The floats of the samples with VAX floats: each token of both dumps against the bytes at its offset.
 #[test]
 fn vax_floats_are_those_of_the_bytes() {
     let mut judged = 0;
-    for (name, number) in [("30_encoding_03", 3), ("30_encoding_14", 14), ("30_encoding_15", 15)] {
+    for name in ["30_encoding_03", "30_encoding_14", "30_encoding_15"] {
         let file = sample(name);
-        let theirs = expected(name);
         for ours in [second::dump::dump(&file).expect(name), dump::dump(&file).expect(name)] {
-            for ((line, kind), other) in kinds_of_lines(&ours, number).into_iter().zip(&theirs) {
-                let Some(kind) = kind else { continue };
-                let words: Vec<&str> = line.split(' ').collect();
-                assert_eq!(other.split(' ').nth(3), Some("vax"), "{name}: {line}");
-                let at: usize = words[2].trim_start_matches('@').parse().expect(line);
-                let bytes = file[at..at + kind.bits() as usize / 8].iter().rev();
-                let pattern = bytes.fold(0, |number, byte| number << 8 | u64::from(*byte));
-                let digits = words[3].strip_prefix('d').expect(line);
-                let bits = u64::from_str_radix(digits, 16).expect(line);
-                kind.judge(pattern, Ok(bits)).unwrap_or_else(|wrong| panic!("{name}: {wrong}"));
-                judged += 1;
-            }
+            judged += dump::judged_floats(&file, &ours).expect(name).len();
         }
     }
     assert_eq!(judged, 2 * VAX_FLOATS);
-}
-
-/// The lines of a dump, those of records with the kind of VAX float that they show.
-fn kinds_of_lines(dump: &str, encoding: i64) -> Vec<(&str, Option<Kind>)> {
-    let mut kind = None;
-    let of_line = |line| {
-        if let Some(rest) = str::split_once(line, " type=").filter(|_| line.starts_with("VAR ")) {
-            let number = rest.1.split(' ').next().and_then(|word| word.parse().ok());
-            kind = number.and_then(|number| Kind::of(encoding, number));
-        }
-        (line, kind.filter(|_| line.starts_with("R ")))
-    };
-    dump.lines().map(of_line).collect()
 }
 
 #[test]
