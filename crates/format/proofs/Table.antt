@@ -2,7 +2,7 @@
 use mathlib.Core.Path.{_≡_, refl}
 use mathlib.Core.Bool.{Bool, true, false, cond, _&&_, _||_}
 use mathlib.Core.List.{List, [], _∷_}
-use Prim.Native.Nat.{ℕ, zero, suc, _<_, _≤_}
+use Prim.Native.Nat.{ℕ, zero, suc, _+_, _*_, _/_, _%_, _<_, _≤_}
 use native.Mathlib.Omega.{arith}
 use lib.Dec.{ltb, leb, eqb, T, ltb→lt, leb→le}
 use lib.ListN.{getD}
@@ -50,6 +50,13 @@ lookup-passes t other (p ∷ ps) x o h =
     go : (b : Bool) → T (t (p .1)) → T (t (lookup other ps x)) → T (t (cond b (p .1) (lookup other ps x)))
     go true h k = h
     go false h k = k
+
+-- two columns of numbers in one row, one of them below 16
+pub low-column : (a b : ℕ) → b < 16 → (16 * a + b) % 16 ≡ b
+low-column a b h = omega arith
+
+pub high-column : (a b : ℕ) → b < 16 → (16 * a + b) / 16 ≡ a
+high-column a b h = omega arith
 
 -- no element is longer than 8 bytes
 pub type-small : (t : ℕ) → typeOf t .size ≤ 8

@@ -10,21 +10,36 @@ pub struct Encoding {
     pub float: u32,
 }
 
-// The encodings by their numbers: the byte order.
-const ORDERS: [u8; 17] = [0, 1, 1, 2, 2, 1, 2, 1, 0, 1, 0, 1, 1, 2, 2, 2, 2];
-
-// And the float kind.
-const FLOATS: [u8; 17] = [0, 1, 1, 2, 1, 1, 1, 1, 0, 1, 0, 1, 1, 1, 2, 3, 1];
+// The encodings by their numbers: sixteen times the float kind, and the byte order.
+const ENCODINGS: [u8; 17] = [
+    0,
+    0x11,
+    0x11,
+    0x22,
+    0x12,
+    0x11,
+    0x12,
+    0x11,
+    0,
+    0x11,
+    0,
+    0x11,
+    0x11,
+    0x12,
+    0x22,
+    0x32,
+    0x12,
+];
 
 // The encoding of a number.
 pub fn encoding_of(e: u32) -> Encoding
     ensures { λ r. ⌜ r ≡ encodingOf e ⌝ }
 {
     if e < 17 {
-        let i = e as usize;
+        let row = types::number(ENCODINGS[e as usize]);
         Encoding {
-            order: types::number(ORDERS[i]),
-            float: types::number(FLOATS[i]),
+            order: row % 16,
+            float: row / 16,
         }
     } else {
         Encoding { order: 0, float: 0 }

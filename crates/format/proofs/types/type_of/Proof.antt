@@ -1,4 +1,4 @@
-use Rattle.format.proofs.Table.{tabled, lookup-above, type-small}
+use Rattle.format.proofs.Table.{tabled, lookup-above, low-column, high-column, type-small}
 use Rattle.format.specs.Types.{typeOf, types, takes, signed}
 use Prim.Native.Nat.{ℕ, _+_, _*_, _/_, _%_}
 use mathlib.Core.Path.{_≡_, sym, ap, _∙_}
@@ -19,9 +19,8 @@ rowOf t = 16 * typeOf t .kind + typeOf t .size
 
 parted : (t : ℕ) → takes (rowOf t % 16) (rowOf t / 16) ≡ typeOf t
 parted t =
-    let size : rowOf t % 16 ≡ typeOf t .size = omega (arith, type-small t) in
-    let kind : rowOf t / 16 ≡ typeOf t .kind = omega (arith, type-small t) in
-    ap (λ (n : ℕ). takes n (rowOf t / 16)) size ∙ ap (takes (typeOf t .size)) kind
+    ap (λ (n : ℕ). takes n (rowOf t / 16)) (low-column (typeOf t .kind) (typeOf t .size) (omega (arith, type-small t)))
+    ∙ ap (takes (typeOf t .size)) (high-column (typeOf t .kind) (typeOf t .size) (omega (arith, type-small t)))
 
 returns : tie.Need-returns
 unfolding typeOf
