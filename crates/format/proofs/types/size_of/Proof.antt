@@ -1,6 +1,5 @@
 use lib.Dec.{lit≤}
 use Rattle.format.proofs.Table.{size-by}
-use borrow.Author.Needs.{needs}
 use Rattle.format.proofs.types.size_of.Statement.{statement}
 use Rattle.format.proofs.types.size_of.Tie as tie
 
