@@ -3,7 +3,7 @@ ghost use mathlib.Core.Path.{_≡_};
 ghost use mathlib.Core.Bool.{true};
 ghost use Prim.Native.Nat.{_+_, _-_, _*_, _≤_, _<_};
 ghost use lib.ListN.{length};
-ghost use Rattle.ways.specs.Indexes.{lookedUp, entryCovers, EntryFits, ScanFits, IndexFits, ValuesFits, scanned, indexMet, lowerMet, lowered, lowestOf, indexed, lastIndex, valuesMet, recordPlace, valuesOf, recordWay, levelsTold, levelsOf, levelsWay, LevelsFit};
+ghost use Rattle.ways.specs.Indexes.{lookedUp, entryCovers, EntryFits, ScanFits, IndexFits, ValuesFits, scanned, indexMet, lowerMet, lowered, lowestOf, indexed, lastIndex, valuesMet, recordPlace, valuesNamed, valuesOf, recordWay, levelsTold, levelsOf, levelsWay, LevelsFit};
 ghost use Rattle.records.specs.Tree.{levelsBelow};
 use crate::lists;
 use format::fields;
@@ -179,17 +179,6 @@ fn go_down(f: &[u8], r: u32, e: Entry, left: u32, levels: u32) -> Index
     }
 }
 
-// The lowest entry that covers a record, from where its top chain ends.
-fn lowest(f: &[u8], r: u32, i: Index) -> Index
-    requires { ⌜ IndexFits r i ⌝ }
-    ensures { λ q. ⌜ (q ≡ lowestOf (now (f .entry)) r i) × IndexFits r q ⌝ }
-{
-    match i {
-        Index::Covered { entry, left } => go_down(f, r, entry, left, 7),
-        Index::Halted { number } => Index::Halted { number },
-    }
-}
-
 // The VVR that an entry names can be met.
 fn values_met(f: &[u8], r: u32, e: Entry, bytes: u32, left: u32) -> bool
     requires { ⌜ EntryFits r e ⌝ }
@@ -213,19 +202,47 @@ fn record_place(r: u32, e: Entry, bytes: u32) -> u64
     e.link as u64 + 8 + before * bytes as u64
 }
 
+// The values of a record that an entry names.
+fn values_named(f: &[u8], r: u32, bytes: u32, e: Entry, left: u32) -> Values
+    requires { ⌜ EntryFits r e ⌝ }
+    ensures { λ q. ⌜ (q ≡ valuesNamed (now (f .entry)) r bytes e left) × ValuesFits q ⌝ }
+{
+    if values_met(f, r, e, bytes, left) {
+        return Values::Record(record_place(r, e, bytes));
+    }
+    Values::Refused(20)
+}
+
 // The values of a record where its index ends.
 fn values_of(f: &[u8], r: u32, bytes: u32, i: Index) -> Values
     requires { ⌜ IndexFits r i ⌝ }
     ensures { λ q. ⌜ (q ≡ valuesOf (now (f .entry)) r bytes i) × ValuesFits q ⌝ }
 {
     match i {
-        Index::Covered { entry, left } => {
-            if values_met(f, r, entry, bytes, left) {
-                Values::Record(record_place(r, entry, bytes))
-            } else {
-                Values::Refused(20)
-            }
-        }
+        Index::Covered { entry, left } => values_named(f, r, bytes, entry, left),
+        Index::Halted { number } => Values::Refused(number),
+    }
+}
+
+// The values of a record from the entry of the top chain that covers it. Most entries name values, and are the lowest themselves: they are
+// told apart before the lookup goes down.
+fn values_from(f: &[u8], r: u32, bytes: u32, e: Entry, left: u32) -> Values
+    requires { ⌜ EntryFits r e ⌝ }
+    ensures { λ q. ⌜ (q ≡ valuesOf (now (f .entry)) r bytes (lowered levelsBelow (now (f .entry)) r e left)) × ValuesFits q ⌝ }
+{
+    if !index::is_index(f, e.link) {
+        return values_named(f, r, bytes, e, left);
+    }
+    values_of(f, r, bytes, go_down(f, r, e, left, 7))
+}
+
+// The values of a record from where its top chain ends.
+fn values_below(f: &[u8], r: u32, bytes: u32, i: Index) -> Values
+    requires { ⌜ IndexFits r i ⌝ }
+    ensures { λ q. ⌜ (q ≡ valuesOf (now (f .entry)) r bytes (lowestOf (now (f .entry)) r i)) × ValuesFits q ⌝ }
+{
+    match i {
+        Index::Covered { entry, left } => values_from(f, r, bytes, entry, left),
         Index::Halted { number } => Values::Refused(number),
     }
 }
@@ -239,7 +256,7 @@ pub fn to_record(f: &[u8], v: u32, bytes: u32, r: i64, left: u32) -> Values
     match n {
         Looked::At(k) => {
             let i = seek_record(f, k, v as usize + 20, left);
-            values_of(f, k, bytes, lowest(f, k, i))
+            values_below(f, k, bytes, i)
         }
         Looked::Missing => Values::Refused(16),
     }
