@@ -3,7 +3,7 @@ use mathlib.Core.Path.{_≡_, refl, sym, ap, _∙_, subst}
 use mathlib.Core.Logic.{_≢_, _↔_, _⊎_, inl, inr}
 use mathlib.Core.Bool.{Bool, true, false, cond, _&&_, true≢false}
 use mathlib.Core.List.{List, [], _∷_}
-use Prim.Native.Nat.{ℕ, zero, suc, _+_}
+use Prim.Native.Nat.{ℕ, zero, suc, _+_, _<_}
 use native.Mathlib.Omega.{arith}
 use lib.Dec.{eqb}
 use lib.IntN.{ℤ}
@@ -159,11 +159,14 @@ pub record NoStop (c : ℕ) : Type 0 where
   pub gap : 17 ≢ c
   pub broken : 20 ≢ c
 
+no-stop : (c : ℕ) → 17 < c → 20 ≢ c → NoStop c
+no-stop c h b = record { none = λ q. omega (arith, h, q); missing = λ q. omega (arith, h, q); gap = λ q. omega (arith, h, q); broken = b }
+
 no-stop-18 : NoStop 18
-no-stop-18 = record { none = λ q. omega (arith, q); missing = λ q. omega (arith, q); gap = λ q. omega (arith, q); broken = λ q. omega (arith, q) }
+no-stop-18 = no-stop 18 (omega arith) (λ q. omega (arith, q))
 
 no-stop-22 : NoStop 22
-no-stop-22 = record { none = λ q. omega (arith, q); missing = λ q. omega (arith, q); gap = λ q. omega (arith, q); broken = λ q. omega (arith, q) }
+no-stop-22 = no-stop 22 (omega arith) (λ q. omega (arith, q))
 
 module _ (c number : ℕ) where
   found-due : (Fact : ℕ → ℕ → Type 0) (s : Way) → Stops (λ m. m ≢ c) s → ((m : ℕ) → s ≡ Stopped m → number ≡ m)

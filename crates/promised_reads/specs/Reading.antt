@@ -312,7 +312,7 @@ NoEntryNumber = (f : List ℕ) → PlainAccepts f → (b k n x : ℤ)
     → (numberOf (entryRead f b k n x) ≡ 16)
     ↔ ((attributeThere (bodyOf f) b k ≡ true) × (a : ℕ) × Met (bodyOf f) 4 (headPlace (bodyOf f) 4) (natOr 0 b) a × NoEntry (bodyOf f) a (kindAmong 5 9 k) n)
 
--- the way found a record, at o, of which a fact holds; and one through an index
+-- a fact of what a way along a list has found, at o, and of where a way through an index has found a record; none holds of a way that stopped
 abbrev pub FoundWith : (ℕ → ℕ → Type 0) → Way → Type 0
 FoundWith Fact (Found o left) = Fact o left
 FoundWith Fact (Stopped m) = ⊥
@@ -321,12 +321,13 @@ abbrev pub RecordWith : (ℕ → Type 0) → Values → Type 0
 RecordWith Fact (Record o) = Fact o
 RecordWith Fact (NoRecord m) = ⊥
 
--- the way to record r of the variable of kind k and number n found its VDR, at v, and where the record begins, at o
+-- a fact of the VDR at v, of kind k and number n, and of the offset o where its record r begins, if the way to both was found
 abbrev pub RecordFound : List ℕ → ℤ → ℤ → ℤ → (ℕ → ℕ → Type 0) → Type 0
 RecordFound f k n r Fact =
     FoundWith (λ v left. RecordWith (Fact v) (recordWay (bodyOf f) v (variableOf (bodyOf f) (kindAmong 3 8 k) v .bytes) r left)) (variableWay f k n)
 
--- of every file: 18, and 22, "the reserved operand, refused with 22", come exactly where the way was found and the element is so
+-- of every file: 18 exactly where the way was found and the question is wrong, and 22, "the reserved operand, refused with 22", exactly where it was
+-- found, the question is right and the element is a reserved operand
 pub record ElementsExact (f : List ℕ) : Type 0 where
   -- of the record that begins at o
   pub valueWrong : (k n r : ℤ) (is : List ℤ) (x : ℤ)

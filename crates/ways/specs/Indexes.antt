@@ -114,9 +114,11 @@ valuesMet f e bytes left = leb 1 left && (landsOn f 7 (e .link) && eqb (vvrRule 
 abbrev pub recordPlace : Entry → ℕ → ℕ → ℕ
 recordPlace e r bytes = e .link + 8 + (r - e .first) * bytes
 
+-- the values of record r that an entry names
 abbrev pub valuesNamed : List ℕ → ℕ → ℕ → Entry → ℕ → Values
 valuesNamed f r bytes e left = cond (valuesMet f e bytes left) (Record (recordPlace e r bytes)) (Refused 20)
 
+-- and those where its index ends
 abbrev pub valuesOf : List ℕ → ℕ → ℕ → Index → Values
 valuesOf f r bytes (Covered e left) = valuesNamed f r bytes e left
 valuesOf f r bytes (Halted v) = Refused v
