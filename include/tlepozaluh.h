@@ -2,9 +2,9 @@
  * Tlepozaluh: a checker and a reader of CDF files (single file, uncompressed, versions 2.6 and 2.7).
  *
  * The check goes step by step. The caller lends the file's bytes, a buffer of marks and a saved state, and grants as many
- * steps as it likes; the check can be stopped after any grant and taken up again later. The reader answers one question a
- * call, from the file's bytes alone; it needs no check before it. The library allocates nothing, keeps nothing between
- * calls and opens no file. Calls on different buffers may run at the same time.
+ * steps as it likes; the check can be stopped after any grant and taken up again later. Up to eight files can be checked by
+ * turns, round by round. The reader answers one question a call, from the file's bytes alone; it needs no check before it. The
+ * library allocates nothing, keeps nothing between calls and opens no file. Calls on different buffers may run at the same time.
  *
  * A file may be padded: its end is where its GDR says (eof), up to 511 bytes below its length. Bytes from the end on are not
  * judged, and marks from the end on are not written.
@@ -27,6 +27,9 @@ extern "C" {
 
 /* The longest file that is checked, in bytes; a longer one is TLZ_TOO_LONG. */
 #define TLZ_LONGEST_FILE 2147483647
+
+/* The most jobs of a round. */
+#define TLZ_MOST_JOBS 8
 
 /*
  * The numbers that come back. A finished check has one of 0 to 14, 20 or 23. A call of the reader gives 0 or one of 15 to
@@ -61,6 +64,8 @@ extern "C" {
 #define TLZ_OTHER_FILE 21          /* the file's length is not the one noted at opening, or the marks are now shorter */
 #define TLZ_RESERVED_OPERAND 22    /* reader: the reserved operand of VAX floats (exponent zero, sign set) */
 #define TLZ_TOO_DEEP 23            /* an index has more than eight levels of records */
+#define TLZ_BAD_ROUND 24           /* a round: of 0 steps, of more than TLZ_MOST_JOBS jobs, with a part outside its area, or */
+                                   /* with parts that overlap */
 
 /* The reader's 20: the file does not open, or the way to the answer breaks a rule. Never on a file that is accepted. */
 #define TLZ_BAD_WAY 20
@@ -68,7 +73,7 @@ extern "C" {
 /*
  * Pointers. No pointer is null, also where a length is 0; each is valid for its length and aligned for its type. A buffer
  * of length 0 is not read or written. All buffers are the caller's before, during and after a call. What a call may write
- * (state, marks, *steps, *where, the numbers that the reader sets) overlaps no other buffer or number of that call.
+ * (state, marks, jobs, *steps, *where, the numbers that the reader sets) overlaps no other buffer or number of that call.
  */
 
 /*
@@ -146,6 +151,47 @@ int32_t tlz_check_begin(uint32_t *state, size_t state_len);
  */
 int32_t tlz_check_grant(const uint8_t *file, size_t file_len, uint8_t *marks, size_t marks_len, uint32_t *state,
                         size_t state_len, uint64_t grant, uint64_t *steps, uint64_t *where);
+
+/*
+ * A job of a round: a check of one owner's file, as a row of a list. The owner and the parts are the caller's and never
+ * written. Begin a job with tlz_check_begin(job.state, TLZ_STATE_LEN) and an answer of TLZ_RUNNING.
+ */
+typedef struct tlz_job {
+    uint32_t owner;                /* whose file it is; never looked at */
+    int32_t answer;                /* what its last turn answered, as tlz_check_grant does; never looked at */
+    size_t file_from, file_len;    /* its part of the file area: the file's bytes */
+    size_t marks_from, marks_len;  /* its part of the marks area: the file's marks */
+    uint32_t state[TLZ_STATE_LEN]; /* its saved state */
+} tlz_job;
+
+/*
+ * A round: each unfinished job is granted q steps, in the order of the list.
+ *
+ *   files, files_len   the file area, only read: the jobs' files, each in its own part
+ *   marks, marks_len   the marks area: the jobs' marks, each in its own part
+ *   jobs, count        the list, of at most TLZ_MOST_JOBS rows; none is fine
+ *   q                  the steps of each unfinished job, 1 or more
+ *
+ * Gives:
+ *   TLZ_RUNNING        the round was made. Each row's answer and state, and the marks in its part, are what
+ *                      tlz_check_grant answers and leaves with that row's parts and state and a grant of q; a finished row
+ *                      takes its verdict again. Whether a job is finished is said by its state, not by its answer. Nothing
+ *                      else is written: no mark outside the parts, no owner, no part of a row.
+ *   TLZ_BAD_ROUND      nothing is changed: q is 0, count is above TLZ_MOST_JOBS, a part does not lie in its area, or two
+ *                      rows share a byte of the file area or of the marks area. All rows are looked at, finished ones too. A
+ *                      part of length 0 shares no byte, and lies anywhere from 0 to the area's length.
+ *
+ * With the areas, the rows and q as the last round left them, no round is refused unless the first is. Then a job's answers,
+ * states and marks hang on its own file, marks and state and on q alone, and not on its neighbours; a job begun fresh, of n
+ * bytes, is finished within (n / 4 + 1) / q rounds, rounded up; and after r rounds it stands where r * q steps of a check of
+ * its own would stand. TLZ_BAD_STATE and TLZ_OTHER_FILE are answers of a row like any other.
+ *
+ * A round tells neither steps nor places. An unfinished job has made q steps in it. The place of a finished one comes from a
+ * grant of 0 on its state, whatever file and marks are lent.
+ */
+int32_t tlz_round(const uint8_t *files, size_t files_len, uint8_t *marks, size_t marks_len, tlz_job *jobs, size_t count,
+                  uint64_t q);
+
 
 /*
  * ---- The reader
