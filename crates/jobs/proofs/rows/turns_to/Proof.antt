@@ -1,0 +1,67 @@
+use borrow.Author.Needs.{needs}
+use mathlib.Core.Path.{_≡_, refl, sym, _∙_}
+use Prim.Native.Nat.{_≤_, _-_}
+use native.Mathlib.Omega.{arith}
+use lib.ListN.{length}
+use Rattle.jobs.specs.Turns.{turned, window, turnsTo}
+use Rattle.jobs.proofs.Turning.{turns-more}
+use Rattle.jobs.proofs.rows.turns_to.Statement.{statement}
+use Rattle.jobs.proofs.rows.turns_to.Tie as tie
+
+abbrev Inv-loop : tie.InvT-loop
+Inv-loop files marks₀ n q next₀ i₀ marks next i = (i ≤ n) × ((length marks ≡ length marks₀) × (window (next .row) marks ≡ turnsTo files q (window (next₀ .row) marks₀) i))
+
+abbrev μ-loop : tie.MeasureT-loop
+μ-loop files marks₀ n q next₀ i₀ marks next i = n - i
+
+loop-holds : tie.Need-loop-holds Inv-loop μ-loop
+unfolding turnsTo
+loop-holds c = (search needs, (refl, refl))
+
+mul-j : tie.Need-mul-j Inv-loop μ-loop
+mul-j c = search needs
+
+element-copy-out-j : tie.Need-element-copy-out-j Inv-loop μ-loop
+element-copy-out-j c = search needs
+
+turn-requires : tie.Need-turn-requires Inv-loop μ-loop
+turn-requires c κs = search needs
+
+mul-t : tie.Need-mul-t Inv-loop μ-loop
+mul-t c = search needs
+
+element-set-from-t : tie.Need-element-set-from-t Inv-loop μ-loop
+element-set-from-t c = search needs
+
+add-i : tie.Need-add-i Inv-loop μ-loop
+add-i c = search needs
+
+loop-less : tie.Need-loop-less Inv-loop μ-loop
+loop-less c = search needs
+
+loop-again : tie.Need-loop-again Inv-loop μ-loop
+loop-again c = let t = c .before .before in let l = c .before .before .before .before .before .before in let s = l .before .before .before .args in (search needs, (search needs, turns-more (s .files .now) (s .q) (window (s .rows .row) (s .marks .now)) (l .loop .next .row) (l .loop .marks) (l .loop .i) (turned (t .turn .result) (t .turn .last .1 .0)) (l .loop .inv .1 .1) (t .turn .ensures)))
+
+same-length : tie.Need-same-length Inv-loop μ-loop
+same-length c = search needs
+
+returns : tie.Need-returns Inv-loop μ-loop
+returns c = let done : c .before .loop .i ≡ c .before .before .before .before .args .n = omega arith in rw done at (c .before .loop .inv .1 .1)
+
+pub turns-to-spec : {M : Type 1} → statement M
+turns-to-spec =
+    tie.close
+    (tie.spec
+    Inv-loop
+    μ-loop
+    loop-holds
+    mul-j
+    element-copy-out-j
+    turn-requires
+    mul-t
+    element-set-from-t
+    add-i
+    loop-less
+    loop-again
+    same-length
+    returns)
