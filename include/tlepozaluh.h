@@ -33,7 +33,7 @@ extern "C" {
 
 /*
  * The numbers that come back. A finished check has one of 0 to 14, 20 or 23. A call of the reader gives 0 or one of 15 to
- * 18, 20 or 22; of several refusals it gives the first in the order 20, 15, 16, 17, 18, 22.
+ * 18, 20 or 22; of several refusals it gives the first in the order 20, 15, 16, 17, 18, 22. A round gives -1 or 24.
  */
 #define TLZ_RUNNING (-1)           /* not finished: no verdict yet */
 #define TLZ_ACCEPTED 0             /* the whole file was checked and keeps every rule */
@@ -153,14 +153,14 @@ int32_t tlz_check_grant(const uint8_t *file, size_t file_len, uint8_t *marks, si
                         size_t state_len, uint64_t grant, uint64_t *steps, uint64_t *where);
 
 /*
- * A job of a round: a check of one owner's file, as a row of a list. The owner and the parts are the caller's and never
- * written. Begin a job with tlz_check_begin(job.state, TLZ_STATE_LEN) and an answer of TLZ_RUNNING.
+ * A job of a round: the check of one owner's file, as a row of a list. A round never changes the owner or the parts. Begin a
+ * job with tlz_check_begin(job.state, TLZ_STATE_LEN) and an answer of TLZ_RUNNING.
  */
 typedef struct tlz_job {
     uint32_t owner;                /* whose file it is; never looked at */
     int32_t answer;                /* what its last turn answered, as tlz_check_grant does; never looked at */
     size_t file_from, file_len;    /* its part of the file area: the file's bytes */
-    size_t marks_from, marks_len;  /* its part of the marks area: the file's marks */
+    size_t marks_from, marks_len;  /* its part of the marks area: the file's marks, at least file_len of them */
     uint32_t state[TLZ_STATE_LEN]; /* its saved state */
 } tlz_job;
 
@@ -170,28 +170,44 @@ typedef struct tlz_job {
  *   files, files_len   the file area, only read: the jobs' files, each in its own part
  *   marks, marks_len   the marks area: the jobs' marks, each in its own part
  *   jobs, count        the list, of at most TLZ_MOST_JOBS rows; none is fine
- *   q                  the steps of each unfinished job, 1 or more
+ *   q                  the steps granted to each unfinished job, 1 or more
  *
  * Gives:
- *   TLZ_RUNNING        the round was made. Each row's answer and state, and the marks in its part, are what
- *                      tlz_check_grant answers and leaves with that row's parts and state and a grant of q; a finished row
- *                      takes its verdict again. Whether a job is finished is said by its state, not by its answer. Nothing
- *                      else is written: no mark outside the parts, no owner, no part of a row.
+ *   TLZ_RUNNING        the round was made, also where every job is finished. Each row's answer and state, and the marks in
+ *                      its part, are what tlz_check_grant answers and leaves with that row's parts and state and a grant of
+ *                      q; a finished row takes its verdict again. Nothing else changes: no mark outside the parts, no
+ *                      row's owner, no row's parts.
  *   TLZ_BAD_ROUND      nothing is changed: q is 0, count is above TLZ_MOST_JOBS, a part does not lie in its area, or two
  *                      rows share a byte of the file area or of the marks area. All rows are looked at, finished ones too. A
  *                      part of length 0 shares no byte, and lies anywhere from 0 to the area's length.
  *
- * With the areas, the rows and q as the last round left them, no round is refused unless the first is. Then a job's answers,
- * states and marks hang on its own file, marks and state and on q alone, and not on its neighbours; a job begun fresh, of n
- * bytes, is finished within (n / 4 + 1) / q rounds, rounded up; and after r rounds it stands where r * q steps of a check of
- * its own would stand. TLZ_BAD_STATE and TLZ_OTHER_FILE are answers of a row like any other.
+ * After a round a job is unfinished exactly if its row's answer is TLZ_RUNNING or TLZ_OTHER_FILE; with TLZ_RUNNING it has made
+ * q steps, with TLZ_OTHER_FILE none. TLZ_BAD_STATE is an answer of a row like any other. Whether a job is finished is said by
+ * its state and not by its answer, which a round only writes.
  *
- * A round tells neither steps nor places. An unfinished job has made q steps in it. The place of a finished one comes from a
- * grant of 0 on its state, whatever file and marks are lent.
+ * If the areas, the rows and q stay as they are between rounds, no round is refused unless the first is. Then a job's answers,
+ * states and marks depend on its own file, marks and state and on q alone, and not on its neighbours; a job begun fresh, of n
+ * bytes, is finished within (n / 4 + 1) / q rounds, rounded up; and after r rounds it stands where a check of its own stands
+ * after r * q steps.
+ *
+ * A round tells neither steps nor places. The place of a refused job comes from a grant of 0 on its state, whatever file and
+ * marks are lent.
+ *
+ * A worked loop, over jobs begun fresh:
+ *
+ *     size_t open = count;
+ *
+ *     while (open > 0) {
+ *         if (tlz_round(files, files_len, marks, marks_len, jobs, count, 1000) != TLZ_RUNNING)
+ *             ... a mistake in the list: no job was stepped ...
+ *         open = 0;
+ *         for (size_t i = 0; i < count; i++)
+ *             open += jobs[i].answer == TLZ_RUNNING;
+ *         ... the morning is near: leave the loop; what is TLZ_RUNNING has no verdict ...
+ *     }
  */
 int32_t tlz_round(const uint8_t *files, size_t files_len, uint8_t *marks, size_t marks_len, tlz_job *jobs, size_t count,
                   uint64_t q);
-
 
 /*
  * ---- The reader

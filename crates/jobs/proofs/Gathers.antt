@@ -10,8 +10,8 @@ use lib.Seq.{getD-set-same, getD-set-other}
 use borrow.Author.Tests.{eqb-true, eqb-false, ltb-false}
 use Rattle.jobs.specs.declared.parts.Parts.{Parts}
 use Rattle.jobs.specs.declared.parts.Places.{Places}
-use Rattle.jobs.specs.Parts.{outside, clash, clashBefore, anyOutside, anyClash, refusedOf}
-use Rattle.jobs.specs.Gathered.{noParts, partsIn, noPlaces, withParts, gathered, fewOf}
+use Rattle.jobs.specs.Parts.{noParts, outside, clash, clashBefore, anyOutside, anyClash, refusedOf}
+use Rattle.jobs.specs.Gathered.{partsIn, noPlaces, withParts, gathered, fewOf}
 use Rattle.jobs.proofs.Tests.{any-same}
 
 pub gather-more : (p : ℕ → Parts) (i : ℕ) → withParts (gathered p i) i (p i) ≡ gathered p (i + 1)

@@ -1,3 +1,4 @@
 pub mod Tests
 pub mod Turning
 pub mod Gathers
+pub mod Areas

@@ -72,6 +72,19 @@ module _ (p r : Part) (one : p .len ≡ 0 → ⊥) (other : r .len ≡ 0 → ⊥
       rw (ne-eqb (p .len) 0 one, ne-eqb (r .len) 0 other, lt-ltb (r .from) (p .from + p .len) (omega (arith, one)), and-true)
       (same-ltb (p .from - r .from) (r .len) (p .from) (r .from + r .len) (λ h. omega arith) (λ h. omega arith))
 
+and-swap : (x y : Bool) → x && y ≡ y && x
+and-swap true true = refl
+and-swap true false = refl
+and-swap false true = refl
+and-swap false false = refl
+
+pub overlap-swap : (p r : Part) → overlap p r ≡ overlap r p
+unfolding overlap
+overlap-swap p r =
+    let a = and-swap (not (eqb (p .len) 0)) (not (eqb (r .len) 0)) in
+    let b = and-swap (ltb (p .from) (r .from + r .len)) (ltb (r .from) (p .from + p .len)) in
+    rw (a, b)
+
 -- ---- some number below n
 or-true : (x : Bool) → x || true ≡ true
 or-true true = refl
@@ -114,6 +127,9 @@ module _ (p : ℕ → Parts) (n files marks q : ℕ) (runs : refusedOf p n files
       let a = neither (eqb q 0) (ltb 8 n || (anyOutside p n files marks || anyClash p n)) runs in
       let b = neither (ltb 8 n) (anyOutside p n files marks || anyClash p n) (a .1) in
       (a .0, (b .0, neither (anyOutside p n files marks) (anyClash p n) (b .1)))
+
+  pub runs-some : 0 < q
+  runs-some = let e = eqb-false q 0 (all .0) in omega (arith, e)
 
   pub runs-few : n ≤ 8
   runs-few = ltb-false 8 n (all .1 .0)

@@ -6,9 +6,7 @@ use lib.ListN.{getD, set, replicate}
 use lib.Dec.{ltb}
 use Rattle.jobs.specs.declared.parts.Parts.{Parts}
 use Rattle.jobs.specs.declared.parts.Places.{Places}
-
-abbrev pub noParts : Parts
-noParts = record { file = record { from = 0; len = 0 }; marks = record { from = 0; len = 0 } }
+use Rattle.jobs.specs.Parts.{noParts}
 
 -- the parts at a place of the array
 abbrev pub partsIn : List Parts → ℕ → Parts

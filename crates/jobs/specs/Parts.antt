@@ -1,6 +1,6 @@
 -- The parts of the two areas that are a job's own, and when a round is refused (request #105). Assumes nothing.
 use Prim.Native.Nat.{ℕ, zero, suc, _+_}
-use mathlib.Core.Bool.{Bool, true, false, not, _&&_, _||_}
+use mathlib.Core.Bool.{Bool, false, not, _&&_, _||_}
 use mathlib.Core.List.{List, _++_}
 use lib.ListN.{take, drop}
 use lib.Dec.{leb, ltb, eqb}
@@ -11,8 +11,12 @@ use Rattle.jobs.specs.declared.parts.Parts.{Parts}
 abbrev pub partOf : Part → List ℕ → List ℕ
 partOf p s = take (p .len) (drop (p .from) s)
 
-abbrev pub placed : Part → List ℕ → List ℕ → List ℕ
-placed p s ys = take (p .from) s ++ (ys ++ drop (p .len) (drop (p .from) s))
+abbrev pub withPart : Part → List ℕ → List ℕ → List ℕ
+withPart p s ys = take (p .from) s ++ (ys ++ drop (p .len) (drop (p .from) s))
+
+-- empty parts at the areas' beginnings
+abbrev pub noParts : Parts
+noParts = record { file = record { from = 0; len = 0 }; marks = record { from = 0; len = 0 } }
 
 -- a part lies in an area of length n; one of length 0 lies anywhere from 0 to n
 unfoldable pub inside : Part → ℕ → Bool

@@ -7,30 +7,27 @@ use lib.IntN.{ℤ, pos, negsuc}
 use Rattle.jobs.specs.declared.parts.Parts.{Parts}
 use Rattle.jobs.specs.declared.turns.Job.{Job}
 use Rattle.checker.specs.Grant.{Granted, grantOf}
-use Rattle.jobs.specs.Parts.{partOf, placed, outside, refusedOf}
+use Rattle.jobs.specs.Parts.{partOf, withPart, noParts, refusedOf}
 
 -- "each row takes its grant's answer", and the state that its grant leaves; owner and parts stay
-abbrev pub answered : Job → Granted → Job
-answered j g = record { owner = j .owner; answer = g .answer; parts = j .parts; state = g .state }
+abbrev pub rowAfter : Job → Granted → Job
+rowAfter j g = record { owner = j .owner; answer = g .answer; parts = j .parts; state = g .state }
 
 -- a row and the marks area
-pub record Turned : Type 0 where
+pub record JobTurned : Type 0 where
   pub row : Job
   pub marks : List ℕ
 
-abbrev pub turned : Job → List ℕ → Turned
-turned j m = record { row = j; marks = m }
+abbrev pub jobTurned : Job → List ℕ → JobTurned
+jobTurned j m = record { row = j; marks = m }
 
 -- "a grant of the same q steps" over the job's own parts of the file area f and of the marks area m
 abbrev pub grantedTo : List ℕ → List ℕ → Job → ℕ → Granted
 grantedTo f m j q = grantOf (partOf (j .parts .file) f) (partOf (j .parts .marks) m) (j .state) q
 
--- a job's turn: a grant, which on a finished state repeats the verdict: "a finished one its verdict". A row with a part outside its
--- area is left alone; in a round that is not refused there is none
-unfoldable pub turnOf : List ℕ → List ℕ → Job → ℕ → Turned
-turnOf f m j q =
-    let g = grantedTo f m j q in
-    cond (outside (j .parts) (length f) (length m)) (turned j m) (turned (answered j g) (placed (j .parts .marks) m (g .marks)))
+-- a job's turn: a grant, which on a finished state repeats the verdict: "a finished one its verdict"
+unfoldable pub jobTurn : List ℕ → List ℕ → Job → ℕ → JobTurned
+jobTurn f m j q = let g = grantedTo f m j q in jobTurned (rowAfter j g) (withPart (j .parts .marks) m (g .marks))
 
 -- "Up to eight jobs share a window": the rows of the list, and the marks area
 pub record Window : Type 0 where
@@ -40,9 +37,9 @@ pub record Window : Type 0 where
 abbrev pub window : List Job → List ℕ → Window
 window js m = record { rows = js; marks = m }
 
--- the row at a place of the list; past its end one of zeros
+-- the row at a place of the list; past its end an empty one
 abbrev pub noRow : Job
-noRow = record { owner = 0; answer = pos 0; parts = record { file = record { from = 0; len = 0 }; marks = record { from = 0; len = 0 } }; state = [] }
+noRow = record { owner = 0; answer = pos 0; parts = noParts; state = [] }
 
 abbrev pub rowAt : List Job → ℕ → Job
 rowAt js i = getD js i noRow
@@ -52,22 +49,22 @@ partsAt js i = rowAt js i .parts
 
 -- job i's turn, and the turns of the first n jobs, "in list order"
 abbrev pub turnAt : List ℕ → ℕ → Window → ℕ → Window
-turnAt f q w i = let t = turnOf f (w .marks) (rowAt (w .rows) i) q in window (set (w .rows) i (t .row)) (t .marks)
+turnAt f q w i = let t = jobTurn f (w .marks) (rowAt (w .rows) i) q in window (set (w .rows) i (t .row)) (t .marks)
 
 unfoldable pub turnsTo : List ℕ → ℕ → Window → ℕ → Window
 turnsTo f q w zero = w
 turnsTo f q w (suc n) = turnAt f q (turnsTo f q w n) n
 
 -- what a round gives back: its answer and the window
-pub record Round : Type 0 where
+pub record Rounded : Type 0 where
   pub answer : ℤ
   pub window : Window
 
-abbrev pub rounded : ℤ → Window → Round
+abbrev pub rounded : ℤ → Window → Rounded
 rounded a w = record { answer = a; window = w }
 
 -- A ROUND over the first n rows: "refused with 24, nothing changed"; or "every unfinished job a grant of the same q steps, in list order, and
 -- answers -1"
-unfoldable pub roundOf : List ℕ → Window → ℕ → ℕ → Round
+unfoldable pub roundOf : List ℕ → Window → ℕ → ℕ → Rounded
 roundOf f w n q =
     cond (refusedOf (partsAt (w .rows)) n (length f) (length (w .marks)) q) (rounded (pos 24) w) (rounded (negsuc 0) (turnsTo f q w n))

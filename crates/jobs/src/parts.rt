@@ -34,7 +34,7 @@ fn is_inside(p: Part, area: usize) -> bool
 }
 
 // A job's part does not lie in its area.
-pub fn is_outside(p: Parts, files: usize, marks: usize) -> bool
+fn is_outside(p: Parts, files: usize, marks: usize) -> bool
     ensures { λ r. ⌜ r ≡ outside p files marks ⌝ }
 {
     if is_inside(p.file, files) {

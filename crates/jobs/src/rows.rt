@@ -1,6 +1,9 @@
 // A round over at most eight rows, by value.
 ghost use mathlib.Core.Path.{_≡_};
 ghost use Prim.Native.Nat.{_<_, _≤_};
+ghost use lib.ListN.{length};
+ghost use mathlib.Core.Bool.{false};
+ghost use Rattle.jobs.specs.Parts.{anyOutside};
 ghost use Rattle.jobs.specs.Gathered.{gathered, withParts};
 ghost use Rattle.jobs.specs.Turns.{partsAt, window, turnsTo, rounded, roundOf};
 use crate::parts;
@@ -47,7 +50,7 @@ fn places_of(rows: Rows, n: usize) -> Places
 
 // The turns of the first n rows, in order.
 fn turns_to(files: &[u8], marks: &mut [u8], rows: Rows, n: usize, q: u64) -> Rows
-    requires { ⌜ n ≤ 8 ⌝ }
+    requires { ⌜ (n ≤ 8) × (anyOutside (partsAt (rows .row)) n (length (now files)) (length (now marks)) ≡ false) ⌝ }
     ensures { λ r. ⌜ window (r .row) (now (marks .exit)) ≡ turnsTo (now (files .entry)) q (window (rows .row) (now (marks .entry))) n ⌝ }
 {
     let mut next = rows;

@@ -2,8 +2,7 @@
 ghost use mathlib.Core.Path.{_≡_};
 ghost use Prim.Native.Nat.{_+_, _≤_};
 ghost use lib.ListN.{length};
-ghost use Rattle.jobs.specs.Turns.{turned, turnOf};
-use crate::parts;
+ghost use Rattle.jobs.specs.Turns.{jobTurned, jobTurn};
 use crate::parts::Parts;
 use checker::grants;
 
@@ -16,10 +15,11 @@ pub struct Job {
     pub state: [u32; 34],
 }
 
-// The row after a grant over its parts.
-fn granted_row(files: &[u8], marks: &mut [u8], j: Job, q: u64) -> Job
-    requires { ⌜ (j .parts .file .from + j .parts .file .len ≤ length (now files)) × (j .parts .marks .from + j .parts .marks .len ≤ length (now marks)) ⌝ }
-    ensures { λ r. ⌜ turned r (now (marks .exit)) ≡ turnOf (now (files .entry)) (now (marks .entry)) j q ⌝ }
+// The row after its turn: a grant of q steps over its parts.
+pub fn turn(files: &[u8], marks: &mut [u8], j: Job, q: u64) -> Job
+    requires { ⌜ (j .parts .file .from + j .parts .file .len ≤ length (now files))
+        × (j .parts .marks .from + j .parts .marks .len ≤ length (now marks)) ⌝ }
+    ensures { λ r. ⌜ jobTurned r (now (marks .exit)) ≡ jobTurn (now (files .entry)) (now (marks .entry)) j q ⌝ }
 {
     let a = j.parts.file.from;
     let e = a + j.parts.file.len;
@@ -40,14 +40,4 @@ fn granted_row(files: &[u8], marks: &mut [u8], j: Job, q: u64) -> Job
     next.answer = r;
     next.state = s;
     next
-}
-
-// The row after its turn. One with a part outside its area is left alone.
-pub fn turn(files: &[u8], marks: &mut [u8], j: Job, q: u64) -> Job
-    ensures { λ r. ⌜ turned r (now (marks .exit)) ≡ turnOf (now (files .entry)) (now (marks .entry)) j q ⌝ }
-{
-    if parts::is_outside(j.parts, files.len(), marks.len()) {
-        return j;
-    }
-    granted_row(files, marks, j, q)
 }

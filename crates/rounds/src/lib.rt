@@ -2,6 +2,8 @@
 ghost use mathlib.Core.Path.{_≡_};
 ghost use Prim.Native.Nat.{_≤_};
 ghost use lib.ListN.{length};
+ghost use mathlib.Core.Bool.{false};
+ghost use Rattle.jobs.specs.Parts.{anyOutside};
 ghost use Rattle.jobs.specs.Turns.{partsAt, window, turnsTo, rounded, roundOf};
 ghost use Rattle.jobs.specs.Gathered.{gathered};
 use jobs::parts;
@@ -27,6 +29,7 @@ fn places_in(list: &[Job], n: usize) -> Places
 
 // The turns of all rows, in order.
 fn turns_in(files: &[u8], marks: &mut [u8], list: &mut [Job], q: u64)
+    requires { ⌜ anyOutside (partsAt (now list)) (length (now list)) (length (now files)) (length (now marks)) ≡ false ⌝ }
     ensures { λ _. ⌜ window (now (list .exit)) (now (marks .exit))
         ≡ turnsTo (now (files .entry)) q (window (now (list .entry)) (now (marks .entry))) (length (now (list .entry))) ⌝ }
 {

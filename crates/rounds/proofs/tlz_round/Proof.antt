@@ -47,10 +47,11 @@ use denote.Triple.Walked.{says, Stays, stay-slice, stay-none, stay-none-slice, w
 use denote.Exit.{yes}
 use Rattle.jobs.specs.declared.turns.Job.{Job}
 use Rattle.jobs.specs.declared.parts.Places.{Places}
-use Rattle.jobs.specs.Parts.{refusedOf}
+use Rattle.jobs.specs.Parts.{anyOutside, refusedOf}
 use Rattle.jobs.specs.Turns.{partsAt, window, turnsTo, rounded, roundOf}
 use Rattle.jobs.specs.Gathered.{partsIn, fewOf, gathered}
 use Rattle.jobs.proofs.Gathers.{few-low, tested}
+use Rattle.jobs.proofs.Tests.{runs-inside}
 use Rattle.jobs.proofs.Turning.{round-stops, round-goes}
 use Rattle.jobs.proofs.turns.Job as T
 use Rattle.jobs.proofs.parts.Places as S
@@ -209,14 +210,14 @@ module _ {M : Type 1} (𝓤 : URA M) (H : Heap 𝓤) (A : Atoms 𝓤) (W : Given
   abbrev to-turns : ℕ → GName → ℕ → GName → TurnsIn 𝓤 H A mem run .Ghost
   to-turns ν δ μ ε = (((κf, (ν ∷ [], (μ ∷ [], tt))), (qf, (fullShare, (fullShare, tt))), tt, (xf, (xm δ ms, (xl ε ys, (q, tt)))), (sf ∷ [], (sm (length ms) ∷ [], (sl ∷ [], (vint w64 q ∷ [], tt))))), tt)
 
-  goes-turns : (ν : ℕ) (δ : GName) (μ : ℕ) (ε : GName) → ent 𝓤 (sep 𝓤 (sep 𝓤 (A .lft κf qf) (sep 𝓤 (A .lft (ν ∷ []) fullShare) (A .lft (μ ∷ []) fullShare)))
+  goes-turns : (ν : ℕ) (δ : GName) (μ : ℕ) (ε : GName) → anyOutside (partsAt ys) (length ys) (length fs) (length ms) ≡ false → ent 𝓤 (sep 𝓤 (sep 𝓤 (A .lft κf qf) (sep 𝓤 (A .lft (ν ∷ []) fullShare) (A .lft (μ ∷ []) fullShare)))
       (sep 𝓤 (sep 𝓤 (sem 𝓤 H A OwnF) (sem 𝓤 H A (MutSlice (named 1) (ν ∷ []) u8 .own (xm δ ms) (sm (length ms) ∷ [])))) (sem 𝓤 H A (MutSlice (named 2) (μ ∷ []) T.the-row .own (xl ε ys) (sl ∷ []))))) (TurnsIn 𝓤 H A mem run .pre (to-turns ν δ μ ε))
-  goes-turns ν δ μ ε =
+  goes-turns ν δ μ ε none =
       qed W ((‵ (flft κf qf) ⊛ (‵ (flft (ν ∷ []) fullShare) ⊛ ‵ (flft (μ ∷ []) fullShare))) ∷ (‵ OwnF ⊛ ‵ (MutSlice (named 1) (ν ∷ []) u8 .own (xm δ ms) (sm (length ms) ∷ []))) ∷ ‵ (MutSlice (named 2) (μ ∷ []) T.the-row .own (xl ε ys) (sl ∷ [])) ∷ []) ∵
-      split ! $ move ! (1 ∷ []) $ split ! $ nothing ! $ move ! (2 ∷ 0 ∷ []) $ join ! $ move ! (1 ∷ 0 ∷ []) $ join ! $ move ! (1 ∷ 0 ∷ []) $ join ! $
+      says ! none $ split ! $ move ! (1 ∷ []) $ split ! $ nothing ! $ move ! (2 ∷ 0 ∷ []) $ join ! $ move ! (1 ∷ 0 ∷ []) $ join ! $ move ! (1 ∷ 0 ∷ []) $ join ! $
       -- [the tokens; the file and the marks; the list]
       move ! (1 ∷ []) $ split ! $ nothing ! $ owned ! u64 (Is u64) (uint-makes 𝓤 H A W w64) q _ (refl, q-fits) $ fjoin ! $ move ! (4 ∷ 0 ∷ []) $ fjoin ! $ move ! (2 ∷ 0 ∷ []) $ fjoin ! $ move ! (1 ∷ 0 ∷ []) $ fjoin ! $
-      move ! (1 ∷ 0 ∷ []) $ join ! $ frame ! $ done !
+      move ! (1 ∷ 0 ∷ []) $ done !
 
   module _ (𝓣 : Tables 𝓤 H) (known-turns : Triple 𝓤 (𝓣 .C #rounds·turns-in) (TurnsIn 𝓤 H A mem run)) (l₀ l₁ l₂ l₃ l₄ l₅ l₆ l₇ l₈ l₉ l₁₀ l₁₁ l₁₂ l₁₃ l₁₄ l₁₅ l₁₆ : ℕ) where
     abbrev C : Calls 𝓤 H
@@ -257,7 +258,7 @@ module _ {M : Type 1} (𝓤 : URA M) (H : Heap 𝓤) (A : Atoms 𝓤) (W : Given
         use2 W (later (some (λ (ε : GName). ‵ (MutSlice (named 2) (μ ∷ []) T.the-row .own (xl ε ys) (sl ∷ [])) ⊛ ‵ (Kept T.the-row κl (μ ∷ []) ql γ b o ε ys)))) (lends-again T.the-row κl (μ ∷ []) ql γ b o 𝓤 H A W (named 2) (named 2) ys) $ await ! tt $ pick ! (λ ε. split ! $
         -- [the list lent; what is kept of it; μ; the marks lent; what is kept of them; ν; the file; its token; _16; …]
         move ! (6 ∷ []) $ use1 W (‵ OwnF ⊛ ‵ OwnF) (shr-slice-copy 𝓤 H A W (named 0) κf u8 .twice xf (sf ∷ [])) $ split ! $
-        move ! (7 ∷ 4 ∷ []) $ join ! $ move ! (7 ∷ 0 ∷ []) $ join ! $ move ! (1 ∷ 5 ∷ []) $ join ! $ move ! (1 ∷ 0 ∷ 3 ∷ []) $ use3 W (raw (TurnsIn 𝓤 H A mem run .pre (to-turns ν δ μ ε))) (goes-turns ν δ μ ε) $
+        move ! (7 ∷ 4 ∷ []) $ join ! $ move ! (7 ∷ 0 ∷ []) $ join ! $ move ! (1 ∷ 5 ∷ []) $ join ! $ move ! (1 ∷ 0 ∷ 3 ∷ []) $ use3 W (raw (TurnsIn 𝓤 H A mem run .pre (to-turns ν δ μ ε))) (goes-turns ν δ μ ε (runs-inside (partsAt ys) (length ys) (length fs) (length ms) q (sym e ∙ is-false y h))) $
         calls-at ! (fmOf 𝓤 H (W .laws) 𝓣) (TurnsIn 𝓤 H A mem run) known-turns (to-turns ν δ μ ε) (and-then ! (load ! (from ! (stop !)) (look ! 34 refl)) (and-then ! (load ! (from ! (stop !)) (look ! 8 refl)) (and-then ! (load ! (from ! (stop !)) (look ! 4 refl)) (and-then ! (load ! (from ! (stop !)) (look ! 28 refl)) (no-more !))))) (λ w.
         use1 W (later (some (λ (r : Unit {0}). ((‵ (flft κf qf) ⊛ ‵ (flft (ν ∷ []) fullShare) ⊛ ‵ (flft (μ ∷ []) fullShare) ⊛ ‵ ftrue) ⊛ ‵ (unit .own r (w ∷ []))) ⊛ raw (ensured 𝓤 H A turns-in.ended (turns-in.clauses 𝓤 H A mem run) (κf, (ν ∷ [], (μ ∷ [], tt))) (xf, (xm δ ms, (xl ε ys, (q, tt)))) tt r)))) (id⊢ 𝓤 _) $ await ! tt $ pick ! (λ r.
         split ! $ move ! (1 ∷ []) $ use1 W (some (λ (zs : Unit {0} × (List ℕ × (List Job × (Unit {0} × Unit {0})))). ‵ (lasts turns-in.ended (κf, (ν ∷ [], (μ ∷ [], tt))) (xf, (xm δ ms, (xl ε ys, (q, tt)))) zs) ⊛ raw (fact 𝓤 (window (zs .1 .1 .0) (zs .1 .0) ≡ turnsTo fs q (window ys ms) (length ys))))) (id⊢ 𝓤 _) $ pick ! (λ zs.

@@ -47,11 +47,12 @@ use denote.Triple.Statement.{Contract, Triple}
 use denote.Triple.Call.{calls-at}
 use denote.Triple.Clauses.{ensured, lasts}
 use denote.Triple.Table.{entered, cited}
-use denote.Triple.Walked.{says, Stays, stay-slice, stay-none, stay-none-slice, walkOf, goes-slice, goes-none, goes-none-slice, Walks, ends-at, walked, walk-meets}
+use denote.Triple.Walked.{says, needs, Stays, stay-slice, stay-none, stay-none-slice, walkOf, goes-slice, goes-none, goes-none-slice, Walks, ends-at, walked, walk-meets}
 use denote.Exit.{yes}
 use Rattle.jobs.specs.declared.turns.Job.{Job}
-use Rattle.jobs.specs.Turns.{noRow, rowAt, turned, turnOf, window, turnsTo}
-use Rattle.jobs.proofs.Turning.{turns-more}
+use Rattle.jobs.specs.Parts.{anyOutside}
+use Rattle.jobs.specs.Turns.{noRow, rowAt, partsAt, jobTurned, jobTurn, window, turnsTo}
+use Rattle.jobs.proofs.Turning.{turns-more, turn-fits}
 use Rattle.jobs.proofs.turns.Job as T
 use Rattle.jobs.proofs.turns.Job.Laws as T′
 use Rattle.jobs.proofs.turns.turn as turn
@@ -102,7 +103,7 @@ record Point (f : List ℕ) (q : ℕ) (ys : List Job) (ms : List ℕ) : Type 0 w
 
 module _ {M : Type 1} (𝓤 : URA M) (H : Heap 𝓤) (A : Atoms 𝓤) (W : Given 𝓤 H A) (mem : Memory → SProp 𝓤) (run : Routine → Fun 𝓤)
     (κf κm κl : Lft) (qf qm ql : Share) (bf of : ℕ) (γf : GName) (fs : List ℕ) (bm om : ℕ) (γm : GName) (ms : List ℕ) (b o : ℕ) (γ : GName) (ys : List Job) (q : ℕ)
-    (roomf : Room u8 (length fs)) (roomm : Room u8 (length ms)) (room : Room T.the-row (length ys)) (q-fits : q < 2 ^ 64) where
+    (roomf : Room u8 (length fs)) (roomm : Room u8 (length ms)) (room : Room T.the-row (length ys)) (q-fits : q < 2 ^ 64) (none : anyOutside (partsAt ys) (length ys) (length fs) (length ms) ≡ false) where
   abbrev xf : RefT (List ℕ)
   xf = record { ptr = (bf, of); name = γf; now = fs }
 
@@ -162,14 +163,16 @@ module _ {M : Type 1} (𝓤 : URA M) (H : Heap 𝓤) (A : Atoms 𝓤) (W : Given
   abbrev to-turn : List ℕ → Job → ℕ → GName → Turn 𝓤 H A mem run .Ghost
   to-turn m j ν δ = (((κf, (ν ∷ [], tt)), (qf, (fullShare, tt)), tt, (xf, (xm δ m, (j, (q, tt)))), (sf ∷ [], (sm (length m) ∷ [], (mv j ∷ [], (vint w64 q ∷ [], tt))))), tt)
 
-  goes : (m : List ℕ) (j : Job) (ν : ℕ) (δ : GName) → Is T.the-row j (mv j ∷ [])
+  goes : (m : List ℕ) (j : Job) (ν : ℕ) (δ : GName)
+      → (j .parts .file .from + j .parts .file .len ≤ length fs) × (j .parts .marks .from + j .parts .marks .len ≤ length m)
+      → Is T.the-row j (mv j ∷ [])
       → ent 𝓤 (sep 𝓤 (sep 𝓤 (A .lft (ν ∷ []) fullShare) (A .lft κf qf)) (sep 𝓤 (sem 𝓤 H A OwnF) (sem 𝓤 H A (MutSlice (named 1) (ν ∷ []) u8 .own (xm δ m) (sm (length m) ∷ []))))) (Turn 𝓤 H A mem run .pre (to-turn m j ν δ))
-  goes m j ν δ g =
-      qed W ((‵ (flft (ν ∷ []) fullShare) ⊛ ‵ (flft κf qf)) ∷ ‵ OwnF ∷ ‵ (MutSlice (named 1) (ν ∷ []) u8 .own (xm δ m) (sm (length m) ∷ [])) ∷ []) ∵ split ! $
+  goes m j ν δ fits g =
+      qed W ((‵ (flft (ν ∷ []) fullShare) ⊛ ‵ (flft κf qf)) ∷ ‵ OwnF ∷ ‵ (MutSlice (named 1) (ν ∷ []) u8 .own (xm δ m) (sm (length m) ∷ [])) ∷ []) ∵ says ! fits $ split ! $
       nothing ! $ move ! (1 ∷ 0 ∷ []) $ join ! $ move ! (1 ∷ 0 ∷ []) $ join ! $
       -- [the tokens; the file; the marks]
       move ! (1 ∷ []) $ nothing ! $ owned ! u64 (Is u64) (uint-makes 𝓤 H A W w64) q _ (refl, q-fits) $ fjoin ! $
-      owned ! T.the-row (Is T.the-row) (LL.makes T.the-type T′.the-plain 𝓤 H A) j _ g $ fjoin ! $ move ! (3 ∷ 0 ∷ []) $ fjoin ! $ move ! (1 ∷ 0 ∷ []) $ fjoin ! $ move ! (1 ∷ 0 ∷ []) $ join ! $ frame ! $ done !
+      owned ! T.the-row (Is T.the-row) (LL.makes T.the-type T′.the-plain 𝓤 H A) j _ g $ fjoin ! $ move ! (3 ∷ 0 ∷ []) $ fjoin ! $ move ! (1 ∷ 0 ∷ []) $ fjoin ! $ move ! (1 ∷ 0 ∷ []) $ done !
 
   abbrev Nearer : P → P → Type 0
   Nearer s t = length ys - s .i < length ys - t .i
@@ -246,11 +249,11 @@ module _ {M : Type 1} (𝓤 : URA M) (H : Heap 𝓤) (A : Atoms 𝓤) (W : Given
         use2 W (later (some (λ (δ : GName). ‵ (MutSlice (named 1) (ν ∷ []) u8 .own (xm δ (t .m)) (sm (length (t .m)) ∷ [])) ⊛ ‵ (Kept u8 κm (ν ∷ []) qm γm bm om δ (t .m))))) (lends-again u8 κm (ν ∷ []) qm γm bm om 𝓤 H A W (named 1) (named 1) (t .m)) $ await ! tt $ pick ! (λ δ. split ! $
         -- [the marks lent; what is kept of them; ν; list[i]; what it owns; the others; the open borrow; obs; auth; the file; its token; _13; …]
         move ! (9 ∷ []) $ use1 W (‵ OwnF ⊛ ‵ OwnF) (shr-slice-copy 𝓤 H A W (named 0) κf u8 .twice xf (sf ∷ [])) $ split ! $
-        move ! (4 ∷ 11 ∷ []) $ join ! $ move ! (0 ∷ 1 ∷ 3 ∷ []) $ use3 W (raw (Turn 𝓤 H A mem run .pre (to-turn (t .m) j ν δ))) (goes (t .m) j ν δ g) $
+        move ! (4 ∷ 11 ∷ []) $ join ! $ move ! (0 ∷ 1 ∷ 3 ∷ []) $ use3 W (raw (Turn 𝓤 H A mem run .pre (to-turn (t .m) j ν δ))) (goes (t .m) j ν δ fits g) $
         calls-at ! (fmOf 𝓤 H (W .laws) 𝓣) (Turn 𝓤 H A mem run) known (to-turn (t .m) j ν δ) (and-then ! (load ! (from ! (stop !)) (look ! 33 refl)) (and-then ! (load ! (from ! (stop !)) (look ! 11 refl)) (and-then ! (load ! (from ! (stop !)) (look ! 23 refl)) (and-then ! (load ! (from ! (stop !)) (look ! 27 refl)) (no-more !))))) (λ w.
         use1 W (later (some (λ (r : Job). ((‵ (flft κf qf) ⊛ ‵ (flft (ν ∷ []) fullShare) ⊛ ‵ ftrue) ⊛ ‵ (T.the-row .own r (w ∷ []))) ⊛ raw (ensured 𝓤 H A turn.ended (turn.clauses 𝓤 H A mem run) (κf, (ν ∷ [], tt)) (xf, (xm δ (t .m), (j, (q, tt)))) tt r)))) (id⊢ 𝓤 _) $ await ! tt $ pick ! (λ r.
-        split ! $ move ! (1 ∷ []) $ use1 W (some (λ (zs : Unit {0} × (List ℕ × (Unit {0} × (Unit {0} × Unit {0})))). ‵ (lasts turn.ended (κf, (ν ∷ [], tt)) (xf, (xm δ (t .m), (j, (q, tt)))) zs) ⊛ raw (fact 𝓤 (turned r (zs .1 .0) ≡ turnOf fs (t .m) j q)))) (id⊢ 𝓤 _) $ pick ! (λ zs.
-        split ! $ move ! (1 ∷ []) $ heard ! (turned r (zs .1 .0) ≡ turnOf fs (t .m) j q) (λ e.
+        split ! $ move ! (1 ∷ []) $ use1 W (some (λ (zs : Unit {0} × (List ℕ × (Unit {0} × (Unit {0} × Unit {0})))). ‵ (lasts turn.ended (κf, (ν ∷ [], tt)) (xf, (xm δ (t .m), (j, (q, tt)))) zs) ⊛ raw (fact 𝓤 (jobTurned r (zs .1 .0) ≡ jobTurn fs (t .m) j q)))) (id⊢ 𝓤 _) $ pick ! (λ zs.
+        split ! $ move ! (1 ∷ []) $ heard ! (jobTurned r (zs .1 .0) ≡ jobTurn fs (t .m) j q) (λ e.
         fsplit ! $ move ! (1 ∷ []) $ fsplit ! $ fsplit ! $ move ! (1 ∷ []) $ feqL ! (λ l.
         -- [the marks' last list; …; …; the tokens and the row; the file; what is kept of the marks; list[i]; …]
         move ! (3 ∷ []) $ split ! $ move ! (1 ∷ []) $ peeks ! T.the-row (Is T.the-row) (shows 𝓤 H A T.the-row) r (w ∷ []) (λ is.
@@ -277,6 +280,9 @@ module _ {M : Type 1} (𝓤 : URA M) (H : Heap 𝓤) (A : Atoms 𝓤) (W : Given
         small : t .i < length ys
         small = ltb-true (t .i) (length ys) less
 
+        fits : (j .parts .file .from + j .parts .file .len ≤ length fs) × (j .parts .marks .from + j .parts .marks .len ≤ length (t .m))
+        fits = turn-fits fs q (window ys ms) (length ys) none (t .js) (t .m) (t .i) small (t .is) (t .same)
+
         within : t .i < length (t .js)
         within = subst (λ (k : ℕ). t .i < k) (sym (t .rows)) small
 
@@ -286,7 +292,7 @@ module _ {M : Type 1} (𝓤 : URA M) (H : Heap 𝓤) (A : Atoms 𝓤) (W : Given
         nf : t .i + 1 < 2 ^ 64
         nf = next-fits (t .i) (length ys) small (room .0)
 
-        next : (r : Job) (m : List ℕ) → length m ≡ length (t .m) → turned r m ≡ turnOf fs (t .m) (rowAt (t .js) (t .i)) q → P
+        next : (r : Job) (m : List ℕ) → length m ≡ length (t .m) → jobTurned r m ≡ jobTurn fs (t .m) (rowAt (t .js) (t .i)) q → P
         next r m l e = record {
           i = t .i + 1;
           js = set (t .js) (t .i) r;
@@ -294,7 +300,7 @@ module _ {M : Type 1} (𝓤 : URA M) (H : Heap 𝓤) (A : Atoms 𝓤) (W : Given
           low = one-below (t .i) (length ys) small;
           rows = length-set (t .js) (t .i) r ∙ t .rows;
           same = l ∙ t .same;
-          is = turns-more fs q (window ys ms) (t .js) (t .m) (t .i) (turned r m) (t .is) e;
+          is = turns-more fs q (window ys ms) (t .js) (t .m) (t .i) (jobTurned r m) (t .is) e;
         }
 
     turns-by : (t : P) (y : Bool) → ltb (t .i) (length ys) ≡ y → Sq W (At t) (runs C Λ En body.turn-1 (anyQ (Turned t)))
@@ -330,9 +336,9 @@ module _ {M : Type 1} (𝓤 : URA M) (H : Heap 𝓤) (A : Atoms 𝓤) (W : Given
   turns-in-walks : Walks 𝓤 H A f.ended stayed (WpFn 𝓤 H (𝓣 .C) (𝓣 .Λ) code.function) (f.clauses 𝓤 H A mem run)
   turns-in-walks = walked 𝓤 H A f.ended stayed (f.clauses 𝓤 H A mem run) (WpFn 𝓤 H (𝓣 .C) (𝓣 .Λ) code.function)
       (λ κs. (slice-vals, (slice-vals, (slice-vals, (uint-vals w64, tt))))) (λ κs. (shr-slice-tells (named 0) (κs .0) u8, (mut-slice-tells (named 1) (κs .1 .0) u8, (mut-slice-tells (named 2) (κs .1 .1 .0) T.the-row, (uint-tells w64, tt)))))
-      (λ κs qs bounds a g are. via 𝓤 _ (fst∗ 𝓤 _ (emp 𝓤))
-      (walk 𝓤 H A W mem run (κs .0) (κs .1 .0) (κs .1 .1 .0) (qs .0) (qs .1 .0) (qs .1 .1 .0) (a .0 .ptr .0) (a .0 .ptr .1) (a .0 .name) (a .0 .now) (a .1 .0 .ptr .0) (a .1 .0 .ptr .1) (a .1 .0 .name) (a .1 .0 .now)
-      (a .1 .1 .0 .ptr .0) (a .1 .1 .0 .ptr .1) (a .1 .1 .0 .name) (a .1 .1 .0 .now) (a .1 .1 .1 .0) (are .0 .0 .1) (are .1 .0 .0 .1) (are .1 .1 .0 .0 .1) (are .1 .1 .1 .0 .1) 𝓣 known))
+      (λ κs qs bounds a g are. needs 𝓤 (anyOutside (partsAt (a .1 .1 .0 .now)) (length (a .1 .1 .0 .now)) (length (a .0 .now)) (length (a .1 .0 .now)) ≡ false) _ (λ none.
+      walk 𝓤 H A W mem run (κs .0) (κs .1 .0) (κs .1 .1 .0) (qs .0) (qs .1 .0) (qs .1 .1 .0) (a .0 .ptr .0) (a .0 .ptr .1) (a .0 .name) (a .0 .now) (a .1 .0 .ptr .0) (a .1 .0 .ptr .1) (a .1 .0 .name) (a .1 .0 .now)
+      (a .1 .1 .0 .ptr .0) (a .1 .1 .0 .ptr .1) (a .1 .1 .0 .name) (a .1 .1 .0 .now) (a .1 .1 .1 .0) (are .0 .0 .1) (are .1 .0 .0 .1) (are .1 .1 .0 .0 .1) (are .1 .1 .1 .0 .1) none 𝓣 known))
 
   turns-in-meets : Meets 𝓤 H A f.signature (WpFn 𝓤 H (𝓣 .C) (𝓣 .Λ) code.function) (f.spec 𝓤 H A mem run)
   turns-in-meets =

@@ -1,6 +1,6 @@
 use mathlib.Core.Path.{sym, _∙_}
 use Rattle.jobs.specs.Turns.{partsAt, window}
-use Rattle.jobs.proofs.Tests.{runs-few}
+use Rattle.jobs.proofs.Tests.{runs-few, runs-inside}
 use Rattle.jobs.proofs.Turning.{round-stops, round-goes}
 use Rattle.jobs.proofs.Gathers.{few-low, tested}
 use borrow.Author.Needs.{needs}
@@ -20,7 +20,11 @@ returns : tie.Need-returns
 returns c = let s = c .before .before .before .before .before .before .args in round-stops (s .files .now) (window (s .rows .row) (s .marks .now)) (s .n) (s .q) (sym (tested (partsAt (s .rows .row)) _ _ _ _ _ _ _ (c .before .before .before .few .ensures) (c .before .before .places-of .ensures) (c .before .is-refused .ensures)) ∙ c .if1 .taken)
 
 turns-to-requires : tie.Need-turns-to-requires
-turns-to-requires c κs = runs-few _ _ _ _ _ (sym (c .before .before .is-refused .ensures) ∙ c .before .if1 .left)
+turns-to-requires c κs =
+    let k = c .before in
+    let s = k .before .before .before .before .before .before .args in
+    let runs = sym (tested (partsAt (s .rows .row)) _ _ _ _ _ _ _ (k .before .before .before .few .ensures) (k .before .before .places-of .ensures) (k .before .is-refused .ensures)) ∙ k .if1 .left in
+    (runs-few _ _ _ _ _ runs, runs-inside _ _ _ _ _ runs)
 
 same-length : tie.Need-same-length
 same-length c = search needs

@@ -3,8 +3,8 @@ use mathlib.Core.Path.{_≡_, refl, sym, _∙_}
 use Prim.Native.Nat.{_≤_, _-_}
 use native.Mathlib.Omega.{arith}
 use lib.ListN.{length}
-use Rattle.jobs.specs.Turns.{turned, window, turnsTo}
-use Rattle.jobs.proofs.Turning.{turns-more}
+use Rattle.jobs.specs.Turns.{jobTurned, window, turnsTo}
+use Rattle.jobs.proofs.Turning.{turns-more, turn-fits}
 use Rattle.jobs.proofs.rows.turns_to.Statement.{statement}
 use Rattle.jobs.proofs.rows.turns_to.Tie as tie
 
@@ -25,7 +25,10 @@ element-copy-out-j : tie.Need-element-copy-out-j Inv-loop μ-loop
 element-copy-out-j c = search needs
 
 turn-requires : tie.Need-turn-requires Inv-loop μ-loop
-turn-requires c κs = search needs
+turn-requires c κs =
+    let s = c .before .before .before .before .before .before in
+    let l = c .before .before .before .loop in
+    turn-fits (s .args .files .now) (s .args .q) (window (s .args .rows .row) (s .args .marks .now)) (s .args .n) (s .pre .1) (l .next .row) (l .marks) (l .i) (c .before .before .loop-test .taken) (l .inv .1 .1) (l .inv .1 .0)
 
 mul-t : tie.Need-mul-t Inv-loop μ-loop
 mul-t c = search needs
@@ -40,7 +43,7 @@ loop-less : tie.Need-loop-less Inv-loop μ-loop
 loop-less c = search needs
 
 loop-again : tie.Need-loop-again Inv-loop μ-loop
-loop-again c = let t = c .before .before in let l = c .before .before .before .before .before .before in let s = l .before .before .before .args in (search needs, (search needs, turns-more (s .files .now) (s .q) (window (s .rows .row) (s .marks .now)) (l .loop .next .row) (l .loop .marks) (l .loop .i) (turned (t .turn .result) (t .turn .last .1 .0)) (l .loop .inv .1 .1) (t .turn .ensures)))
+loop-again c = let t = c .before .before in let l = c .before .before .before .before .before .before in let s = l .before .before .before .args in (search needs, (search needs, turns-more (s .files .now) (s .q) (window (s .rows .row) (s .marks .now)) (l .loop .next .row) (l .loop .marks) (l .loop .i) (jobTurned (t .turn .result) (t .turn .last .1 .0)) (l .loop .inv .1 .1) (t .turn .ensures)))
 
 same-length : tie.Need-same-length Inv-loop μ-loop
 same-length c = search needs

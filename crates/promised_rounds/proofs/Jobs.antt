@@ -1,0 +1,125 @@
+-- What a grant leaves is told again by its state; and so for a row. Assumes nothing.
+use mathlib.Core.Path.{_≡_, refl, sym, _∙_, ap, subst}
+use mathlib.Core.Logic.{_≢_}
+use mathlib.Core.Bool.{true, false, true≢false}
+use mathlib.Core.List.{List}
+use Prim.Native.Nat.{ℕ, zero, suc}
+use lib.ListN.{length}
+use lib.IntN.{pos, negsuc}
+use Rattle.checker.specs.declared.state.Stage.{Stage}
+use Rattle.checker.specs.declared.state.Stage.the-variants.{Fresh, Sweep, Walking, Done, Strange}
+use Rattle.checker.specs.declared.state.State.{State}
+use Rattle.checker.specs.Step.{Conf, conf, finished, answerOf, placeIn, runOf}
+use Rattle.checker.specs.Saved.{stateLength, save, load}
+use Rattle.checker.specs.Grant.{Granted, granted, worked, grantBy, grantOf}
+use Rattle.checker.proofs.Loads.{load-is, load-save, length-save}
+use Rattle.checker.proofs.Cases.{Case, idles, refuses, works, case-of, right-length}
+use Rattle.checker.proofs.Sound.{Own as OwnFile, loaded-sound, sound-run, sound-loaded}
+use Rattle.grants.specs.Promises.{comesBack}
+use Rattle.grants.proofs.Any.{every-grant}
+use Rattle.jobs.specs.Turns.{Window}
+use Rattle.promised_rounds.specs.Rounds.{NotRefused, roundsOf, Own, ownOf, grantAlone, grantsAlone, AnyJob, AnyJobs}
+use Rattle.promised_rounds.proofs.Rounds.{alone-is}
+
+no-place : (g : Stage) → finished g ≡ false → placeIn g ≡ 0
+no-place Fresh e = refl
+no-place (Sweep o) e = refl
+no-place (Walking w up) e = refl
+no-place (Done v p) e = absurd (true≢false e)
+no-place Strange e = refl
+
+pub has-verdict : (g : Stage) → answerOf g ≢ negsuc 0 → finished g ≡ true
+has-verdict Fresh e = absurd (e refl)
+has-verdict (Sweep o) e = absurd (e refl)
+has-verdict (Walking w up) e = absurd (e refl)
+has-verdict (Done v p) e = refl
+has-verdict Strange e = absurd (e refl)
+
+-- the state that a grant leaves has its length, its place, and its answer unless that is 21
+record Told (g : Granted) : Type 0 where
+  count : length (g .state) ≡ stateLength
+  place : placeIn (load (g .state) .stage) ≡ g .place
+  answer : g .answer ≢ pos 21 → answerOf (load (g .state) .stage) ≡ g .answer
+
+module _ (f m l : List ℕ) (n : ℕ) (right : length l ≡ stateLength) where
+  abbrev s : State
+  s = load l
+
+  at-run : OwnFile f (s .length) m → load (save (runOf f (conf s m) n .at .state)) ≡ runOf f (conf s m) n .at .state
+  at-run w =
+      let c = conf s m in
+      let h = sound-run (OwnFile f) f c (loaded-sound f s m (load-is l) w) n in
+      load-save (runOf f c n .at .state) (sound-loaded (OwnFile f) f (runOf f c n .at) h)
+
+  by-case : Case f m l n s → Told (grantBy f m l n s)
+  by-case (idles e c) = subst Told (sym e) (record { count = right; place = refl; answer = λ no-21. refl })
+  by-case (refuses e o w) = subst Told (sym e) (record { count = right; place = no-place (s .stage) o; answer = λ no-21. absurd (no-21 refl) })
+  by-case (works e o z w) =
+      let d = at-run w in
+      subst Told (sym e) (record {
+        count = length-save (runOf f (conf s m) n .at .state);
+        place = ap (λ (t : State). placeIn (t .stage)) d;
+        answer = λ no-21. ap (λ (t : State). answerOf (t .stage)) d;
+      })
+
+  told : Told (grantOf f m l n)
+  told = subst Told (sym (right-length f m l n right)) (by-case (case-of f m l n s))
+
+-- ---- a job by itself
+module _ (q : ℕ) (o : Own) (right : length (o .state) ≡ stateLength) where
+  abbrev at : ℕ → Own
+  at r = grantsAlone q o r
+
+  counts : (r : ℕ) → length (at r .state) ≡ stateLength
+  unfolding grantsAlone
+  counts zero = right
+  counts (suc r) = told (at r .file) (at r .marks) (at r .state) q (counts r) .count
+
+  told-at : (r : ℕ) → Told (grantOf (at r .file) (at r .marks) (at r .state) q)
+  told-at r = told (at r .file) (at r .marks) (at r .state) q (counts r)
+
+  number-at : (r : ℕ) → comesBack (at (suc r) .answer) ≡ true
+  unfolding grantsAlone
+  number-at r = every-grant (at r .file) (at r .marks) (at r .state) q .number
+
+  verdict-at : (r : ℕ) → at (suc r) .answer ≢ negsuc 0 → at (suc r) .answer ≢ pos 21
+      → (finished (load (at (suc r) .state) .stage) ≡ true) × (answerOf (load (at (suc r) .state) .stage) ≡ at (suc r) .answer)
+  unfolding grantsAlone
+  verdict-at r running other =
+      let e = told-at r .answer other in
+      (has-verdict (load (at (suc r) .state) .stage) (λ d. running (sym e ∙ d)), e)
+
+  place-at : (r : ℕ) (x y : List ℕ) → grantOf x y (at (suc r) .state) 0 .place ≡ grantOf (at r .file) (at r .marks) (at r .state) q .place
+  unfolding grantsAlone
+  place-at r x y = ap (λ (g : Granted). g .place) (every-grant x y (at (suc r) .state) 0 .of-none (counts (suc r)) refl) ∙ told-at r .place
+
+  repeats-at : finished (load (o .state) .stage) ≡ true → (r : ℕ) → at (suc r) ≡ record { file = o .file; marks = o .marks; state = o .state; answer = answerOf (load (o .state) .stage) }
+  unfolding grantsAlone
+  repeats-at e r = by r
+    where
+      left : Granted → Own
+      left g = record { file = o .file; marks = g .marks; state = g .state; answer = g .answer }
+
+      once : left (grantOf (o .file) (o .marks) (o .state) q) ≡ record { file = o .file; marks = o .marks; state = o .state; answer = answerOf (load (o .state) .stage) }
+      once = ap left (every-grant (o .file) (o .marks) (o .state) q .repeats right e)
+
+      by : (n : ℕ) → grantAlone q (at n) ≡ record { file = o .file; marks = o .marks; state = o .state; answer = answerOf (load (o .state) .stage) }
+      by zero = once
+      by (suc n) = ap (grantAlone q) (by n) ∙ once
+
+pub any-jobs : AnyJobs
+any-jobs f q w k runs h right = record {
+  number = λ r. ap (λ (z : Own). comesBack (z .answer)) (is (suc r)) ∙ number-at q o right r;
+  repeats = λ r e. is (suc r) ∙ repeats-at q o right e r;
+  verdict = λ r running other. subst (λ (z : Own). Verdict z) (sym (is (suc r))) (verdict-at q o right r) running other;
+  place = λ r x y. ap (λ (z : Own). grantOf x y (z .state) 0 .place) (is (suc r)) ∙ place-at q o right r x y ∙ sym (ap (λ (z : Own). grantOf (z .file) (z .marks) (z .state) q .place) (is r));
+}
+  where
+    o : Own
+    o = ownOf f w k
+
+    is : (r : ℕ) → ownOf f (roundsOf f q w r) k ≡ grantsAlone q o r
+    is r = alone-is f q w runs k r h
+
+    Verdict : Own → Type 0
+    Verdict z = z .answer ≢ negsuc 0 → z .answer ≢ pos 21 → (finished (load (z .state) .stage) ≡ true) × (answerOf (load (z .state) .stage) ≡ z .answer)

@@ -1,0 +1,5 @@
+pub mod Window
+pub mod Refusals
+pub mod Rounds
+pub mod Jobs
+pub mod Fresh

@@ -1,0 +1,1 @@
+// What rounds promise of every job, as theorems; no code.
