@@ -1,4 +1,4 @@
-/* What boundary.c and reads.c share: chance, buffers of exact lengths, and the end of a file, found apart from the library. */
+/* What the programs here share: chance, buffers of exact lengths, and the end of a file, found apart from the library. */
 #ifndef MEMORY_COMMON_H
 #define MEMORY_COMMON_H
 
