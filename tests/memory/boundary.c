@@ -258,29 +258,17 @@ static void try_file(const uint8_t *bytes, size_t length, uint64_t rounds)
     free(copy);
 }
 
-/* Reads a file and tries it; 0 if it could be read. */
-static int read_and_try(const char *name, uint64_t rounds)
-{
-    FILE *in = fopen(name, "rb");
-    static uint8_t bytes[65536];
-    size_t length = in == NULL ? 0 : fread(bytes, 1, sizeof bytes, in);
-
-    if (in == NULL || length == sizeof bytes) {
-        fprintf(stderr, "%s: cannot be read, or is too long\n", name);
-        return 1;
-    }
-    fclose(in);
-    try_file(bytes, length, rounds);
-    return 0;
-}
-
 int main(int count, char **words)
 {
     uint64_t rounds = count > 1 ? strtoull(words[1], NULL, 10) : 0;
 
-    for (int i = 2; i < count; i++)
-        if (read_and_try(words[i], rounds) != 0)
+    for (int i = 2; i < count; i++) {
+        size_t length = 0;
+        const uint8_t *bytes = read_file(words[i], &length);
+        if (bytes == NULL)
             return 2;
+        try_file(bytes, length, rounds);
+    }
     printf("%d files, %" PRIu64 " grants, %" PRIu64 " wrong\n", count - 2, grants, wrong);
     return wrong != 0;
 }
