@@ -9,7 +9,7 @@
 #include <stdlib.h>
 #include <string.h>
 
-enum { JOBS = TLZ_MOST_JOBS, RECORDS = 100000, WAYS = 3, TURNS = 15 };
+enum { JOBS = TLZ_MOST_JOBS, RECORDS = 100000, WAYS = 3, TURNS = 31 };
 
 /* The plain check stands where the proved one does: its numbers are those of docs/STATE.md, all others are 0. */
 static int stand_alike(const uint32_t *state, const struct plain_state *plain)
@@ -60,8 +60,9 @@ static void begin(struct lent *l)
 {
     for (size_t i = 0; i < JOBS; i++) {
         size_t from = i * l->length;
-        l->jobs[i] = (tlz_job){ (uint32_t)i, TLZ_RUNNING, from, l->length, from, l->length, { 0 } };
-        l->plain[i] = (struct plain_job){ (uint32_t)i, TLZ_RUNNING, from, l->length, from, l->length, plain_begin() };
+        uint32_t owner = 1000 + (uint32_t)i;
+        l->jobs[i] = (tlz_job){ owner, TLZ_RUNNING, from, l->length, from, l->length, { 0 } };
+        l->plain[i] = (struct plain_job){ owner, TLZ_RUNNING, from, l->length, from, l->length, plain_begin() };
     }
 }
 
