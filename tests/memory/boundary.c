@@ -141,8 +141,6 @@ static void other_lengths(const uint8_t *file, size_t length)
 /* Finished states with any other numbers: they repeat verdict and place, and stay as they are. */
 static void finished(const uint8_t *file, size_t length)
 {
-    static const uint32_t firsts[] = { 1, 2, 3, 4, 5, 6, 7, 8, 9, 10, 11, 12, 13, 14, 15, 21, 24 };
-
     for (size_t k = 0; k < sizeof firsts / sizeof *firsts; k++) {
         struct lent lent = lend(file, length, length, TLZ_STATE_LEN);
         uint32_t before[TLZ_STATE_LEN] = { firsts[k] };

@@ -320,8 +320,6 @@ static size_t lay_out(struct part *parts, size_t count)
 /* A finished state with any other numbers. */
 static void make_finished(uint32_t *state, size_t length)
 {
-    static const uint32_t firsts[] = { 1, 2, 3, 4, 5, 6, 7, 8, 9, 10, 11, 12, 13, 14, 15, 21, 24 };
-
     for (int i = 0; i < TLZ_STATE_LEN; i++)
         state[i] = made_up_number(length);
     state[0] = firsts[any(sizeof firsts / sizeof *firsts)];

@@ -8,6 +8,9 @@
 /* How many numbers of a state come before its levels; which number is the place. */
 enum { PLAIN = 12, PLACE = 33 };
 
+/* What number 0 of a finished state may be. */
+static const uint32_t firsts[] = { 1, 2, 3, 4, 5, 6, 7, 8, 9, 10, 11, 12, 13, 14, 15, 21, 24 };
+
 /* A number near the file's places, at an edge, or any. */
 static uint32_t made_up_number(size_t length)
 {
