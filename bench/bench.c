@@ -1,16 +1,19 @@
 /*
  * Times the proved check and reader against the same in plain C, in one run and on the same buffers.
  *
- *     bench            builds large files and prints median times and their ratio, proved / C; then the clearing of marks by
- *                      itself, and how the time grows
- *     bench FILE..     no times: compares verdict, steps, place and marks, and the answers to many reads, on each file
+ *     bench            builds large files and prints median times and their ratio, proved / C; then rounds over eight files,
+ *                      the clearing of marks by itself, and how the time grows
+ *     bench FILE..     no times: compares verdict, steps, place and marks, in one grant and in several, and the answers to many
+ *                      reads, on each file
  */
 #include "check.h"
 #include "clearing.h"
 #include "files.h"
 #include "read.h"
+#include "rounds.h"
 #include "times.h"
 #include "tlepozaluh.h"
+#include "turns.h"
 
 #include <inttypes.h>
 #include <stdio.h>
@@ -113,6 +116,23 @@ static int levels_differ(const struct file *file)
     return differ;
 }
 
+/* How many files the plain check by grants carries to their verdict. */
+static int carried = 0;
+
+/* How many sizes of grants the plain check by grants and the proved one differ with. */
+static int grants_differ(const struct file *file)
+{
+    static const uint64_t sizes[] = { 1, 2, 7, UINT64_MAX };
+    int differ = 0;
+    int32_t answer = -1;
+    for (size_t i = 0; i < sizeof sizes / sizeof *sizes; i++) {
+        answer = agreed_by_grants(file, sizes[i]);
+        differ += answer == -1;
+    }
+    carried += answer != -1 && answer != NOT_HERE;
+    return differ;
+}
+
 /* Compares checks and readers on a file on disk; 0 if they agree. */
 static int compared(const char *name)
 {
@@ -124,8 +144,8 @@ static int compared(const char *name)
     long length = ftell(in);
     rewind(in);
     struct file file = { allocated((size_t)length), (size_t)length };
-    int differ = fread(file.bytes, 1, file.length, in) != file.length || agreed(&file, name) < 0 || values_differ(&file) != 0 ||
-                 levels_differ(&file) != 0;
+    int differ = fread(file.bytes, 1, file.length, in) != file.length || agreed(&file, name) < 0 || grants_differ(&file) != 0 ||
+                 values_differ(&file) != 0 || levels_differ(&file) != 0;
     if (differ != 0)
         fprintf(stderr, "%s: differs\n", name);
     fclose(in);
@@ -269,7 +289,7 @@ int main(int count, char **names)
     for (int i = 1; i < count; i++)
         differ += compared(names[i]);
     if (count > 1) {
-        printf("%d files, %d differ\n", count - 1, differ);
+        printf("%d files, %d differ; %d by grants to their verdict\n", count - 1, differ, carried);
         return differ != 0;
     }
     timed("one record of 64 MB", one_record((size_t)64 << 20));
@@ -281,6 +301,7 @@ int main(int count, char **names)
     timed_vax("every value of 1,000,000 records of G_FLOAT", 1000000, 15);
     timed_reads("one value of each of 20,000 zVariables", variables(20000), 20000, 1, proved_variables, plain_variables);
     timed_reads("single reads through eight levels", tree(8, 4, 4), 65536, REPEATS, proved_places, plain_places);
+    rounds();
     clearing();
     growth();
     return 0;

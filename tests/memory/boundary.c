@@ -4,7 +4,7 @@
  * their padding was never written. Prints how many grants were made; exits with 1 if an answer, the steps, the place or a byte
  * that must not change is wrong.
  */
-#include "common.h"
+#include "states.h"
 #include "tlepozaluh.h"
 
 #include <inttypes.h>
@@ -13,9 +13,6 @@
 #ifndef MISSING
 #define MISSING 0
 #endif
-
-/* How many numbers of a state come before its levels; which number is the place. */
-enum { PLAIN = 12, PLACE = 33 };
 
 /* Buffers of one check, each an allocation of its own. */
 struct lent {
@@ -141,28 +138,9 @@ static void other_lengths(const uint8_t *file, size_t length)
     }
 }
 
-/* A number near the file's places, at an edge, or any. */
-static uint32_t made_up_number(size_t length)
-{
-    static const uint32_t edges[] = { 0, 1, 3, 5, 8, 9, 312, 372, 2147483647, 2147483648, 2147483711, UINT32_MAX };
-
-    switch (any(4)) {
-    case 0:
-        return edges[any(sizeof edges / sizeof *edges)];
-    case 1:
-        return (uint32_t)(length + any(80) - 40);
-    case 2:
-        return (uint32_t)any(4);
-    default:
-        return (uint32_t)any(length + 1);
-    }
-}
-
 /* Finished states with any other numbers: they repeat verdict and place, and stay as they are. */
 static void finished(const uint8_t *file, size_t length)
 {
-    static const uint32_t firsts[] = { 1, 2, 3, 4, 5, 6, 7, 8, 9, 10, 11, 12, 13, 14, 15, 21, 24 };
-
     for (size_t k = 0; k < sizeof firsts / sizeof *firsts; k++) {
         struct lent lent = lend(file, length, length, TLZ_STATE_LEN);
         uint32_t before[TLZ_STATE_LEN] = { firsts[k] };
@@ -226,41 +204,6 @@ static void holders(const uint8_t *file, size_t length)
             holder(file, length, &heads[k], taken);
 }
 
-/* Levels of an index, none to seven; now and then one is missing, or has any numbers. */
-static void make_up_levels(uint32_t *state, size_t length)
-{
-    uint64_t levels = any(8);
-
-    for (uint64_t i = 0; i < levels; i++) {
-        uint32_t *level = state + PLAIN + 3 * i;
-        int odd = any(20) == 0;
-        level[0] = odd ? made_up_number(length) : (uint32_t)any(length + 1);
-        level[1] = odd ? made_up_number(length) : 1 + (uint32_t)any(3);
-        level[2] = odd ? made_up_number(length) : (uint32_t)any(20);
-    }
-}
-
-/* A state of a phase with the numbers that have no meaning there left 0, most of the time; many are near `end`. */
-static void make_up(uint32_t *state, size_t length, size_t end)
-{
-    static const uint16_t meant[] = { 0, 0x010, 0, 0x070, 0xdf0, 0xfe0, 0x030, 0x6b0, 0x110 };
-    uint32_t phase = (uint32_t)any(9);
-
-    memset(state, 0, TLZ_STATE_LEN * sizeof *state);
-    for (int i = 0; i < PLAIN; i++)
-        state[i] = (meant[phase] >> i & 1) != 0 || any(100) == 0 ? made_up_number(end) : 0;
-    if (phase == 4 || phase == 5 || any(100) == 0)
-        make_up_levels(state, end);
-    state[1] = phase == 0 ? 0 : (uint32_t)length;
-    state[2] = phase;
-    state[11] &= 1;
-    state[PLACE] = any(50) == 0 ? made_up_number(end) : 0;
-    if (phase >= 3 && phase <= 5)
-        state[3] = any(2) ? 3 : 8;
-    if (phase == 7)
-        state[3] = any(2) ? 5 : 9;
-}
-
 /* Marks 0 to 7 and those from the file's end on are as they were. */
 static void outside_stays(const struct lent *lent, uint8_t outside)
 {
@@ -289,17 +232,6 @@ static void made_up(const uint8_t *file, size_t length)
     give_back(&lent);
 }
 
-/* One to four fields get other values. */
-static void damage(uint8_t *file, size_t length)
-{
-    for (uint64_t i = any(4); i < 4 && length >= 4; i++) {
-        size_t at = any(4) == 0 ? any(length - 3) : any((length - 3) / 4 + 1) * 4;
-        uint32_t value = any(3) == 0 ? made_up_number(length) : (uint32_t)any(length);
-        for (int k = 0; k < 4 && at + (size_t)k < length; k++)
-            file[at + (size_t)k] = (uint8_t)(value >> (24 - 8 * k));
-    }
-}
-
 static void try_file(const uint8_t *bytes, size_t length, uint64_t rounds)
 {
     uint8_t *copy = exactly(length + PADDING + 1);
@@ -324,29 +256,17 @@ static void try_file(const uint8_t *bytes, size_t length, uint64_t rounds)
     free(copy);
 }
 
-/* Reads a file and tries it; 0 if it could be read. */
-static int read_and_try(const char *name, uint64_t rounds)
-{
-    FILE *in = fopen(name, "rb");
-    static uint8_t bytes[65536];
-    size_t length = in == NULL ? 0 : fread(bytes, 1, sizeof bytes, in);
-
-    if (in == NULL || length == sizeof bytes) {
-        fprintf(stderr, "%s: cannot be read, or is too long\n", name);
-        return 1;
-    }
-    fclose(in);
-    try_file(bytes, length, rounds);
-    return 0;
-}
-
 int main(int count, char **words)
 {
     uint64_t rounds = count > 1 ? strtoull(words[1], NULL, 10) : 0;
 
-    for (int i = 2; i < count; i++)
-        if (read_and_try(words[i], rounds) != 0)
+    for (int i = 2; i < count; i++) {
+        size_t length = 0;
+        const uint8_t *bytes = read_file(words[i], &length);
+        if (bytes == NULL)
             return 2;
+        try_file(bytes, length, rounds);
+    }
     printf("%d files, %" PRIu64 " grants, %" PRIu64 " wrong\n", count - 2, grants, wrong);
     return wrong != 0;
 }

@@ -1,4 +1,4 @@
-/* What boundary.c and reads.c share: chance, buffers of exact lengths, and the end of a file, found apart from the library. */
+/* What the programs here share: chance, buffers of exact lengths, files, and a file's end, found apart from the library. */
 #ifndef MEMORY_COMMON_H
 #define MEMORY_COMMON_H
 
@@ -28,6 +28,21 @@ static void *exactly(size_t length)
         fprintf(stderr, "no memory\n");
         exit(2);
     }
+    return bytes;
+}
+
+/* Reads a file, which stays until the next is read; NULL, after a message, if it cannot be read or has 65,536 bytes or more. */
+static const uint8_t *read_file(const char *name, size_t *length)
+{
+    static uint8_t bytes[65536];
+    FILE *in = fopen(name, "rb");
+
+    *length = in == NULL ? 0 : fread(bytes, 1, sizeof bytes, in);
+    if (in == NULL || *length == sizeof bytes) {
+        fprintf(stderr, "%s: cannot be read, or is too long\n", name);
+        return NULL;
+    }
+    fclose(in);
     return bytes;
 }
 

@@ -15,7 +15,7 @@
 #define MISSING 0
 #endif
 
-enum { CALLS = 15, ANSWERS = 23, NUMBERS = 3, ROOM = 65536 };
+enum { CALLS = 15, ANSWERS = 23, NUMBERS = 3 };
 
 /* What a call may set, each number an allocation of its own; what they held before. */
 struct lent {
@@ -227,22 +227,6 @@ static void try_file(const uint8_t *bytes, size_t length, uint64_t rounds)
     free(copy);
 }
 
-/* Reads a file and tries it; 0 if it could be read. */
-static int read_and_try(const char *name, uint64_t rounds)
-{
-    FILE *in = fopen(name, "rb");
-    static uint8_t bytes[ROOM];
-    size_t length = in == NULL ? 0 : fread(bytes, 1, sizeof bytes, in);
-
-    if (in == NULL || length == sizeof bytes) {
-        fprintf(stderr, "%s: cannot be read, or is too long\n", name);
-        return 1;
-    }
-    fclose(in);
-    try_file(bytes, length, rounds);
-    return 0;
-}
-
 /* A VAX float: its encoding, data type, bytes and the double's bits; those of a reserved operand are BEFORE. */
 struct vax {
     int32_t encoding, type, size;
@@ -354,9 +338,13 @@ int main(int count, char **words)
 
     if (MISSING == 0 || count == 2)
         last_floats();
-    for (int i = 2; i < count; i++)
-        if (read_and_try(words[i], rounds) != 0)
+    for (int i = 2; i < count; i++) {
+        size_t length = 0;
+        const uint8_t *bytes = read_file(words[i], &length);
+        if (bytes == NULL)
             return 2;
+        try_file(bytes, length, rounds);
+    }
     for (int i = 0; i < CALLS; i++) {
         all += calls[i];
         expect(calls[i] > 0, "a call was not made", (uint64_t)i);
