@@ -23,4 +23,5 @@ pub mod places;
 pub mod questions;
 pub mod samples;
 pub mod second;
+pub mod structs;
 pub mod vax;
