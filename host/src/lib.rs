@@ -22,6 +22,8 @@ pub mod pair;
 pub mod places;
 pub mod questions;
 pub mod samples;
+pub mod scripts;
 pub mod second;
 pub mod structs;
 pub mod vax;
+pub mod window;
