@@ -16,6 +16,7 @@ pub mod calls;
 pub mod damage;
 pub mod dump;
 pub mod fuzz;
+pub mod fuzz_rounds;
 pub mod made_up;
 pub mod padding;
 pub mod pair;

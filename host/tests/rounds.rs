@@ -144,14 +144,15 @@ fn rounds_are_one_grant() {
     }
 }
 
-/// All steps in one round.
+/// All steps in one round; none of the number's 64 bits is cut off.
 #[test]
 fn a_round_of_all_steps() {
     let mut random = Random::seeded(4);
-    for seed in 0..40 {
-        let files = eight(seed, &mut random);
+    let steps = [1 << 32, (1 << 32) + 1, 1 << 63, u64::MAX];
+    for (seed, q) in steps.into_iter().cycle().take(40).enumerate() {
+        let files = eight(seed as u64, &mut random);
         let mut window = window(&files);
-        assert_eq!(window.round(u64::MAX), Ok(RUNNING), "seed {seed}");
+        assert_eq!(window.round(q), Ok(RUNNING), "seed {seed}");
         let ended = window.clone();
         assert!(ended.jobs().iter().all(|job| job.last != RUNNING), "seed {seed}");
         for q in [1, 1000, u64::MAX] {
