@@ -151,7 +151,7 @@ fn any_steps(random: &mut Random) -> u64 {
         2..=4 => random.between(2, 20).unsigned_abs(),
         5 => random.between(21, 1000).unsigned_abs(),
         6 => u64::MAX,
-        _ => (1 + random.number() % 9) << 32 | random.number() % 4,
+        _ => ((1 + random.number() % 9) << 32) + random.number() % 4,
     }
 }
 
@@ -197,7 +197,7 @@ fn any_job(random: &mut Random, covered: &mut Covered) -> Loose {
     let source = Source::new(&file);
     let (state, marks) = source.any_point(random);
     let marks = source.any_marks(marks, random);
-    let (kind, state) = match random.below(12) {
+    let (kind, state) = match random.below(16) {
         0 | 1 => ("a point of a check", *state),
         2 => ("near one", source.near(state, random)),
         3 => ("in range", source.in_range(random)),
@@ -217,7 +217,7 @@ fn any_job(random: &mut Random, covered: &mut Covered) -> Loose {
 fn change_parts(job: &mut Loose, random: &mut Random) -> &'static str {
     let (length, less) = (job.file.len(), random.between(1, 9) as usize);
     job.marks.truncate(length);
-    match random.below(14) {
+    match random.below(20) {
         0 => {
             job.marks.truncate(length.saturating_sub(less));
             "fewer marks"

@@ -159,6 +159,11 @@ fn parts_outside_their_area() {
         ],
         is_refused,
     );
+}
+
+/// Parts that end where their area ends.
+#[test]
+fn parts_up_to_the_end() {
     each(
         &[
             ("the last file at the end", |of| of.jobs[2].file.from += GAP),
