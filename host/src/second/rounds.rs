@@ -1,4 +1,5 @@
-//! Files by turns: jobs share a window, and a round gives each of them a grant of the same steps (request of that name).
+//! Files by turns (the request of that name): jobs share a window, and a round gives every unfinished one a grant of the same
+//! steps.
 
 use super::check::{grant, State, FRESH, RUNNING};
 use super::state;
