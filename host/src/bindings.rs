@@ -1,4 +1,4 @@
-//! The proved checker and reader, called as C calls them (`include/tlepozaluh.h`).
+//! The proved checker, rounds and reader, called as C calls them (`include/tlepozaluh.h`).
 
 // The only place with unsafe code: a call of a C function cannot be written without it.
 #![allow(unsafe_code)]
@@ -9,8 +9,30 @@ pub const STATE_LENGTH: usize = 34;
 /// A saved state of the right length.
 pub type State = [u32; STATE_LENGTH];
 
+/// A job of a round, a row of the list, as C has it: `tlz_job`.
+#[repr(C)]
+#[derive(Clone, Copy, Debug, PartialEq, Eq)]
+pub struct TlzJob {
+    /// Whose file it is.
+    pub owner: u32,
+    /// What its last turn answered.
+    pub answer: i32,
+    /// Where its part of the file area begins.
+    pub file_from: usize,
+    /// How many bytes that part has.
+    pub file_len: usize,
+    /// Where its part of the marks area begins.
+    pub marks_from: usize,
+    /// How many marks that part has.
+    pub marks_len: usize,
+    /// Its saved state.
+    pub state: [u32; STATE_LENGTH],
+}
+
 /// The calls as the header declares them.
 mod c {
+    use super::TlzJob;
+
     extern "C" {
         pub fn tlz_check_begin(state: *mut u32, state_len: usize) -> i32;
         pub fn tlz_check_grant(
@@ -23,6 +45,15 @@ mod c {
             grant: u64,
             steps: *mut u64,
             place: *mut u64,
+        ) -> i32;
+        pub fn tlz_round(
+            files: *const u8,
+            files_len: usize,
+            marks: *mut u8,
+            marks_len: usize,
+            jobs: *mut TlzJob,
+            count: usize,
+            q: u64,
         ) -> i32;
         pub fn tlz_read_value(
             file: *const u8,
@@ -191,6 +222,28 @@ pub fn fresh() -> State {
 /// The whole check at once.
 pub fn run(file: &[u8], marks: &mut [u8]) -> Granted {
     check_grant(file, marks, &mut fresh(), u64::MAX)
+}
+
+/// The most jobs of a round, `TLZ_MOST_JOBS`.
+pub const MOST_JOBS: usize = 8;
+
+/// The number of a round that is refused, `TLZ_BAD_ROUND`.
+pub const BAD_ROUND: i32 = 24;
+
+/// A round: each unfinished job of the list is granted q steps.
+pub fn round(files: &[u8], marks: &mut [u8], jobs: &mut [TlzJob], q: u64) -> i32 {
+    // SAFETY: each pointer and its length are one lent slice's; the borrows keep what is written apart from all else.
+    unsafe {
+        c::tlz_round(
+            files.as_ptr(),
+            files.len(),
+            marks.as_mut_ptr(),
+            marks.len(),
+            jobs.as_mut_ptr(),
+            jobs.len(),
+            q,
+        )
+    }
 }
 
 /// A state as a caller keeps it on disk: each number in 4 bytes, the lowest first.

@@ -1,6 +1,8 @@
 //! The calls for C as three texts declare them: the header, the Rattle sources, the bindings.
 //! Each is read into the same form, C's, and compared.
 
+use crate::structs;
+
 /// A call: its name, what it gives, what it takes.
 #[derive(Clone, Debug, PartialEq, Eq)]
 pub struct Call {
@@ -36,7 +38,7 @@ impl Call {
 }
 
 /// A type of numbers in C, by its name in Rattle and Rust.
-fn number_type(name: &str) -> Option<&'static str> {
+pub(crate) fn number_type(name: &str) -> Option<&'static str> {
     let known = [
         ("u8", "uint8_t"),
         ("u16", "uint16_t"),
@@ -55,8 +57,14 @@ fn number_type(name: &str) -> Option<&'static str> {
     known.iter().find(|(ours, _)| *ours == name.trim()).map(|(_, c)| *c)
 }
 
+/// A type of numbers in C, or one of these structs.
+fn c_type(name: &str, structs: &[String]) -> Option<String> {
+    let of_struct = || structs.iter().find(|of| *of == name.trim()).map(|of| structs::c_name(of));
+    number_type(name).map(str::to_string).or_else(of_struct)
+}
+
 /// The C types of a Rattle parameter: a slice is a pointer and a length.
-fn of_rattle(text: &str) -> Option<Vec<String>> {
+fn of_rattle(text: &str, structs: &[String]) -> Option<Vec<String>> {
     let text = text.trim();
     let (pointed, is_const) = match (text.strip_prefix("&mut "), text.strip_prefix('&')) {
         (Some(rest), _) => (rest.trim(), false),
@@ -64,7 +72,7 @@ fn of_rattle(text: &str) -> Option<Vec<String>> {
         (None, None) => return Some(vec![number_type(text)?.to_string()]),
     };
     let slice = pointed.strip_prefix('[').and_then(|rest| rest.strip_suffix(']'));
-    let pointer = pointer_to(number_type(slice.unwrap_or(pointed))?, is_const);
+    let pointer = pointer_to(&c_type(slice.unwrap_or(pointed), structs)?, is_const);
     let length = slice.map(|_| "size_t".to_string());
     Some(std::iter::once(pointer).chain(length).collect())
 }
@@ -74,23 +82,23 @@ fn pointer_to(c_type: &str, is_const: bool) -> String {
 }
 
 /// The C type of a parameter or answer of the bindings.
-fn of_binding(text: &str) -> Option<String> {
+fn of_binding(text: &str, structs: &[String]) -> Option<String> {
     let text = text.trim();
     match (text.strip_prefix("*mut "), text.strip_prefix("*const ")) {
-        (Some(pointed), _) => Some(pointer_to(number_type(pointed)?, false)),
-        (None, Some(pointed)) => Some(pointer_to(number_type(pointed)?, true)),
+        (Some(pointed), _) => Some(pointer_to(&c_type(pointed, structs)?, false)),
+        (None, Some(pointed)) => Some(pointer_to(&c_type(pointed, structs)?, true)),
         (None, None) => Some(number_type(text)?.to_string()),
     }
 }
 
 /// The text without comments from `//` to the line's end.
-fn without_line_comments(text: &str) -> String {
+pub(crate) fn without_line_comments(text: &str) -> String {
     let code = |line: &str| line.split("//").next().unwrap_or("").to_string();
     text.lines().map(code).collect::<Vec<String>>().join("\n")
 }
 
 /// The text without comments between `/*` and `*/`.
-fn without_comments(text: &str) -> String {
+pub(crate) fn without_comments(text: &str) -> String {
     let mut kept = String::new();
     let mut rest = text;
     while let Some((before, after)) = rest.split_once("/*") {
@@ -156,13 +164,13 @@ fn signature(text: &str) -> Option<(&str, Vec<Taken<'_>>, &str)> {
     Some((name.trim(), parameters, answer.trim()))
 }
 
-fn export(text: &str) -> Option<Call> {
+fn export(text: &str, structs: &[String]) -> Option<Call> {
     let (name, taken, answer) = signature(text)?;
     let mut parameters = Vec::new();
     for (name, rattle_type) in taken {
         let name = name.trim().trim_start_matches("mut ").to_string();
         let names = std::iter::once(Some(name)).chain(std::iter::repeat(None));
-        let types = of_rattle(rattle_type)?;
+        let types = of_rattle(rattle_type, structs)?;
         parameters
             .extend(types.into_iter().zip(names).map(|(c_type, name)| Parameter { name, c_type }));
     }
@@ -171,29 +179,33 @@ fn export(text: &str) -> Option<Call> {
 
 /// The functions of a Rattle source that C can call: `#[no_mangle]` and `extern "C"`.
 pub fn of_rattle_source(text: &str) -> Result<Vec<Call>, String> {
+    let structs = structs::names(text)?;
     let text = without_line_comments(text);
     let read = |after: &str| {
         let head = after.split('{').next().unwrap_or("").to_string();
         let (_, call) = after.split_once("extern \"C\" fn ").ok_or(format!("no call: {head}"))?;
-        export(call).ok_or(format!("a call that cannot be read: {head}"))
+        export(call, &structs).ok_or(format!("a call that cannot be read: {head}"))
     };
     text.split("#[no_mangle]").skip(1).map(read).collect()
 }
 
-fn binding(text: &str) -> Option<Call> {
+fn binding(text: &str, structs: &[String]) -> Option<Call> {
     let (name, taken, answer) = signature(text)?;
     let parameter = |(name, rust_type): (&str, &str)| {
-        Some(Parameter { name: Some(name.trim().to_string()), c_type: of_binding(rust_type)? })
+        let c_type = of_binding(rust_type, structs)?;
+        Some(Parameter { name: Some(name.trim().to_string()), c_type })
     };
     let parameters = taken.into_iter().map(parameter).collect::<Option<Vec<Parameter>>>()?;
-    Some(Call { name: name.to_string(), answer: of_binding(answer)?, parameters })
+    Some(Call { name: name.to_string(), answer: of_binding(answer, structs)?, parameters })
 }
 
 /// The functions that the bindings declare, in their block `extern "C"`.
 pub fn of_bindings(text: &str) -> Result<Vec<Call>, String> {
+    let structs = structs::names(text)?;
     let text = without_line_comments(text);
     let (_, block) = text.split_once("extern \"C\" {").ok_or("no block of calls")?;
-    let read = |call: &str| binding(call).ok_or(format!("a binding that cannot be read: {call}"));
+    let wrong = |call: &str| format!("a binding that cannot be read: {call}");
+    let read = |call: &str| binding(call, &structs).ok_or_else(|| wrong(call));
     let block = block.split('}').next().unwrap_or("");
     block.split("pub fn ").skip(1).map(read).collect()
 }

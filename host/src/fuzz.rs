@@ -1,18 +1,20 @@
-//! Fuzzing: the proved checker and reader against the second ones, on files built and damaged at random.
+//! Fuzzing: the proved checker, rounds and reader against the second ones, on files built and damaged at random.
 //!
-//! A round builds a good file and damages it or not. Both check it, in one grant and in grants at random. Then both go on
+//! For each seed a good file is built and damaged or not. Both check it, in one grant and in grants at random. Then both go on
 //! from points of the check with marks made up, from states made up, and after bytes of the file have been changed. At
 //! every stop they must agree in the answer, the steps, the place, all 34 numbers of the state and every mark, one grant must
 //! leave what several do, and a grant after the end must say the same again. Then both readers are asked: they must answer
 //! the same, and never 20 on an accepted file. An answer for a VAX float must be what the plainest statement of them says of
 //! the bytes that are stored there: the double, or 22 for a reserved operand; 22 must come for nothing else. On a padded
-//! file all this must be the same with other bytes and other marks in the padding, which must stay.
+//! file all this must be the same with other bytes and other marks in the padding, which must stay. At last more files are
+//! built and damaged, which share a window, and both make rounds over them.
 
 use crate::bindings::Granted;
 use crate::build;
 use crate::build::model::{File, Index};
 use crate::build::random::Random;
 use crate::damage::{self, Damage};
+use crate::fuzz_rounds;
 use crate::made_up::{Point, Source, BEYOND};
 use crate::padding;
 use crate::pair::{said_again, to_the_end, Compared, Pair};
@@ -27,7 +29,7 @@ use std::fmt;
 /// What was covered.
 #[derive(Clone, Debug, Default, PartialEq, Eq)]
 pub struct Covered {
-    /// Rounds, which is files.
+    /// Files, one a seed.
     pub files: u64,
     /// Files by what was done to them.
     pub kinds: BTreeMap<&'static str, u64>,
@@ -65,6 +67,8 @@ pub struct Covered {
     pub vax_floats: BTreeMap<&'static str, u64>,
     /// The same by sort.
     pub vax_sorts: BTreeMap<&'static str, u64>,
+    /// Windows, and rounds over them.
+    pub rounds: fuzz_rounds::Covered,
 }
 
 impl fmt::Display for Covered {
@@ -92,7 +96,8 @@ impl fmt::Display for Covered {
         writeln!(out, "reader's answers  {}", list(&self.answers))?;
         let floats = self.vax_floats.values().sum::<u64>();
         writeln!(out, "VAX floats        {floats}: {}", list(&self.vax_floats))?;
-        write!(out, "of them           {}", list(&self.vax_sorts))
+        writeln!(out, "of them           {}", list(&self.vax_sorts))?;
+        write!(out, "{}", self.rounds)
     }
 }
 
@@ -112,13 +117,13 @@ impl Covered {
     }
 }
 
-/// `key: count` for each key.
-fn list<K: fmt::Display>(counts: &BTreeMap<K, u64>) -> String {
+/// `key: count` for each key, as it is printed.
+pub(crate) fn list<K: fmt::Display>(counts: &BTreeMap<K, u64>) -> String {
     let each: Vec<String> = counts.iter().map(|(key, count)| format!("{key}: {count}")).collect();
     each.join(", ")
 }
 
-fn count<K: Ord>(counts: &mut BTreeMap<K, u64>, key: K) {
+pub(crate) fn count<K: Ord>(counts: &mut BTreeMap<K, u64>, key: K) {
     *counts.entry(key).or_insert(0) += 1;
 }
 
@@ -131,15 +136,16 @@ pub struct Difference {
     pub what: String,
 }
 
-/// One round with this seed; what it did is added to what was covered.
-pub fn round(seed: u64, covered: &mut Covered) -> Result<(), Difference> {
+/// The file of this seed and all that is done with it, then a window; what was done is added to what was covered.
+pub fn try_seed(seed: u64, covered: &mut Covered) -> Result<(), Difference> {
     let mut random = Random::seeded(seed);
     let file = any_file(&mut random, covered);
     covered.files += 1;
     count(&mut covered.padding, padding_kind(&file));
     let source = Source::new(&file);
     unchanged(&source, &mut random, covered).map_err(|what| Difference { file, what })?;
-    with_changes(&source, &mut random, covered)
+    with_changes(&source, &mut random, covered)?;
+    fuzz_rounds::try_window(&mut random, &mut covered.rounds)
 }
 
 /// All that is done with a file that stays the same.
@@ -168,17 +174,37 @@ fn padding_kind(file: &[u8]) -> &'static str {
     }
 }
 
-/// A built file, left as it is or damaged.
+/// A file that is drawn at random.
+pub(crate) struct Drawn {
+    /// What was done to it.
+    pub kind: &'static str,
+    /// Its model before.
+    pub model: File,
+    /// Its bytes before.
+    pub built: Vec<u8>,
+    /// The file.
+    pub file: Vec<u8>,
+}
+
+/// A drawn file, which is counted.
 fn any_file(random: &mut Random, covered: &mut Covered) -> Vec<u8> {
+    let drawn = draw(random);
+    count_file(&drawn.model, &drawn.built, covered);
+    count(&mut covered.kinds, drawn.kind);
+    drawn.file
+}
+
+/// A built file, left as it is or damaged.
+pub(crate) fn draw(random: &mut Random) -> Drawn {
     let (kind, levels) = (random.below(12), 2 + random.place(7));
-    let (model, file) = match kind {
+    let (model, built) = match kind {
         7 => build::with_levels(random.number(), levels),
         8 => build::with_levels(random.number(), 9),
         9 => build::with_padding(random.number(), random.between(1, MOST_PADDING) as usize),
         10 | 11 => build::with_vax_floats(random.number()),
         _ => build::any(random.number()),
     };
-    count_file(&model, &file, covered);
+    let file = built.clone();
     let (kind, file) = match kind {
         0 => ("good", file),
         1 => ("one field at an edge", damaged_by(file, damage::edge_damages, random)),
@@ -193,8 +219,7 @@ fn any_file(random: &mut Random, covered: &mut Covered) -> Vec<u8> {
         11 => ("VAX floats, bytes at random", scattered(file, random)),
         _ => ("eof or padding", damaged_by(file, damage::padding_damages, random)),
     };
-    count(&mut covered.kinds, kind);
-    file
+    Drawn { kind, model, built, file }
 }
 
 /// Counts the records of a file and the levels of its indexes.
@@ -418,8 +443,8 @@ mod tests {
     fn equal_seeds_do_the_same() {
         let (mut one, mut other) = (Covered::default(), Covered::default());
         for seed in 0..200 {
-            assert!(round(seed, &mut one).is_ok(), "seed {seed}");
-            assert!(round(seed, &mut other).is_ok(), "seed {seed}");
+            assert!(try_seed(seed, &mut one).is_ok(), "seed {seed}");
+            assert!(try_seed(seed, &mut other).is_ok(), "seed {seed}");
         }
         assert_eq!(one, other);
         assert_eq!(one.files, 200);
@@ -436,5 +461,9 @@ mod tests {
         assert!(one.padding.len() == 5 && one.padded() > 60, "{one}");
         assert!(one.other_padding.len() > 8 && one.changes.len() == 4, "{one}");
         assert!(one.compared.places.len() == 9 && one.compared.repeated.len() == 9, "{one}");
+        let of = &one.rounds;
+        assert!(of.windows.len() == 7 && of.states.len() == 8 && of.parts.len() == 7, "{one}");
+        assert!(of.rounds[&-1] > 800 && of.rounds[&24] > 150 && of.steps.len() == 5, "{one}");
+        assert!(of.answers.len() > 15 && of.ended.len() > 12, "{one}");
     }
 }

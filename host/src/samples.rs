@@ -77,7 +77,7 @@ pub struct Checks {
 }
 
 /// All lists of checks.
-pub const CHECKS: [Checks; 9] = [
+pub const CHECKS: [Checks; 11] = [
     Checks { folder: "", list: "checks.txt", first_mark: 0xAA, lines: 830, places: false },
     Checks { folder: "levels", list: "checks.txt", first_mark: 0xAA, lines: 400, places: false },
     Checks { folder: "levels", list: "checks01.txt", first_mark: 1, lines: 400, places: false },
@@ -87,6 +87,8 @@ pub const CHECKS: [Checks; 9] = [
     Checks { folder: "places", list: "checks01.txt", first_mark: 1, lines: 400, places: true },
     Checks { folder: "vax", list: "checks.txt", first_mark: 0xAA, lines: 400, places: true },
     Checks { folder: "vax", list: "checks01.txt", first_mark: 1, lines: 400, places: true },
+    Checks { folder: "rounds", list: "checks.txt", first_mark: 0xAA, lines: 400, places: true },
+    Checks { folder: "rounds", list: "checks01.txt", first_mark: 1, lines: 400, places: true },
 ];
 
 /// A line of a list of checks.
@@ -154,8 +156,14 @@ impl Checks {
 }
 
 /// The folders with a list of reads, `reads.txt`, and how many lines it has.
-pub const READS: [(&str, usize); 5] =
-    [("", 4623), ("levels", 10000), ("padded", 10000), ("places", 10000), ("vax", 10000)];
+pub const READS: [(&str, usize); 6] = [
+    ("", 4623),
+    ("levels", 10000),
+    ("padded", 10000),
+    ("places", 10000),
+    ("vax", 10000),
+    ("rounds", 10000),
+];
 
 /// A line of a list of reads.
 #[derive(Clone, Debug, PartialEq, Eq)]

@@ -2,15 +2,19 @@
 //! would find it if they did not.
 
 use std::fs::{read_dir, read_to_string};
+use std::mem::{align_of, offset_of, size_of};
 use std::path::{Path, PathBuf};
 use tlepozaluh_host::bindings::{check_begin, FILE_PADDING, RESERVED_OPERAND, STATE_LENGTH};
 use tlepozaluh_host::bindings::{read_attribute, read_entry_at, read_file, read_variable};
+use tlepozaluh_host::bindings::{TlzJob, BAD_ROUND, MOST_JOBS};
 use tlepozaluh_host::calls::{self, Call};
 use tlepozaluh_host::samples;
 use tlepozaluh_host::second::check::TOO_DEEP;
+use tlepozaluh_host::second::rounds;
+use tlepozaluh_host::structs::{self, Layout, Struct};
 
 /// Constants of the header that are no numbers that come back, and how the reader's begin.
-const OTHERS: [&str; 3] = ["TLZ_STATE_LEN", "TLZ_LONGEST_FILE", "TLZ_BAD_WAY"];
+const OTHERS: [&str; 4] = ["TLZ_STATE_LEN", "TLZ_LONGEST_FILE", "TLZ_MOST_JOBS", "TLZ_BAD_WAY"];
 const FIELDS: [&str; 4] = ["TLZ_FILE_", "TLZ_VARIABLE_", "TLZ_ATTRIBUTE_", "TLZ_ENTRY_"];
 const KINDS: [(&str, i64); 11] = [
     ("TLZ_RVARIABLE", 3),
@@ -72,10 +76,19 @@ fn header() -> String {
     text("include/tlepozaluh.h")
 }
 
-/// In what header and sources differ; an unreadable one differs too.
+/// In what header and sources differ, in calls or structs; an unreadable one differs too.
 fn drift(header: &str, sources: &str) -> Vec<String> {
-    match (calls::of_header(header), calls::of_rattle_source(sources)) {
+    let of_calls = match (calls::of_header(header), calls::of_rattle_source(sources)) {
         (Ok(declared), Ok(exported)) => calls::differences(&declared, &exported),
+        (Err(wrong), _) | (_, Err(wrong)) => vec![wrong],
+    };
+    of_calls.into_iter().chain(struct_drift(header, sources)).collect()
+}
+
+/// In what the structs of the header and of a source differ.
+fn struct_drift(header: &str, source: &str) -> Vec<String> {
+    match (structs::of_header(header), structs::of_source(source)) {
+        (Ok(declared), Ok(others)) => structs::differences(&declared, &others),
         (Err(wrong), _) | (_, Err(wrong)) => vec![wrong],
     }
 }
@@ -83,7 +96,7 @@ fn drift(header: &str, sources: &str) -> Vec<String> {
 #[test]
 fn the_header_declares_the_exports() {
     let exported = calls::of_rattle_source(&sources()).expect("the exports");
-    assert!(exported.len() >= 17, "{exported:?}");
+    assert!(exported.len() >= 18, "{exported:?}");
     assert_eq!(drift(&header(), &sources()), Vec::<String>::new());
 }
 
@@ -96,6 +109,84 @@ fn the_bindings_declare_what_the_header_does() {
     let of_bound = |call: &&Call| bound.iter().any(|other| other.name == call.name);
     let declared: Vec<Call> = declared.iter().filter(of_bound).cloned().collect();
     assert_eq!(calls::differences(&bound, &declared), Vec::<String>::new());
+}
+
+/// The one struct of the header.
+fn job() -> Struct {
+    let declared = structs::of_header(&header()).expect("the header's structs");
+    let [job] = declared.as_slice() else {
+        panic!("{declared:?}");
+    };
+    job.clone()
+}
+
+/// Each field of a row has the name, the type and the place that the header gives it.
+#[test]
+fn the_bindings_have_the_row_of_the_header() {
+    let bindings = text("host/src/bindings.rs");
+    let bound = structs::of_source(&bindings).expect("the bindings' structs");
+    assert_eq!(bound, [job()]);
+    for (from, to) in OF_ROW {
+        let drifted = header().replacen(from, to, 1);
+        assert!(header().contains(from) && !struct_drift(&drifted, &bindings).is_empty(), "{to}");
+    }
+}
+
+/// The row as Rust lays it, and as C's rules lay the header's.
+#[test]
+fn the_layout_of_a_row() {
+    let offsets = vec![
+        offset_of!(TlzJob, owner),
+        offset_of!(TlzJob, answer),
+        offset_of!(TlzJob, file_from),
+        offset_of!(TlzJob, file_len),
+        offset_of!(TlzJob, marks_from),
+        offset_of!(TlzJob, marks_len),
+        offset_of!(TlzJob, state),
+    ];
+    let (size, alignment) = (size_of::<TlzJob>(), align_of::<TlzJob>());
+    let laid = Layout { offsets, size, alignment };
+    assert_eq!(job().layout(), Some(laid.clone()));
+    if size_of::<usize>() == 8 {
+        assert_eq!(laid.offsets, [0, 4, 8, 16, 24, 32, 40]);
+        assert_eq!((laid.size, laid.alignment), (176, 8));
+    }
+}
+
+/// Fields with room between them and behind them.
+#[test]
+fn layouts_with_room() {
+    let header = "#define TLZ_N 3\ntypedef struct tlz_x { uint8_t a; uint32_t b; uint16_t c[TLZ_N], d; } tlz_x;";
+    let found = structs::of_header(header).expect("a struct");
+    let expected = Layout { offsets: vec![0, 4, 8, 14], size: 16, alignment: 4 };
+    assert_eq!(found[0].layout(), Some(expected));
+}
+
+/// Structs inside a struct lie in its place, and fields are found by their own names.
+#[test]
+fn structs_inside_structs() {
+    let source = "#[repr(C)]\npub struct Part {\n    pub from: usize, // where\n    pub len: usize,\n}\n#[repr(C)]\npub struct \
+        Pair {\n    pub file: Part,\n    pub marks: Part,\n}\n#[repr(C)]\n#[derive(Clone, Copy)]\npub struct TwoParts {\n    pub owner: \
+        i32,\n    pub parts: Pair,\n    pub state: [u32; 34],\n}\npub struct Other { pub x: Strange }\n";
+    let header = "typedef struct tlz_two_parts { int32_t owner; size_t file_from, file_len; size_t marks_from; size_t marks_len; \
+        uint32_t state[34]; } tlz_two_parts;";
+    assert_eq!(struct_drift(header, source), Vec::<String>::new());
+    let edits = [
+        ("pub file: Part,\n    pub marks: Part", "pub marks: Part,\n    pub file: Part"),
+        ("pub from: usize, // where\n    pub len: usize", "pub len: usize,\n    pub from: usize"),
+        ("pub len: usize", "pub len: u64"),
+        ("[u32; 34]", "[u32; 33]"),
+        ("[u32; 34]", "[i32; 34]"),
+        ("[u32; 34]", "[Strange; 34]"),
+        ("pub owner: i32,", ""),
+        ("struct TwoParts", "struct Twoparts"),
+        ("#[repr(C)]\n#[derive(Clone, Copy)]", ""),
+        ("pub parts: Pair", "pub parts: Other"),
+    ];
+    for (from, to) in edits {
+        let drifted = source.replacen(from, to, 1);
+        assert!(source.contains(from) && !struct_drift(header, &drifted).is_empty(), "{to}");
+    }
 }
 
 /// docs/INTERFACE.md has a heading and the prototype of every call, and of no other.
@@ -129,6 +220,10 @@ const OF_HEADER: &[(&str, &str)] = &[
     ("uint64_t grant, uint64_t *steps", "uint64_t grant, uint64_t *steps, int32_t more"),
     ("uint64_t grant, uint64_t *steps", "uint64_t grant, uint64_t *steps);\nvoid tlz_more(void"),
     ("int32_t tlz_check_begin(uint32_t", "int32_t (*tlz_check_begin)(uint32_t"),
+    ("tlz_round(const uint8_t *files", "tlz_round(uint8_t *files"),
+    ("tlz_job *jobs, size_t count", "const tlz_job *jobs, size_t count"),
+    ("tlz_job *jobs, size_t count", "uint32_t *jobs, size_t count"),
+    ("tlz_job *jobs, size_t count", "tlz_job *jobs"),
     ("tlz_read_pad(const uint8_t *file", "tlz_read_pads(const uint8_t *file"),
     ("int32_t tlz_read_levels(", "int64_t tlz_read_levels("),
     ("int64_t number, int64_t record,", "int64_t record, int64_t number,"),
@@ -136,6 +231,23 @@ const OF_HEADER: &[(&str, &str)] = &[
     ("uint64_t what, int32_t *field", "int64_t what, int32_t *field"),
     ("uint64_t place, uint64_t at", "uint64_t at, uint64_t place"),
     ("uint64_t *offset, uint64_t *length", "uint64_t *length, uint64_t *offset"),
+];
+
+/// Edits of the header's row.
+const OF_ROW: &[(&str, &str)] = &[
+    ("    uint32_t owner; ", "    int32_t owner; "),
+    ("    int32_t answer; ", "    int64_t answer; "),
+    ("    uint32_t owner; ", "    uint32_t owner; uint32_t more; "),
+    ("    uint32_t owner; ", "    "),
+    ("size_t file_from, file_len;", "size_t file_len, file_from;"),
+    ("size_t file_from, file_len;", "uint64_t file_from, file_len;"),
+    ("size_t file_from, file_len;", "size_t marks_from, marks_len;"),
+    ("uint32_t state[TLZ_STATE_LEN]; /*", "uint32_t state[33]; /*"),
+    ("uint32_t state[TLZ_STATE_LEN]; /*", "uint64_t state[TLZ_STATE_LEN]; /*"),
+    ("uint32_t state[TLZ_STATE_LEN]; /*", "uint32_t *state; /*"),
+    ("#define TLZ_STATE_LEN 34", "#define TLZ_STATE_LEN 35"),
+    ("typedef struct tlz_job {", "typedef struct tlz_row {"),
+    ("} tlz_job;", "} tlz_jobs;"),
 ];
 
 /// Edits of the sources.
@@ -149,13 +261,16 @@ const OF_SOURCES: &[(&str, &str)] = &[
     ("    grant: u64,\n    steps: &mut u64,\n", "    grant: u64,\n    steps: u64,\n"),
     ("    file: &[u8],\n    marks: &mut [u8],\n", "    marks: &mut [u8],\n    file: &[u8],\n"),
     ("fn tlz_check_begin(", "fn tlz_check_start("),
+    ("fn tlz_round(", "fn tlz_rounds("),
+    ("    pub owner: u32,\n    pub answer: i32,\n", "    pub answer: i32,\n    pub owner: u32,\n"),
+    ("    pub owner: u32,\n    pub answer: i32,\n", "    pub owner: u32,\n    pub answer: u32,\n"),
 ];
 
 /// Each edit of the header or of the sources is found.
 #[test]
 fn drift_is_found() {
     let (header, sources) = (header(), sources());
-    for (from, to) in OF_HEADER {
+    for (from, to) in OF_HEADER.iter().chain(OF_ROW) {
         assert!(header.contains(from), "{from}");
         assert!(!drift(&header.replacen(from, to, 1), &sources).is_empty(), "{from} -> {to}");
     }
@@ -192,7 +307,7 @@ fn forms_of_parameters() {
     assert!(calls::of_rattle_source(&source.replace("u32,", "Strange,")).is_err());
 }
 
-/// The table of docs/INTERFACE.md, the header and the tools' words have the same numbers: -1 to 23, but not 19.
+/// The table of docs/INTERFACE.md, the header and the tools' words have the same numbers: -1 to 24, but not 19.
 #[test]
 fn every_number_of_the_table() {
     let table = calls::table_numbers(&text("docs/INTERFACE.md"));
@@ -202,8 +317,14 @@ fn every_number_of_the_table() {
     let numbers: Vec<(String, i64)> = defined.into_iter().filter(comes_back).collect();
     assert_eq!(numbers, table);
     let all: Vec<i64> = table.iter().map(|(_, number)| *number).collect();
-    assert_eq!(all, (-1..=18).chain(20..=23).collect::<Vec<i64>>());
-    for (name, number) in [("TLZ_TOO_DEEP", TOO_DEEP), ("TLZ_RESERVED_OPERAND", RESERVED_OPERAND)] {
+    assert_eq!(all, (-1..=18).chain(20..=24).collect::<Vec<i64>>());
+    let ours = [
+        ("TLZ_TOO_DEEP", TOO_DEEP),
+        ("TLZ_RESERVED_OPERAND", RESERVED_OPERAND),
+        ("TLZ_BAD_ROUND", BAD_ROUND),
+        ("TLZ_BAD_ROUND", rounds::BAD_ROUND),
+    ];
+    for (name, number) in ours {
         assert!(table.contains(&(name.to_string(), i64::from(number))), "{name}: {table:?}");
     }
     let words = text("tools/words.c");
@@ -241,6 +362,15 @@ fn the_length_of_a_state() {
             "{document}: {said:?}"
         );
     }
+}
+
+/// TLZ_MOST_JOBS is the number that the bindings and the second implementation have.
+#[test]
+fn the_most_jobs() {
+    let defined = calls::defined_numbers(&header());
+    let most = ("TLZ_MOST_JOBS".to_string(), MOST_JOBS as i64);
+    assert!(defined.contains(&most), "{defined:?}");
+    assert_eq!(MOST_JOBS, rounds::MOST_JOBS);
 }
 
 /// The rows `| NUMBER | .., `NAME` | meaning |` of the reader's tables in a text.

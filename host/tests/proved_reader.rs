@@ -61,7 +61,7 @@ fn sample_files() -> Vec<(String, Vec<u8>)> {
         }
     }
     found.sort();
-    for folder in ["", "levels", "padded", "places", "vax"] {
+    for folder in ["", "levels", "padded", "places", "vax", "rounds"] {
         let archive = std::fs::read(directory.join(folder).join("checks.tar")).expect("checks.tar");
         let members = samples::members(&archive).expect("an archive");
         found.extend(members.into_iter().map(|member| (member.name, member.bytes)));
@@ -73,7 +73,7 @@ fn sample_files() -> Vec<(String, Vec<u8>)> {
 #[test]
 fn every_edge_on_every_sample() {
     let files = sample_files();
-    assert_eq!(files.len(), 46 + 11 + 4 + 2 + 9 + 830 + 4 * 400);
+    assert_eq!(files.len(), 46 + 11 + 4 + 2 + 9 + 830 + 5 * 400);
     let all = questions::edges();
     let mut tally = Tally::default();
     for (name, file) in &files {

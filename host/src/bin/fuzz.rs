@@ -1,4 +1,4 @@
-//! Compares the proved checker and reader with the second ones for a given time and prints what was covered.
+//! Compares the proved checker, rounds and reader with the second ones for a given time and prints what was covered.
 //!
 //!     fuzz --seconds N [--seed S]
 //!
@@ -6,7 +6,7 @@
 
 use std::process::ExitCode;
 use std::time::{Duration, Instant};
-use tlepozaluh_host::fuzz::{round, Covered, Difference};
+use tlepozaluh_host::fuzz::{try_seed, Covered, Difference};
 
 /// Seconds and seed of the command line; nothing if it cannot be read.
 fn options(words: &[String]) -> Option<(f64, u64)> {
@@ -42,7 +42,7 @@ fn main() -> ExitCode {
     let mut covered = Covered::default();
     let mut seed = first;
     while Instant::now() < end {
-        if let Err(found) = round(seed, &mut covered) {
+        if let Err(found) = try_seed(seed, &mut covered) {
             println!("{covered}");
             return fail(seed, &found);
         }

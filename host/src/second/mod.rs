@@ -1,14 +1,15 @@
-//! The second implementation of document 01, of lower index records, of padded files, of the places of refusals and of VAX
-//! floats, with the saved state of docs/STATE.md.
+//! The second implementation of document 01, of lower index records, of padded files, of the places of refusals, of VAX
+//! floats and of files by turns, with the saved state of docs/STATE.md.
 //!
 //! `bytes`, `tables` and `rules` say what fields, numbers and records are, `vax` what VAX floats are, by the numbers of
-//! `whole`; `check` makes the steps from one saved state (`state`) to the next, `read` gives values and descriptors, and
-//! `dump` writes all that the reader finds in a file as text.
+//! `whole`; `check` makes the steps from one saved state (`state`) to the next, `rounds` makes the rounds of several
+//! checks, `read` gives values and descriptors, and `dump` writes all that the reader finds in a file as text.
 
 pub mod bytes;
 pub mod check;
 pub mod dump;
 pub mod read;
+pub mod rounds;
 pub mod rules;
 pub mod state;
 pub mod tables;
