@@ -1,15 +1,13 @@
 -- A job begun fresh: rounds of q steps take it where the plain run over its own parts is after as many steps. Assumes nothing.
 use mathlib.Core.Path.{_≡_, refl, sym, _∙_, ap, subst}
 use mathlib.Core.Logic.{_↔_, _≢_}
-use mathlib.Core.Bool.{true, true≢false}
+use mathlib.Core.Bool.{true}
 use mathlib.Core.List.{List}
 use Prim.Native.Nat.{ℕ, zero, suc, _+_, _*_, _-_, _/_, _≤_, _<_}
 use native.Mathlib.Nat.{div-add-mod', mod-lt, div-lt-iff-lt-mul, mul-le-mul-right, zero-mul, suc-mul}
 use native.Mathlib.Omega.{arith}
 use lib.ListN.{length}
 use lib.IntN.{pos, negsuc}
-use Rattle.checker.specs.declared.state.Stage.{Stage}
-use Rattle.checker.specs.declared.state.Stage.the-variants.{Fresh, Sweep, Walking, Done, Strange}
 use Rattle.checker.specs.declared.state.State.{State}
 use Rattle.checker.specs.Step.{Conf, Run, conf, fresh, finished, answerOf, placeIn, runOf, plainRun}
 use Rattle.checker.specs.Saved.{save, load}
@@ -29,6 +27,7 @@ use Rattle.promised_rounds.specs.Rounds.{Own, ownOf, grantsAlone, rounds
 use Rattle.promised_rounds.proofs.Window.{fit-of}
 use Rattle.promised_rounds.proofs.Refusals.{not-tested}
 use Rattle.promised_rounds.proofs.Rounds.{alone-is}
+use Rattle.promised_rounds.proofs.Jobs.{not-running}
 
 -- ---- rounded up
 pub rounded-up : RoundedUp
@@ -112,13 +111,6 @@ module _ (o : Own) (q : ℕ) where
         let z : r * q ≡ 0 = rw e (zero-mul q) in
         absurd (omega (arith, l, z))
     one-more (suc m) e = (m, e)
-
-not-running : (g : Stage) → finished g ≡ true → answerOf g ≢ negsuc 0
-not-running Fresh e = absurd (true≢false (sym e))
-not-running (Sweep o) e = absurd (true≢false (sym e))
-not-running (Walking w up) e = absurd (true≢false (sym e))
-not-running (Done v p) e = λ d. let z : _≡_ {A = ℕ} 0 1 = cc in omega arith
-not-running Strange e = absurd (true≢false (sym e))
 
 module _ (f : List ℕ) (q : ℕ) (w : Window) (k : ℕ) (runs : NotRefused f q w) (h : k < length (w .rows)) (begun : rowAt (w .rows) k .state ≡ save fresh) where
   abbrev own : Own

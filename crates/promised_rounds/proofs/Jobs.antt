@@ -4,6 +4,7 @@ use mathlib.Core.Logic.{_≢_}
 use mathlib.Core.Bool.{true, false, true≢false}
 use mathlib.Core.List.{List}
 use Prim.Native.Nat.{ℕ, zero, suc}
+use native.Mathlib.Omega.{arith}
 use lib.ListN.{length}
 use lib.IntN.{pos, negsuc}
 use Rattle.checker.specs.declared.state.Stage.{Stage}
@@ -11,8 +12,9 @@ use Rattle.checker.specs.declared.state.Stage.the-variants.{Fresh, Sweep, Walki
 use Rattle.checker.specs.declared.state.State.{State}
 use Rattle.checker.specs.Step.{Conf, conf, finished, answerOf, placeIn, runOf}
 use Rattle.checker.specs.Saved.{stateLength, save, load}
+use Rattle.checker.specs.Ready.{Loaded}
 use Rattle.checker.specs.Grant.{Granted, granted, worked, grantBy, grantOf}
-use Rattle.checker.proofs.Loads.{load-is, load-save, length-save}
+use Rattle.checker.proofs.Loads.{load-is, load-save, length-save, not-21}
 use Rattle.checker.proofs.Cases.{Case, idles, refuses, works, case-of, right-length}
 use Rattle.checker.proofs.Sound.{Own as OwnFile, loaded-sound, sound-run, sound-loaded}
 use Rattle.grants.specs.Promises.{comesBack}
@@ -35,31 +37,44 @@ has-verdict (Walking w up) e = absurd (e refl)
 has-verdict (Done v p) e = refl
 has-verdict Strange e = absurd (e refl)
 
+pub not-running : (g : Stage) → finished g ≡ true → answerOf g ≢ negsuc 0
+not-running Fresh e = absurd (true≢false (sym e))
+not-running (Sweep o) e = absurd (true≢false (sym e))
+not-running (Walking w up) e = absurd (true≢false (sym e))
+not-running (Done v p) e = λ d. let z : _≡_ {A = ℕ} 0 1 = cc in omega arith
+not-running Strange e = absurd (true≢false (sym e))
+
 -- the state that a grant leaves has its length, its place, and its answer unless that is 21
 record Told (g : Granted) : Type 0 where
   count : length (g .state) ≡ stateLength
   place : placeIn (load (g .state) .stage) ≡ g .place
   answer : g .answer ≢ pos 21 → answerOf (load (g .state) .stage) ≡ g .answer
+  ended : finished (load (g .state) .stage) ≡ true → (g .answer ≢ negsuc 0) × (g .answer ≢ pos 21)
 
 module _ (f m l : List ℕ) (n : ℕ) (right : length l ≡ stateLength) where
   abbrev s : State
   s = load l
 
+  at-loaded : OwnFile f (s .length) m → Loaded (runOf f (conf s m) n .at .state .length) (runOf f (conf s m) n .at .state .stage)
+  at-loaded w = sound-loaded (OwnFile f) f (runOf f (conf s m) n .at) (sound-run (OwnFile f) f (conf s m) (loaded-sound f s m (load-is l) w) n)
+
   at-run : OwnFile f (s .length) m → load (save (runOf f (conf s m) n .at .state)) ≡ runOf f (conf s m) n .at .state
-  at-run w =
-      let c = conf s m in
-      let h = sound-run (OwnFile f) f c (loaded-sound f s m (load-is l) w) n in
-      load-save (runOf f c n .at .state) (sound-loaded (OwnFile f) f (runOf f c n .at) h)
+  at-run w = load-save (runOf f (conf s m) n .at .state) (at-loaded w)
+
+  -- a finished stage that loads answers neither -1 nor 21
+  neither : (t : State) → Loaded (t .length) (t .stage) → finished (t .stage) ≡ true → (answerOf (t .stage) ≢ negsuc 0) × (answerOf (t .stage) ≢ pos 21)
+  neither t h e = (not-running (t .stage) e, not-21 (t .length) (t .stage) h)
 
   by-case : Case f m l n s → Told (grantBy f m l n s)
-  by-case (idles e c) = subst Told (sym e) (record { count = right; place = refl; answer = λ no-21. refl })
-  by-case (refuses e o w) = subst Told (sym e) (record { count = right; place = no-place (s .stage) o; answer = λ no-21. absurd (no-21 refl) })
+  by-case (idles e c) = subst Told (sym e) (record { count = right; place = refl; answer = λ no-21. refl; ended = neither s (load-is l) })
+  by-case (refuses e o w) = subst Told (sym e) (record { count = right; place = no-place (s .stage) o; answer = λ no-21. absurd (no-21 refl); ended = λ e. absurd (true≢false (sym e ∙ o)) })
   by-case (works e o z w) =
       let d = at-run w in
       subst Told (sym e) (record {
         count = length-save (runOf f (conf s m) n .at .state);
         place = ap (λ (t : State). placeIn (t .stage)) d;
         answer = λ no-21. ap (λ (t : State). answerOf (t .stage)) d;
+        ended = λ e. neither (runOf f (conf s m) n .at .state) (at-loaded w) (sym (ap (λ (t : State). finished (t .stage)) d) ∙ e);
       })
 
   told : Told (grantOf f m l n)
@@ -89,6 +104,10 @@ module _ (q : ℕ) (o : Own) (right : length (o .state) ≡ stateLength) where
       let e = told-at r .answer other in
       (has-verdict (load (at (suc r) .state) .stage) (λ d. running (sym e ∙ d)), e)
 
+  ended-at : (r : ℕ) → finished (load (at (suc r) .state) .stage) ≡ true → (at (suc r) .answer ≢ negsuc 0) × (at (suc r) .answer ≢ pos 21)
+  unfolding grantsAlone
+  ended-at r e = told-at r .ended e
+
   place-at : (r : ℕ) (x y : List ℕ) → grantOf x y (at (suc r) .state) 0 .place ≡ grantOf (at r .file) (at r .marks) (at r .state) q .place
   unfolding grantsAlone
   place-at r x y = ap (λ (g : Granted). g .place) (every-grant x y (at (suc r) .state) 0 .of-none (counts (suc r)) refl) ∙ told-at r .place
@@ -112,6 +131,7 @@ any-jobs f q w k runs h right = record {
   number = λ r. ap (λ (z : Own). comesBack (z .answer)) (is (suc r)) ∙ number-at q o right r;
   repeats = λ r e. is (suc r) ∙ repeats-at q o right e r;
   verdict = λ r running other. subst (λ (z : Own). Verdict z) (sym (is (suc r))) (verdict-at q o right r) running other;
+  unfinished = λ r e. subst (λ (z : Own). Ended z) (sym (is (suc r))) (ended-at q o right r) e;
   place = λ r x y. ap (λ (z : Own). grantOf x y (z .state) 0 .place) (is (suc r)) ∙ place-at q o right r x y ∙ sym (ap (λ (z : Own). grantOf (z .file) (z .marks) (z .state) q .place) (is r));
 }
   where
@@ -123,3 +143,6 @@ any-jobs f q w k runs h right = record {
 
     Verdict : Own → Type 0
     Verdict z = z .answer ≢ negsuc 0 → z .answer ≢ pos 21 → (finished (load (z .state) .stage) ≡ true) × (answerOf (load (z .state) .stage) ≡ z .answer)
+
+    Ended : Own → Type 0
+    Ended z = finished (load (z .state) .stage) ≡ true → (z .answer ≢ negsuc 0) × (z .answer ≢ pos 21)

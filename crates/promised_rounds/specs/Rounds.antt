@@ -137,6 +137,10 @@ pub record AnyJob (f : List ℕ) (q : ℕ) (w : Window) (k : ℕ) : Type 0 where
       → ownOf f (roundsOf f q w (suc r)) k .answer ≢ pos 21
       → (finished (load (ownOf f (roundsOf f q w (suc r)) k .state) .stage) ≡ true)
       × (answerOf (load (ownOf f (roundsOf f q w (suc r)) k .state) .stage) ≡ ownOf f (roundsOf f q w (suc r)) k .answer)
+  -- and one that answers either of them is not finished
+  pub unfinished : (r : ℕ)
+      → finished (load (ownOf f (roundsOf f q w (suc r)) k .state) .stage) ≡ true
+      → (ownOf f (roundsOf f q w (suc r)) k .answer ≢ negsuc 0) × (ownOf f (roundsOf f q w (suc r)) k .answer ≢ pos 21)
   -- the place that its grant gave, which no row holds, is given by a grant of 0 on its state, whatever file x and marks y are lent
   pub place : (r : ℕ) (x y : List ℕ)
       → grantOf x y (ownOf f (roundsOf f q w (suc r)) k .state) 0 .place
