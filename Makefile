@@ -9,9 +9,9 @@ PREFIX = /usr/local
 DESTDIR =
 CFLAGS = -std=c11 -O2 -Wall -Wextra -Wpedantic
 
-# The archives that rt makes, one a crate with calls for C. libtlepozaluh.a has all, libtlepozaluh_read.a the reader alone.
+# The archives that rt makes, one a crate with calls for C. libtlepozaluh.a has both, libtlepozaluh_read.a the reader alone.
 READER = target/staticlib/libreader.a
-ARCHIVES = target/staticlib/libchecker.a target/staticlib/librounds.a $(READER)
+ARCHIVES = target/staticlib/libcalls.a $(READER)
 LIBRARIES = build/libtlepozaluh.a build/libtlepozaluh_read.a
 PACKAGES = build/tlepozaluh.pc build/tlepozaluh_read.pc
 

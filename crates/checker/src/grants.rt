@@ -1,4 +1,4 @@
-// Grants of steps on a saved state, as C calls them.
+// Grants of steps on a saved state.
 ghost use mathlib.Core.Path.{_≡_};
 ghost use Rattle.checker.specs.Step.{answerOf};
 ghost use Rattle.checker.specs.Ready.{VerdictFits};
@@ -31,8 +31,7 @@ fn other_file(f: &[u8], m: &[u8], noted: u32) -> bool
 }
 
 // A fresh state of 34 numbers, and -1, as no check has a verdict yet; or 20, and nothing changed, where there are not 34.
-#[no_mangle]
-pub extern "C" fn tlz_check_begin(state: &mut [u32]) -> i32
+pub fn begin(state: &mut [u32]) -> i32
     ensures { λ r. ⌜ begun r (now (state .exit)) ≡ beginOf (now (state .entry)) ⌝ }
 {
     if state.len() != 34 {
@@ -47,8 +46,7 @@ pub extern "C" fn tlz_check_begin(state: &mut [u32]) -> i32
 }
 
 // A grant of steps on a saved state: what it answers, in steps how many it made, and in place where the record at fault is.
-#[no_mangle]
-pub extern "C" fn tlz_check_grant(
+pub fn grant(
     file: &[u8],
     marks: &mut [u8],
     state: &mut [u32],

@@ -28,7 +28,7 @@ pub fn turn(files: &[u8], marks: &mut [u8], j: Job, q: u64) -> Job
     let mut s = j.state;
     let mut steps: u64 = 0;
     let mut place: u64 = 0;
-    let r = grants::tlz_check_grant(
+    let r = grants::grant(
         &files[a..e],
         &mut marks[c..d],
         &mut s,

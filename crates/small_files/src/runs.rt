@@ -1,5 +1,5 @@
 // A check from a fresh state to its verdict.
-use checker::grants;
+use calls::checks;
 
 // What a check came to: -1 or its verdict, the place of a refusal, and the steps it made.
 pub(crate) struct Run {
@@ -11,10 +11,10 @@ pub(crate) struct Run {
 // One grant of 1000 steps.
 pub(crate) fn in_one(file: &[u8], marks: &mut [u8]) -> Run {
     let mut state = [0u32; 34];
-    grants::tlz_check_begin(&mut state);
+    checks::tlz_check_begin(&mut state);
     let mut steps: u64 = 0;
     let mut place: u64 = 0;
-    let verdict = grants::tlz_check_grant(file, marks, &mut state, 1000, &mut steps, &mut place);
+    let verdict = checks::tlz_check_grant(file, marks, &mut state, 1000, &mut steps, &mut place);
     Run {
         verdict,
         place,
@@ -26,7 +26,7 @@ pub(crate) fn in_one(file: &[u8], marks: &mut [u8]) -> Run {
 fn one_more(file: &[u8], marks: &mut [u8], state: &mut [u32], made: u64) -> Run {
     let mut steps: u64 = 0;
     let mut place: u64 = 0;
-    let verdict = grants::tlz_check_grant(file, marks, state, 1, &mut steps, &mut place);
+    let verdict = checks::tlz_check_grant(file, marks, state, 1, &mut steps, &mut place);
     Run {
         verdict,
         place,
@@ -55,6 +55,6 @@ fn each(file: &[u8], marks: &mut [u8], state: &mut [u32]) -> Run {
 
 pub(crate) fn in_many(file: &[u8], marks: &mut [u8]) -> Run {
     let mut state = [0u32; 34];
-    grants::tlz_check_begin(&mut state);
+    checks::tlz_check_begin(&mut state);
     each(file, marks, &mut state)
 }

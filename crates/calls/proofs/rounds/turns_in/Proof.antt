@@ -1,4 +1,4 @@
--- `rounds::turns_in` meets its contract: a walk of its MIR, by hand. The list's borrow is opened once, before the loop, and closed once, after it. In a turn
+-- `calls::rounds::turns_in` meets its contract: a walk of its MIR, by hand. The list's borrow is opened once, before the loop, and closed once, after it. In a turn
 -- the row is taken out of the list, the marks are lent again to `jobs::turns::turn` for a lifetime that is made for the call, and come back, and the row that it
 -- returned is put in the place. Assumes nothing.
 use mathlib.Core.Path.{_≡_, refl, sym, _∙_, ap, subst}
@@ -59,13 +59,13 @@ use Rattle.jobs.proofs.turns.turn as turn
 use Rattle.jobs.proofs.turns.turn.Symbol as turn-def
 use Rattle.jobs.proofs.turns.turn.Symbol.{name as #jobs·turns·turn}
 use Rattle.jobs.proofs.turns.turn.Met as turn-thm
-use Rattle.rounds.proofs.Lent.{Kept, lends-again, comes-back}
-use Rattle.rounds.proofs.Numbers.{place-fits, next-fits, one-below, nearer}
-use Rattle.rounds.proofs.turns_in.Key.{name as #rounds·turns-in}
-use Rattle.rounds.proofs.turns_in as f
-use Rattle.rounds.proofs.turns_in.Statement as stated
-use Rattle.rounds.proofs.turns_in.Code as code
-use Rattle.rounds.proofs.turns_in.Code.Mir as body
+use Rattle.calls.proofs.Lent.{Kept, lends-again, comes-back}
+use Rattle.calls.proofs.Numbers.{place-fits, next-fits, one-below, nearer}
+use Rattle.calls.proofs.rounds.turns_in.Key.{name as #calls·rounds·turns-in}
+use Rattle.calls.proofs.rounds.turns_in as f
+use Rattle.calls.proofs.rounds.turns_in.Statement as stated
+use Rattle.calls.proofs.rounds.turns_in.Code as code
+use Rattle.calls.proofs.rounds.turns_in.Code.Mir as body
 
 abbrev stayed : Stays (f.ended .signature .params) (f.ended .kept)
 stayed = (stay-none-slice (0 ∷ []) tt (plain (λ _. u8)) yes, (stay-slice (1 ∷ []) tt (plain (λ _. u8)), (stay-slice (2 ∷ []) tt (plain (λ _. T.the-row)), (stay-none (λ _. u64) yes, tt))))
@@ -350,6 +350,6 @@ pub turns-in-spec : {M : Type 1} → stated.statement M
 unfolding code.routine tablesOf
 turns-in-spec 𝓤 H 𝓜 𝓖 𝓡 =
     entered 𝓤 H (tripleOf 𝓤 H (𝓖 .A) f.signature (f.spec 𝓤 H (𝓖 .A) (𝓜 .mem) (𝓡 .run)))
-    (tables 𝓤 H 𝓜 𝓡 code.env .C) (tables 𝓤 H 𝓜 𝓡 code.env .Λ) #rounds·turns-in code.function (code.unfolded 𝓤 H 𝓜 𝓡)
+    (tables 𝓤 H 𝓜 𝓡 code.env .C) (tables 𝓤 H 𝓜 𝓡 code.env .Λ) #calls·rounds·turns-in code.function (code.unfolded 𝓤 H 𝓜 𝓡)
     (turns-in-meets 𝓤 H (𝓖 .A) (givenOf 𝓤 H 𝓜 𝓖) (𝓜 .mem) (𝓡 .run) (tablesOf 𝓤 H 𝓜 (tables 𝓤 H 𝓜 𝓡 code.env))
     (cited 𝓤 H (Turn 𝓤 H (𝓖 .A) (𝓜 .mem) (𝓡 .run)) 𝓜 𝓡 code.env #jobs·turns·turn turn-def.routine code.calls-jobs·turns·turn (turn-thm.met 𝓤 H 𝓜 𝓖 𝓡)))

@@ -1,4 +1,4 @@
--- `rounds::places_in` meets its contract: a walk of its MIR, by hand. In a turn the list is looked into, a row is read, and `jobs::rows::with_row` is called.
+-- `calls::rounds::places_in` meets its contract: a walk of its MIR, by hand. In a turn the list is looked into, a row is read, and `jobs::rows::with_row` is called.
 -- Assumes nothing.
 use mathlib.Core.Path.{_≡_, refl, sym, _∙_, ap, subst}
 use Prim.Native.Nat.{ℕ, _+_, _-_, _*_, _≤_, _<_, _^_}
@@ -52,7 +52,7 @@ use Rattle.jobs.specs.declared.parts.Places.{Places}
 use Rattle.jobs.specs.Turns.{noRow, rowAt, partsAt}
 use Rattle.jobs.specs.Gathered.{noPlaces, withParts, gathered}
 use Rattle.jobs.proofs.Gathers.{gather-more}
-use Rattle.rounds.proofs.Numbers.{place-fits, next-fits, one-below, nearer}
+use Rattle.calls.proofs.Numbers.{place-fits, next-fits, one-below, nearer}
 use Rattle.jobs.proofs.turns.Job as T
 use Rattle.jobs.proofs.turns.Job.Laws as T′
 use Rattle.jobs.proofs.parts.Places as S
@@ -65,11 +65,11 @@ use Rattle.jobs.proofs.parts.no_places as no-places
 use Rattle.jobs.proofs.parts.no_places.Symbol as no-places-def
 use Rattle.jobs.proofs.parts.no_places.Symbol.{name as #jobs·parts·no-places}
 use Rattle.jobs.proofs.parts.no_places.Met as no-places-thm
-use Rattle.rounds.proofs.places_in.Key.{name as #rounds·places-in}
-use Rattle.rounds.proofs.places_in as f
-use Rattle.rounds.proofs.places_in.Statement as stated
-use Rattle.rounds.proofs.places_in.Code as code
-use Rattle.rounds.proofs.places_in.Code.Mir as body
+use Rattle.calls.proofs.rounds.places_in.Key.{name as #calls·rounds·places-in}
+use Rattle.calls.proofs.rounds.places_in as f
+use Rattle.calls.proofs.rounds.places_in.Statement as stated
+use Rattle.calls.proofs.rounds.places_in.Code as code
+use Rattle.calls.proofs.rounds.places_in.Code.Mir as body
 
 abbrev stayed : Stays (f.ended .signature .params) (f.ended .kept)
 stayed = (stay-none-slice (0 ∷ []) tt (plain (λ _. T.the-row)) yes, (stay-none (λ _. usize) yes, tt))
@@ -313,7 +313,7 @@ pub places-in-spec : {M : Type 1} → stated.statement M
 unfolding code.routine tablesOf
 places-in-spec 𝓤 H 𝓜 𝓖 𝓡 =
     entered 𝓤 H (tripleOf 𝓤 H (𝓖 .A) f.signature (f.spec 𝓤 H (𝓖 .A) (𝓜 .mem) (𝓡 .run)))
-    (tables 𝓤 H 𝓜 𝓡 code.env .C) (tables 𝓤 H 𝓜 𝓡 code.env .Λ) #rounds·places-in code.function (code.unfolded 𝓤 H 𝓜 𝓡)
+    (tables 𝓤 H 𝓜 𝓡 code.env .C) (tables 𝓤 H 𝓜 𝓡 code.env .Λ) #calls·rounds·places-in code.function (code.unfolded 𝓤 H 𝓜 𝓡)
     (places-in-meets 𝓤 H (𝓖 .A) (givenOf 𝓤 H 𝓜 𝓖) (𝓜 .mem) (𝓡 .run) (tablesOf 𝓤 H 𝓜 (tables 𝓤 H 𝓜 𝓡 code.env))
     (cited 𝓤 H (NoPlaces 𝓤 H (𝓖 .A) (𝓜 .mem) (𝓡 .run)) 𝓜 𝓡 code.env #jobs·parts·no-places no-places-def.routine code.calls-jobs·parts·no-places (no-places-thm.met 𝓤 H 𝓜 𝓖 𝓡))
     (cited 𝓤 H (WithRow 𝓤 H (𝓖 .A) (𝓜 .mem) (𝓡 .run)) 𝓜 𝓡 code.env #jobs·rows·with-row with-row-def.routine code.calls-jobs·rows·with-row (with-row-thm.met 𝓤 H 𝓜 𝓖 𝓡)))

@@ -1,4 +1,4 @@
--- `rounds::tlz_round` meets its contract: a walk of its MIR, by hand. The list is lent as a `&[Job]` to `places_in`, and comes back; the test is made over the parts that were gathered; and unless it
+-- `calls::rounds::tlz_round` meets its contract: a walk of its MIR, by hand. The list is lent as a `&[Job]` to `places_in`, and comes back; the test is made over the parts that were gathered; and unless it
 -- refuses, the marks and the list are lent again to `turns_in`, and come back. All that the proof knows of a callee is that it meets its contract.
 -- Assumes nothing.
 use mathlib.Core.Path.{_≡_, refl, sym, _∙_, ap}
@@ -64,20 +64,20 @@ use Rattle.jobs.proofs.parts.few as few
 use Rattle.jobs.proofs.parts.few.Symbol as few-def
 use Rattle.jobs.proofs.parts.few.Symbol.{name as #jobs·parts·few}
 use Rattle.jobs.proofs.parts.few.Met as few-thm
-use Rattle.rounds.proofs.places_in as places-in
-use Rattle.rounds.proofs.places_in.Symbol as places-in-def
-use Rattle.rounds.proofs.places_in.Symbol.{name as #rounds·places-in}
-use Rattle.rounds.proofs.places_in.Met as places-in-thm
-use Rattle.rounds.proofs.turns_in as turns-in
-use Rattle.rounds.proofs.turns_in.Symbol as turns-in-def
-use Rattle.rounds.proofs.turns_in.Symbol.{name as #rounds·turns-in}
-use Rattle.rounds.proofs.turns_in.Met as turns-in-thm
-use Rattle.rounds.proofs.Lent.{Kept, lends-again, comes-back, KeptShared, shares-again, shared-back}
-use Rattle.rounds.proofs.tlz_round.Key.{name as #rounds·tlz-round}
-use Rattle.rounds.proofs.tlz_round as f
-use Rattle.rounds.proofs.tlz_round.Statement as stated
-use Rattle.rounds.proofs.tlz_round.Code as code
-use Rattle.rounds.proofs.tlz_round.Code.Mir as body
+use Rattle.calls.proofs.rounds.places_in as places-in
+use Rattle.calls.proofs.rounds.places_in.Symbol as places-in-def
+use Rattle.calls.proofs.rounds.places_in.Symbol.{name as #calls·rounds·places-in}
+use Rattle.calls.proofs.rounds.places_in.Met as places-in-thm
+use Rattle.calls.proofs.rounds.turns_in as turns-in
+use Rattle.calls.proofs.rounds.turns_in.Symbol as turns-in-def
+use Rattle.calls.proofs.rounds.turns_in.Symbol.{name as #calls·rounds·turns-in}
+use Rattle.calls.proofs.rounds.turns_in.Met as turns-in-thm
+use Rattle.calls.proofs.Lent.{Kept, lends-again, comes-back, KeptShared, shares-again, shared-back}
+use Rattle.calls.proofs.rounds.tlz_round.Key.{name as #calls·rounds·tlz-round}
+use Rattle.calls.proofs.rounds.tlz_round as f
+use Rattle.calls.proofs.rounds.tlz_round.Statement as stated
+use Rattle.calls.proofs.rounds.tlz_round.Code as code
+use Rattle.calls.proofs.rounds.tlz_round.Code.Mir as body
 
 abbrev stayed : Stays (f.ended .signature .params) (f.ended .kept)
 stayed = (stay-none-slice (0 ∷ []) tt (plain (λ _. u8)) yes, (stay-slice (1 ∷ []) tt (plain (λ _. u8)), (stay-slice (2 ∷ []) tt (plain (λ _. T.the-row)), (stay-none (λ _. u64) yes, tt))))
@@ -219,7 +219,7 @@ module _ {M : Type 1} (𝓤 : URA M) (H : Heap 𝓤) (A : Atoms 𝓤) (W : Given
       move ! (1 ∷ []) $ split ! $ nothing ! $ owned ! u64 (Is u64) (uint-makes 𝓤 H A W w64) q _ (refl, q-fits) $ fjoin ! $ move ! (4 ∷ 0 ∷ []) $ fjoin ! $ move ! (2 ∷ 0 ∷ []) $ fjoin ! $ move ! (1 ∷ 0 ∷ []) $ fjoin ! $
       move ! (1 ∷ 0 ∷ []) $ done !
 
-  module _ (𝓣 : Tables 𝓤 H) (known-turns : Triple 𝓤 (𝓣 .C #rounds·turns-in) (TurnsIn 𝓤 H A mem run)) (l₀ l₁ l₂ l₃ l₄ l₅ l₆ l₇ l₈ l₉ l₁₀ l₁₁ l₁₂ l₁₃ l₁₄ l₁₅ l₁₆ : ℕ) where
+  module _ (𝓣 : Tables 𝓤 H) (known-turns : Triple 𝓤 (𝓣 .C #calls·rounds·turns-in) (TurnsIn 𝓤 H A mem run)) (l₀ l₁ l₂ l₃ l₄ l₅ l₆ l₇ l₈ l₉ l₁₀ l₁₁ l₁₂ l₁₃ l₁₄ l₁₅ l₁₆ : ℕ) where
     abbrev C : Calls 𝓤 H
     C = 𝓣 .C
 
@@ -279,7 +279,7 @@ module _ {M : Type 1} (𝓤 : URA M) (H : Heap 𝓤) (A : Atoms 𝓤) (W : Given
         move ! (38 ∷ 39 ∷ []) $ free1 ! $ move ! (36 ∷ 37 ∷ []) $ free1 ! $ move ! (34 ∷ 35 ∷ []) $ free1 ! $ move ! (32 ∷ 33 ∷ []) $ free1 ! $ move ! (30 ∷ 31 ∷ []) $ free1 ! $ move ! (28 ∷ 29 ∷ []) $ free1 ! $ move ! (26 ∷ 27 ∷ []) $ free1 ! $ move ! (24 ∷ 25 ∷ []) $ free1 ! $ move ! (22 ∷ 23 ∷ []) $ free1 ! $ move ! (20 ∷ 21 ∷ []) $ free1 ! $ move ! (18 ∷ 19 ∷ []) $ free1 ! $ move ! (16 ∷ 17 ∷ []) $ free1 ! $ move ! (14 ∷ 15 ∷ []) $ free1 ! $ move ! (12 ∷ 13 ∷ []) $ free1 ! $ move ! (10 ∷ 11 ∷ []) $ free1 ! $ move ! (8 ∷ 9 ∷ []) $ free1 ! $ move ! (6 ∷ 7 ∷ []) $ free1 ! $ free0 ! $
         by ! (exits (negsuc 0) (vint w32 4294967295) (zs .1 .1 .0) (zs .1 .0) (refl, lit< tt) lm ll (round-goes fs (window ys ms) (length ys) q (window (zs .1 .1 .0) (zs .1 .0)) (sym e ∙ is-false y h) d))))))))))))))
 
-  module _ (𝓣 : Tables 𝓤 H) (known-few : Triple 𝓤 (𝓣 .C #jobs·parts·few) (Few 𝓤 H A mem run)) (known-places : Triple 𝓤 (𝓣 .C #rounds·places-in) (PlacesIn 𝓤 H A mem run)) (known-refused : Triple 𝓤 (𝓣 .C #jobs·parts·is-refused) (Refused 𝓤 H A mem run)) (known-turns : Triple 𝓤 (𝓣 .C #rounds·turns-in) (TurnsIn 𝓤 H A mem run)) where
+  module _ (𝓣 : Tables 𝓤 H) (known-few : Triple 𝓤 (𝓣 .C #jobs·parts·few) (Few 𝓤 H A mem run)) (known-places : Triple 𝓤 (𝓣 .C #calls·rounds·places-in) (PlacesIn 𝓤 H A mem run)) (known-refused : Triple 𝓤 (𝓣 .C #jobs·parts·is-refused) (Refused 𝓤 H A mem run)) (known-turns : Triple 𝓤 (𝓣 .C #calls·rounds·turns-in) (TurnsIn 𝓤 H A mem run)) where
     walk : ent 𝓤 (onEntry 𝓤 H A f.signature (κf, (κm, (κl, tt))) (qf, (qm, (ql, tt))) a vals) (WpFn 𝓤 H (𝓣 .C) (𝓣 .Λ) code.function (sf ∷ sm (length ms) ∷ sl ∷ vint w64 q ∷ []) Post)
     walk =
         qed W ((‵ (flft κf qf) ⊛ ‵ (flft κm qm) ⊛ ‵ (flft κl ql) ⊛ ‵ ftrue) ∷ ‵ (owns (ShrSlice (named 0) κf u8 ∷ MutSlice (named 1) κm u8 ∷ MutSlice (named 2) κl T.the-row ∷ u64 ∷ []) a vals) ∷ []) ∵
@@ -326,7 +326,7 @@ module _ {M : Type 1} (𝓤 : URA M) (H : Heap 𝓤) (A : Atoms 𝓤) (W : Given
         low : (k : ℕ) → k ≡ fewOf (length ys) → (k ≤ length ys) × (k ≤ 8)
         low k e = rw e (few-low (length ys))
 
-module _ {M : Type 1} (𝓤 : URA M) (H : Heap 𝓤) (A : Atoms 𝓤) (W : Given 𝓤 H A) (mem : Memory → SProp 𝓤) (run : Routine → Fun 𝓤) (𝓣 : Tables 𝓤 H) (known-few : Triple 𝓤 (𝓣 .C #jobs·parts·few) (Few 𝓤 H A mem run)) (known-places : Triple 𝓤 (𝓣 .C #rounds·places-in) (PlacesIn 𝓤 H A mem run)) (known-refused : Triple 𝓤 (𝓣 .C #jobs·parts·is-refused) (Refused 𝓤 H A mem run)) (known-turns : Triple 𝓤 (𝓣 .C #rounds·turns-in) (TurnsIn 𝓤 H A mem run)) where
+module _ {M : Type 1} (𝓤 : URA M) (H : Heap 𝓤) (A : Atoms 𝓤) (W : Given 𝓤 H A) (mem : Memory → SProp 𝓤) (run : Routine → Fun 𝓤) (𝓣 : Tables 𝓤 H) (known-few : Triple 𝓤 (𝓣 .C #jobs·parts·few) (Few 𝓤 H A mem run)) (known-places : Triple 𝓤 (𝓣 .C #calls·rounds·places-in) (PlacesIn 𝓤 H A mem run)) (known-refused : Triple 𝓤 (𝓣 .C #jobs·parts·is-refused) (Refused 𝓤 H A mem run)) (known-turns : Triple 𝓤 (𝓣 .C #calls·rounds·turns-in) (TurnsIn 𝓤 H A mem run)) where
   tlz-round-walks : Walks 𝓤 H A f.ended stayed (WpFn 𝓤 H (𝓣 .C) (𝓣 .Λ) code.function) (f.clauses 𝓤 H A mem run)
   tlz-round-walks = walked 𝓤 H A f.ended stayed (f.clauses 𝓤 H A mem run) (WpFn 𝓤 H (𝓣 .C) (𝓣 .Λ) code.function)
       (λ κs. (slice-vals, (slice-vals, (slice-vals, (uint-vals w64, tt))))) (λ κs. (shr-slice-tells (named 0) (κs .0) u8, (mut-slice-tells (named 1) (κs .1 .0) u8, (mut-slice-tells (named 2) (κs .1 .1 .0) T.the-row, (uint-tells w64, tt)))))
@@ -344,9 +344,9 @@ pub tlz-round-spec : {M : Type 1} → stated.statement M
 unfolding code.routine tablesOf
 tlz-round-spec 𝓤 H 𝓜 𝓖 𝓡 =
     entered 𝓤 H (tripleOf 𝓤 H (𝓖 .A) f.signature (f.spec 𝓤 H (𝓖 .A) (𝓜 .mem) (𝓡 .run)))
-    (tables 𝓤 H 𝓜 𝓡 code.env .C) (tables 𝓤 H 𝓜 𝓡 code.env .Λ) #rounds·tlz-round code.function (code.unfolded 𝓤 H 𝓜 𝓡)
+    (tables 𝓤 H 𝓜 𝓡 code.env .C) (tables 𝓤 H 𝓜 𝓡 code.env .Λ) #calls·rounds·tlz-round code.function (code.unfolded 𝓤 H 𝓜 𝓡)
     (tlz-round-meets 𝓤 H (𝓖 .A) (givenOf 𝓤 H 𝓜 𝓖) (𝓜 .mem) (𝓡 .run) (tablesOf 𝓤 H 𝓜 (tables 𝓤 H 𝓜 𝓡 code.env))
     (cited 𝓤 H (Few 𝓤 H (𝓖 .A) (𝓜 .mem) (𝓡 .run)) 𝓜 𝓡 code.env #jobs·parts·few few-def.routine code.calls-jobs·parts·few (few-thm.met 𝓤 H 𝓜 𝓖 𝓡))
-    (cited 𝓤 H (PlacesIn 𝓤 H (𝓖 .A) (𝓜 .mem) (𝓡 .run)) 𝓜 𝓡 code.env #rounds·places-in places-in-def.routine code.calls-rounds·places-in (places-in-thm.met 𝓤 H 𝓜 𝓖 𝓡))
+    (cited 𝓤 H (PlacesIn 𝓤 H (𝓖 .A) (𝓜 .mem) (𝓡 .run)) 𝓜 𝓡 code.env #calls·rounds·places-in places-in-def.routine code.calls-calls·rounds·places-in (places-in-thm.met 𝓤 H 𝓜 𝓖 𝓡))
     (cited 𝓤 H (Refused 𝓤 H (𝓖 .A) (𝓜 .mem) (𝓡 .run)) 𝓜 𝓡 code.env #jobs·parts·is-refused refused-def.routine code.calls-jobs·parts·is-refused (refused-thm.met 𝓤 H 𝓜 𝓖 𝓡))
-    (cited 𝓤 H (TurnsIn 𝓤 H (𝓖 .A) (𝓜 .mem) (𝓡 .run)) 𝓜 𝓡 code.env #rounds·turns-in turns-in-def.routine code.calls-rounds·turns-in (turns-in-thm.met 𝓤 H 𝓜 𝓖 𝓡)))
+    (cited 𝓤 H (TurnsIn 𝓤 H (𝓖 .A) (𝓜 .mem) (𝓡 .run)) 𝓜 𝓡 code.env #calls·rounds·turns-in turns-in-def.routine code.calls-calls·rounds·turns-in (turns-in-thm.met 𝓤 H 𝓜 𝓖 𝓡)))
