@@ -1,6 +1,6 @@
 /*
- * Room for files and their marks: two areas of one length, each allocated at once. A file has the same part of both, so that one
- * list of gaps serves both.
+ * Room for files and their marks: two areas of one length, each allocated at once. A file has the same part of both, so that
+ * one list of gaps serves both.
  */
 #ifndef TOOLS_AREA_H
 #define TOOLS_AREA_H

@@ -39,9 +39,9 @@ struct job {
 /* What a turn of a job came to. */
 struct turn {
     int32_t answer;
-    uint64_t place;  /* of a refusal */
-    uint64_t steps;  /* those made; in a round, which does not tell them, those granted: the same while the check is unfinished */
-    double seconds;  /* of the grant, or of the whole round */
+    uint64_t place; /* of a refusal */
+    uint64_t steps; /* those made; of a round, which does not tell them, those granted: the same where the answer is -1 */
+    double seconds; /* of the grant, or of the whole round */
 };
 
 /* How checks are made, for all files of a run. */
@@ -62,8 +62,8 @@ void job_wait(struct job *job, const char *path);
 void job_unfit(struct job *job, const char *why);
 
 /*
- * Reads the file into a part of an area and begins its check, or takes up the saved one. It is open then, or unchecked, or closed
- * again if it may make no step. False if there is no room for it as long as others have their parts: it waits as before.
+ * Reads the file into a part of an area and begins its check, or takes up the saved one. It is open then, or unchecked, or
+ * closed again if it may make no step. False if there is no room for it as long as others have their parts: it waits as before.
  */
 bool job_open(struct job *job, const struct manner *manner, struct area *area);
 
