@@ -11,14 +11,15 @@
 
 static const char help[] =
     "Usage: cdfnight [OPTION].. DIR\n"
-    "Checks all files below DIR by turns, each granted the same number of steps, until all are done or the window is over;\n"
-    "then reports which are accepted, refused, unfinished and unchecked.\n"
+    "Checks all files below DIR by turns, in rounds of up to eight files with the same number of steps each, until all are done\n"
+    "or the window is over; then reports which are accepted, refused, unfinished and unchecked. One line a file: outcome, number,\n"
+    "steps granted, time, name.\n"
     "\n"
     "  --until HH:MM  the window is over when the local clock next shows this time\n"
     "  --seconds S    the window is over after S seconds\n"
     "  --grant N      N steps a turn (100000)\n"
     "  --limit N      at most N steps a file in this run\n"
-    "  --memory MB    files and marks held at a time (1024); other files wait until there is room\n"
+    "  --memory MB    files and marks held at a time (1024), or as much as the longest file needs; others wait for room\n"
     "  --save DIR     keep unfinished checks in DIR\n"
     "  --resume DIR   go on with the checks that are kept in DIR\n"
     "  --json         a JSON object a file, then one with the counts\n"
