@@ -72,12 +72,13 @@ int main(int count, char **words)
     long rounds = count > 1 ? strtol(words[1], NULL, 10) : 0;
     int32_t answer = TLZ_RUNNING;
     int not_accepted = count < 3;
-    struct night night = { .files = malloc(1) };
+    struct night night = { 0 };
 
     if (count - 2 > TLZ_MOST_JOBS) {
         fprintf(stderr, "nightly: at most %d files\n", TLZ_MOST_JOBS);
         return 2;
     }
+    night.files = malloc(1);
     for (int i = 2; i < count; i++)
         not_accepted |= add(&night, (uint32_t)i, words[i]); /* an owner's number: which word names the file */
     night.marks = malloc(night.length + 1);
@@ -85,13 +86,11 @@ int main(int count, char **words)
         return 2;
     for (long round = 0; round < rounds && answer == TLZ_RUNNING; round++)
         answer = tlz_round(night.files, night.length, night.marks, night.length, night.jobs, night.count, 1000);
-    if (answer != TLZ_RUNNING) {
+    if (answer != TLZ_RUNNING)
         fprintf(stderr, "nightly: the round was refused with %" PRId32 "\n", answer);
-        return 2;
-    }
-    for (size_t i = 0; i < night.count; i++)
+    for (size_t i = 0; i < night.count && answer == TLZ_RUNNING; i++)
         not_accepted |= report(&night, &night.jobs[i], words[night.jobs[i].owner]);
     free(night.files);
     free(night.marks);
-    return not_accepted;
+    return answer == TLZ_RUNNING ? not_accepted : 2;
 }
