@@ -25,7 +25,7 @@ static const char help[] =
     "  --json         a JSON object a file, then one with the counts\n"
     "  --quiet        no lines for accepted files, no progress\n"
     "  --marks        marks are AA hex at first; show the FNV-1a sum of the marks at the end\n"
-    "  --progress     show where a check stands after every grant, also if standard error is no terminal\n"
+    "  --progress     show where the checks stand after every round, also if standard error is no terminal\n"
     "  --help         this text\n"
     "  --version      the version\n"
     "\n"
