@@ -18,7 +18,7 @@ PACKAGES = build/tlepozaluh.pc build/tlepozaluh_read.pc
 # The programs, each tools/NAME.c, with what they share and their own parts; each has a manual page man/NAME.1.
 # cdfread is made of the reader alone.
 PROGRAMS = cdfcheck cdfnight cdfread
-SHARED = $(addprefix tools/,console.c input.c job.c options.c print.c record.c saved.c text.c window.c words.c)
+SHARED = $(addprefix tools/,area.c console.c input.c job.c options.c print.c record.c saved.c text.c window.c words.c)
 READING = $(addprefix tools/,attribute.c console.c input.c look.c options.c record.c text.c values.c variable.c window.c words.c)
 HEADERS = include/tlepozaluh.h $(wildcard tools/*.h)
 
@@ -62,8 +62,9 @@ build/libtlepozaluh_read.a: $(READER)
 
 tools: $(addprefix build/,$(PROGRAMS))
 
-build/cdfnight: OWN = tools/listing.c
-build/cdfnight: tools/listing.c
+NIGHT = $(addprefix tools/,listing.c night.c)
+build/cdfnight: OWN = $(NIGHT)
+build/cdfnight: $(NIGHT)
 
 build/cdf%: tools/cdf%.c $(SHARED) $(HEADERS) build/libtlepozaluh.a
 	$(CC) $(CFLAGS) -DVERSION='"$(VERSION)"' -Iinclude -Itools -o $@ $< $(OWN) $(SHARED) build/libtlepozaluh.a

@@ -29,12 +29,15 @@ static const struct program program = { "cdfcheck", help, CHECK };
 /* Checks a file as long as the window is open. */
 static void check(struct job *job, const struct options *options)
 {
+    struct area area = { .most = 1 };
+
     if (window_over())
         return;
-    job_open(job, &options->manner);
+    job_open(job, &options->manner, &area);
     while (job->open && !window_over())
         job_grant(job, &options->manner);
     job_close(job, &options->manner);
+    area_free(&area);
 }
 
 static void print(const struct job *job, const struct options *options)
@@ -43,9 +46,9 @@ static void print(const struct job *job, const struct options *options)
     if (options->quiet && job->outcome == ACCEPTED)
         return;
     if (options->json)
-        print_json(job, options->manner.marks);
+        print_json(job, "steps", options->manner.marks);
     else
-        print_line(job, options->manner.marks);
+        print_line(job, "steps", options->manner.marks);
 }
 
 int main(int count, char **words)

@@ -2,29 +2,30 @@
 #include "console.h"
 #include "job.h"
 #include "listing.h"
+#include "night.h"
 #include "options.h"
 #include "print.h"
-#include "window.h"
 
 #include <inttypes.h>
 #include <stdio.h>
 
 static const char help[] =
     "Usage: cdfnight [OPTION].. DIR\n"
-    "Checks all files below DIR by turns, each granted the same number of steps, until all are done or the window is over;\n"
-    "then reports which are accepted, refused, unfinished and unchecked.\n"
+    "Checks all files below DIR by turns, in rounds of up to eight files with the same number of steps each, until all are done\n"
+    "or the window is over; then reports which are accepted, refused, unfinished and unchecked. One line a file: outcome, number,\n"
+    "steps granted, time, name.\n"
     "\n"
     "  --until HH:MM  the window is over when the local clock next shows this time\n"
     "  --seconds S    the window is over after S seconds\n"
     "  --grant N      N steps a turn (100000)\n"
     "  --limit N      at most N steps a file in this run\n"
-    "  --memory MB    files and marks held at a time (1024); other files wait until there is room\n"
+    "  --memory MB    files and marks held at a time (1024), or as much as the longest file needs; others wait for room\n"
     "  --save DIR     keep unfinished checks in DIR\n"
     "  --resume DIR   go on with the checks that are kept in DIR\n"
     "  --json         a JSON object a file, then one with the counts\n"
     "  --quiet        no lines for accepted files, no progress\n"
     "  --marks        marks are AA hex at first; show the FNV-1a sum of the marks at the end\n"
-    "  --progress     show where a check stands after every grant, also if standard error is no terminal\n"
+    "  --progress     show where the checks stand after every round, also if standard error is no terminal\n"
     "  --help         this text\n"
     "  --version      the version\n"
     "\n"
@@ -32,65 +33,6 @@ static const char help[] =
     "there is none, or the command line is wrong; 3 a check is unfinished. Of several, 2 is given before 1 and 1 before 3.\n";
 
 static const struct program program = { "cdfnight", help, NIGHT };
-
-/* The files of a night: those before `next` have been begun. */
-struct night {
-    struct found *files;
-    size_t count;
-    size_t next;
-    uint64_t held; /* bytes of open files and their marks, as found */
-    size_t open;
-};
-
-/* Begins the next file. */
-static void begin(struct night *night, const struct manner *manner)
-{
-    struct found *file = &night->files[night->next++];
-
-    if (file->job.outcome == UNFINISHED)
-        job_open(&file->job, manner);
-    if (file->job.open) {
-        night->held += file->need;
-        night->open++;
-    }
-}
-
-/* Begins files as long as there is room for the next one; one alone always has room. */
-static void take_in(struct night *night, const struct options *options)
-{
-    while (night->next < night->count && !window_over()) {
-        uint64_t need = night->files[night->next].need;
-        bool room = night->held <= options->memory && need <= options->memory - night->held;
-        if (!room && night->open > 0)
-            return;
-        begin(night, &options->manner);
-    }
-}
-
-/* A turn for each open file, in order. */
-static void round_of_turns(struct night *night, const struct manner *manner)
-{
-    for (size_t i = 0; i < night->next && !window_over(); i++) {
-        struct found *file = &night->files[i];
-        if (!file->job.open)
-            continue;
-        job_grant(&file->job, manner);
-        if (!file->job.open) {
-            night->held -= file->need;
-            night->open--;
-        }
-    }
-}
-
-static void run(struct night *night, const struct options *options)
-{
-    do {
-        take_in(night, options);
-        round_of_turns(night, &options->manner);
-    } while (!window_over() && (night->open > 0 || night->next < night->count));
-    for (size_t i = 0; i < night->next; i++)
-        job_close(&night->files[i].job, &options->manner);
-}
 
 /* The files of one outcome under its heading. */
 static void section(const struct night *night, const struct options *options, enum outcome outcome, uint64_t count)
@@ -109,10 +51,10 @@ static void section(const struct night *night, const struct options *options, en
         if (job->outcome != outcome || (options->quiet && outcome == ACCEPTED))
             continue;
         if (options->json) {
-            print_json(job, options->manner.marks);
+            print_json(job, "granted", options->manner.marks);
         } else {
             printf("  ");
-            print_line(job, options->manner.marks);
+            print_line(job, "granted", options->manner.marks);
         }
     }
 }
@@ -151,7 +93,7 @@ int main(int count, char **words)
     if (night.files != NULL && night.count == 0)
         console_complain(words[first], "nothing to check", "there is no file in it");
     if (night.files != NULL && night.count > 0) {
-        run(&night, &options);
+        night_run(&night, &options.manner, options.memory);
         listing_sort(night.files, night.count);
         status = report(&night, &options);
     }

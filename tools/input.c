@@ -45,40 +45,67 @@ static bool as_noted(const struct stat *found, const struct input *input)
            found->st_mtim.tv_nsec == input->changed_ns;
 }
 
-/* Reads an open file. */
-static const char *read_open(int fd, struct input *input)
+/* Notes length and time of change of an open file; NULL, or why it cannot be read. */
+static const char *note(struct input *input)
 {
-    struct stat before, after;
+    struct stat found;
+
+    if (fstat(input->fd, &found) != 0)
+        return strerror(errno);
+    input->too_long = S_ISREG(found.st_mode) && found.st_size > TLZ_LONGEST_FILE;
+    if (unfit(&found) != NULL)
+        return unfit(&found);
+    input->length = (size_t)found.st_size;
+    input->changed = found.st_mtim.tv_sec;
+    input->changed_ns = found.st_mtim.tv_nsec;
+    return NULL;
+}
+
+const char *input_open(const char *path, struct input *input)
+{
     const char *why = NULL;
 
-    if (fstat(fd, &before) != 0)
+    memset(input, 0, sizeof *input);
+    input->fd = open(path, O_RDONLY | O_NONBLOCK | O_CLOEXEC | O_NOCTTY);
+    if (input->fd < 0)
         return strerror(errno);
-    why = unfit(&before);
-    input->too_long = S_ISREG(before.st_mode) && before.st_size > TLZ_LONGEST_FILE;
+    why = note(input);
     if (why != NULL)
-        return why;
-    input->length = (size_t)before.st_size;
-    input->changed = before.st_mtim.tv_sec;
-    input->changed_ns = before.st_mtim.tv_nsec;
-    input->bytes = malloc(input->length > 0 ? input->length : 1);
-    if (input->bytes == NULL)
-        return "out of memory";
-    why = read_all(fd, input->bytes, input->length);
-    if (why == NULL && (fstat(fd, &after) != 0 || !as_noted(&after, input)))
-        why = "the file was changed while it was read";
+        input_close(input);
     return why;
+}
+
+const char *input_fill(struct input *input, uint8_t *bytes)
+{
+    struct stat after;
+    const char *why = read_all(input->fd, bytes, input->length);
+
+    if (why == NULL && (fstat(input->fd, &after) != 0 || !as_noted(&after, input)))
+        why = "the file was changed while it was read";
+    input_close(input);
+    input->bytes = bytes;
+    return why;
+}
+
+void input_close(struct input *input)
+{
+    close(input->fd);
+    input->fd = -1;
 }
 
 const char *input_read(const char *path, struct input *input)
 {
-    int fd = open(path, O_RDONLY | O_NONBLOCK | O_CLOEXEC | O_NOCTTY);
-    const char *why = NULL;
+    const char *why = input_open(path, input);
+    uint8_t *bytes = NULL;
 
-    memset(input, 0, sizeof *input);
-    if (fd < 0)
-        return strerror(errno);
-    why = read_open(fd, input);
-    close(fd);
+    if (why != NULL)
+        return why;
+    bytes = malloc(input->length > 0 ? input->length : 1);
+    if (bytes == NULL) {
+        input_close(input);
+        return "out of memory";
+    }
+    why = input_fill(input, bytes);
     if (why != NULL)
         input_free(input);
     return why;

@@ -8,7 +8,6 @@
 #include "words.h"
 
 #include <stdio.h>
-#include <stdlib.h>
 #include <string.h>
 
 /* Long work is work of a quarter of a second. */
@@ -36,12 +35,13 @@ void job_unfit(struct job *job, const char *why)
     set(job, UNCHECKED, NO_NUMBER, why);
 }
 
-/* Gives the buffers back. */
+/* Gives its part back, if it has one. */
 static void drop(struct job *job)
 {
-    input_free(&job->input);
-    free(job->marks);
-    job->marks = NULL;
+    if (job->area != NULL)
+        area_give(job->area, job->from, job->input.length);
+    job->area = NULL;
+    job->input.bytes = job->marks = NULL;
     job->open = false;
 }
 
@@ -57,42 +57,68 @@ static void say_where(struct job *job)
     words_of_state(job->state, body(job), job->why, sizeof job->why);
 }
 
-/* Padding, marks and state, fresh or kept; NULL, or why not. */
+/* Bytes, padding, marks and state, fresh or kept, of a job that has its part; NULL, or why not. */
 static const char *prepare(struct job *job, const struct manner *manner)
 {
     size_t length = job->input.length;
+    const char *why = input_fill(&job->input, job->area->files + job->from);
 
+    if (why != NULL)
+        return why;
     tlz_read_file(job->input.bytes, length, TLZ_FILE_PADDING, &job->padding); /* a refusal leaves it as it is */
-    job->marks = calloc(length > 0 ? length : 1, 1);
-    if (job->marks == NULL)
-        return "out of memory";
-    if (manner->marks)
-        memset(job->marks, 0xaa, length);
+    job->marks = job->area->marks + job->from;
+    memset(job->marks, manner->marks ? 0xaa : 0, length);
     if (tlz_check_begin(job->state, TLZ_STATE_LEN) != TLZ_RUNNING)
         return words_of_number(TLZ_BAD_STATE);
     return manner->resume != NULL ? saved_read(manner->resume, job) : NULL;
 }
 
-void job_open(struct job *job, const struct manner *manner)
+/* A job whose file is in its part and whose state is ready: it is open, unless it may make no step. */
+static void begin(struct job *job, const struct manner *manner)
+{
+    job->open = true;
+    say_where(job);
+    if (job_due(job, manner) == 0)
+        job_close(job, manner);
+}
+
+bool job_open(struct job *job, const struct manner *manner, struct area *area)
 {
     double start = window_clock();
-    const char *why = input_read(job->path, &job->input);
+    const char *why = input_open(job->path, &job->input);
 
-    if (why == NULL)
+    if (why == NULL && area_take(area, job->input.length, &job->from)) {
+        job->area = area;
         why = prepare(job, manner);
+    } else if (why == NULL) {
+        input_close(&job->input);
+        if (area->taken > 0)
+            return false;
+        why = "out of memory";
+    }
     job->seconds += window_clock() - start;
     if (why == NULL) {
-        job->open = true;
-        say_where(job);
-        return;
+        begin(job, manner);
+        return true;
     }
     job->steps = job->before = 0;
     set(job, UNCHECKED, job->input.too_long ? TLZ_TOO_LONG : NO_NUMBER, why);
     drop(job);
+    return true;
 }
 
-/* Takes what a grant answered, and its place. 20 and 21 speak of the state and not of the file, so it was not checked. */
-static void take(struct job *job, int32_t answer, uint64_t place)
+uint64_t job_due(const struct job *job, const struct manner *manner)
+{
+    uint64_t left = manner->limit - (job->steps - job->before);
+    uint64_t countable = UINT64_MAX - job->steps;
+
+    if (left > countable)
+        left = countable;
+    return left < manner->grant ? left : manner->grant;
+}
+
+/* What an answer says, and its place. 20, 21 and 24 speak of state and round and not of the file, so it was not checked. */
+static void judge(struct job *job, int32_t answer, uint64_t place)
 {
     if (answer == TLZ_RUNNING)
         say_where(job);
@@ -121,22 +147,26 @@ static void show(const struct job *job, const struct manner *manner)
     console_progress(job->path, job->why, job->steps);
 }
 
+void job_take(struct job *job, const struct manner *manner, const struct turn *turn)
+{
+    judge(job, turn->answer, turn->place);
+    job->steps += turn->steps;
+    job->seconds += turn->seconds;
+    show(job, manner);
+    if (job->outcome != UNFINISHED || job_due(job, manner) == 0)
+        job_close(job, manner);
+}
+
 void job_grant(struct job *job, const struct manner *manner)
 {
     double start = window_clock();
-    uint64_t left = manner->limit - (job->steps - job->before);
-    uint64_t grant = left < manner->grant ? left : manner->grant;
-    uint64_t steps = 0, place = 0;
+    struct turn turn = { 0 };
     size_t length = job->input.length;
-    int32_t answer = tlz_check_grant(job->input.bytes, length, job->marks, length, job->state, TLZ_STATE_LEN, grant, &steps,
-                                     &place);
 
-    take(job, answer, place);
-    job->steps += steps;
-    job->seconds += window_clock() - start;
-    show(job, manner);
-    if (job->outcome != UNFINISHED || job->steps - job->before >= manner->limit)
-        job_close(job, manner);
+    turn.answer = tlz_check_grant(job->input.bytes, length, job->marks, length, job->state, TLZ_STATE_LEN,
+                                  job_due(job, manner), &turn.steps, &turn.place);
+    turn.seconds = window_clock() - start;
+    job_take(job, manner, &turn);
 }
 
 /* Keeps an unfinished check that has begun; removes what is kept of a finished one. */

@@ -1,7 +1,8 @@
-/* A check of one file: its buffers, where it stands, and what came out of it. */
+/* A check of one file: its part of an area, where it stands, and what came out of it. */
 #ifndef TOOLS_JOB_H
 #define TOOLS_JOB_H
 
+#include "area.h"
 #include "input.h"
 #include "tlepozaluh.h"
 
@@ -19,9 +20,11 @@ struct job {
     const char *path;
     struct input input;
     int32_t padding; /* bytes of the file from its end on, or NO_PADDING */
+    struct area *area; /* where its bytes and marks lie, or NULL .. */
+    size_t from;       /* .. and from where on, in both */
     uint8_t *marks;
     uint32_t state[TLZ_STATE_LEN];
-    uint64_t steps;  /* since the check began .. */
+    uint64_t steps;  /* since the check began, see struct turn .. */
     uint64_t before; /* .. and those of earlier runs among them */
     double seconds;  /* of this run */
     enum outcome outcome;
@@ -30,7 +33,15 @@ struct job {
     uint64_t place;     /* of a refusal: the file offset of the record at fault, or 0 .. */
     const char *record; /* .. and in words what stands there; NULL where it is 0 */
     uint64_t marks_sum; /* of the marks at the end, if asked for */
-    bool open;          /* holds its buffers, and can be granted steps */
+    bool open;          /* can be granted steps */
+};
+
+/* What a turn of a job came to. */
+struct turn {
+    int32_t answer;
+    uint64_t place; /* of a refusal */
+    uint64_t steps; /* those made; of a round, which does not tell them, those granted: the same where the answer is -1 */
+    double seconds; /* of the grant, or of the whole round */
 };
 
 /* How checks are made, for all files of a run. */
@@ -50,13 +61,22 @@ void job_wait(struct job *job, const char *path);
 /* A job whose file cannot be checked, for a reason in words. */
 void job_unfit(struct job *job, const char *why);
 
-/* Reads the file and begins its check, or takes up the saved one; it is open then, or else unchecked. */
-void job_open(struct job *job, const struct manner *manner);
+/*
+ * Reads the file into a part of an area and begins its check, or takes up the saved one. It is open then, or unchecked, or
+ * closed again if it may make no step. False if there is no room for it as long as others have their parts: it waits as before.
+ */
+bool job_open(struct job *job, const struct manner *manner, struct area *area);
 
-/* One grant, of no more steps than the limit leaves. Closes the job if it finishes or has reached its limit. */
+/* The steps of its next turn: those of a grant, or what the limit leaves. */
+uint64_t job_due(const struct job *job, const struct manner *manner);
+
+/* Takes what a turn came to. Closes the job if it is finished or has reached its limit. */
+void job_take(struct job *job, const struct manner *manner, const struct turn *turn);
+
+/* A turn of its own: one grant. */
 void job_grant(struct job *job, const struct manner *manner);
 
-/* Ends a job: keeps it if it is unfinished and is to be saved, and gives its buffers back. */
+/* Ends a job: keeps it if it is unfinished and is to be saved, and gives its part back. */
 void job_close(struct job *job, const struct manner *manner);
 
 /* The word for what came out. */

@@ -43,7 +43,7 @@ static const char *unfit(const struct stat *found, int type)
 }
 
 /* Length of the part of a path that names the owner. */
-static size_t owner_of(const char *path)
+static size_t named_in(const char *path)
 {
     size_t start = base + strspn(path + base, "/");
 
@@ -65,8 +65,8 @@ static int note(const char *path, const struct stat *found, int type, struct FTW
     if (file->path == NULL)
         return ENOMEM;
     file->why = unfit(found, type);
-    file->owner = owner_of(path);
-    file->need = file->why == NULL ? 2 * (uint64_t)found->st_size : 0;
+    file->named = named_in(path);
+    file->length = file->why == NULL && found->st_size <= TLZ_LONGEST_FILE ? (uint64_t)found->st_size : 0;
     length++;
     return 0;
 }
@@ -88,7 +88,7 @@ static int by_turn(const void *a, const void *b)
 /* One owner has both files; in order of paths its files stand together. */
 static bool same_owner(const struct found *a, const struct found *b)
 {
-    return a->owner == b->owner && strncmp(a->path, b->path, a->owner) == 0;
+    return a->named == b->named && strncmp(a->path, b->path, a->named) == 0;
 }
 
 /* A job for a file that was found: unfinished, or unchecked if it is unfit. */
@@ -99,12 +99,15 @@ static void make_job(struct found *file)
         job_unfit(&file->job, file->why);
 }
 
-/* Puts the files in order of turns. */
+/* Numbers the owners, and puts the files in order of turns. */
 static void by_turns(struct found *files, size_t count)
 {
     listing_sort(files, count);
-    for (size_t i = 1; i < count; i++)
-        files[i].rank = same_owner(&files[i], &files[i - 1]) ? files[i - 1].rank + 1 : 0;
+    for (size_t i = 1; i < count; i++) {
+        bool same = same_owner(&files[i], &files[i - 1]);
+        files[i].rank = same ? files[i - 1].rank + 1 : 0;
+        files[i].owner = files[i - 1].owner + (same ? 0 : 1);
+    }
     if (count > 1)
         qsort(files, count, sizeof *files, by_turn);
     for (size_t i = 0; i < count; i++)

@@ -7,10 +7,12 @@
 struct found {
     struct job job;
     char *path;
-    const char *why; /* why it cannot be checked, or NULL */
-    size_t owner;    /* length of the path's part that names the owner: the folder's name and the next */
-    size_t rank;     /* how many files of its owner come before it */
-    uint64_t need;   /* bytes of the file and its marks */
+    const char *why;      /* why it cannot be checked, or NULL */
+    size_t named;         /* length of the path's part that names the owner: the folder's name and the next */
+    uint32_t owner;       /* the owner's number: each has its own */
+    size_t rank;          /* how many files of its owner come before it */
+    uint64_t length;      /* bytes of the file when it was listed, 0 if it cannot be checked */
+    struct found *behind; /* of open files, the one whose turn comes after its own */
 };
 
 /*

@@ -5,13 +5,13 @@
 #include <inttypes.h>
 #include <stdio.h>
 
-void print_line(const struct job *job, bool marks)
+void print_line(const struct job *job, const char *counted, bool marks)
 {
     char number[16] = "-";
 
     if (job->number != NO_NUMBER)
         snprintf(number, sizeof number, "%" PRId32, job->number);
-    printf("%-10s %2s %9" PRIu64 " steps %8.3f s  ", job_word(job->outcome), number, job->steps, job->seconds);
+    printf("%-10s %2s %9" PRIu64 " %s %8.3f s  ", job_word(job->outcome), number, job->steps, counted, job->seconds);
     if (marks)
         printf("marks %016" PRIx64 "  ", job->marks_sum);
     text_name(stdout, job->path);
@@ -42,7 +42,7 @@ static void print_place(const struct job *job)
                job->record);
 }
 
-void print_json(const struct job *job, bool marks)
+void print_json(const struct job *job, const char *counted, bool marks)
 {
     printf("{\"file\": ");
     if (!text_json(stdout, job->path)) {
@@ -55,7 +55,7 @@ void print_json(const struct job *job, bool marks)
     printf(", \"words\": ");
     text_json(stdout, job->why);
     print_place(job);
-    printf(", \"steps\": %" PRIu64 ", \"steps_before\": %" PRIu64, job->steps, job->before);
+    printf(", \"%s\": %" PRIu64 ", \"steps_before\": %" PRIu64, counted, job->steps, job->before);
     printf(", \"seconds\": %.6f", job->seconds);
     print_number("padding", job->padding, NO_PADDING);
     if (marks)

@@ -7,7 +7,7 @@
 /* Seconds of a clock that only goes forward. */
 double window_clock(void);
 
-/* Begins the window. SIGINT and SIGTERM end it from now on, so that a run stops between two grants and saves. */
+/* Begins the window. SIGINT and SIGTERM end it from now on, so that a run stops between two grants or rounds and saves. */
 void window_begin(void);
 
 /* Ends it so many seconds after now. */
