@@ -4,7 +4,7 @@
 # `make neighbours`: each must-fail edit is refused, and its true neighbour is not.
 .PHONY: run examples test neighbours lib tools bench install clean build/tlepozaluh.pc build/tlepozaluh_read.pc
 
-VERSION = 0.5.0
+VERSION = 0.6.0
 PREFIX = /usr/local
 DESTDIR =
 CFLAGS = -std=c11 -O2 -Wall -Wextra -Wpedantic

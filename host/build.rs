@@ -1,5 +1,4 @@
-//! Links the proved checker, rounds and reader, `libchecker.a`, `librounds.a` and `libreader.a`, from the folder that
-//! TLZ_LIB_DIR names.
+//! Links the proved calls of the check and of the reader, `libcalls.a` and `libreader.a`, from the folder that TLZ_LIB_DIR names.
 
 use std::path::{Path, PathBuf};
 
@@ -24,7 +23,7 @@ fn main() {
     let named = std::env::var_os("TLZ_LIB_DIR").unwrap_or_else(|| DEFAULT.into());
     let folder = Path::new(env!("CARGO_MANIFEST_DIR")).join(PathBuf::from(named));
     println!("cargo:rustc-link-search=native={}", folder.display());
-    for name in ["checker", "rounds", "reader"] {
+    for name in ["calls", "reader"] {
         link(&folder, name);
     }
 }
