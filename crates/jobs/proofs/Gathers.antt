@@ -1,5 +1,5 @@
 -- Parts gathered into an array, and what the test of a round says of them. Assumes nothing.
-use mathlib.Core.Path.{_≡_, refl, sym, _∙_, ap}
+use mathlib.Core.Path.{_≡_, refl, _∙_, ap}
 use mathlib.Core.Bool.{Bool, true, false, cond, _||_}
 use Prim.Native.Nat.{ℕ, zero, suc, _+_, _≤_, _<_}
 use native.Mathlib.Numerals.{add-one}
@@ -10,7 +10,7 @@ use lib.Seq.{getD-set-same, getD-set-other}
 use borrow.Author.Tests.{eqb-true, eqb-false, ltb-false}
 use Rattle.jobs.specs.declared.parts.Parts.{Parts}
 use Rattle.jobs.specs.declared.parts.Places.{Places}
-use Rattle.jobs.specs.Parts.{noParts, outside, clash, clashBefore, anyOutside, anyClash, refusedOf}
+use Rattle.jobs.specs.Parts.{noParts, outside, clash, anyOutside, anyClash, refusedOf}
 use Rattle.jobs.specs.Gathered.{partsIn, noPlaces, withParts, gathered, fewOf}
 use Rattle.jobs.proofs.Tests.{any-same}
 

@@ -10,17 +10,16 @@ use lib.IntN.{pos, negsuc}
 use Rattle.checker.specs.declared.state.Stage.{Stage}
 use Rattle.checker.specs.declared.state.Stage.the-variants.{Fresh, Sweep, Walking, Done, Strange}
 use Rattle.checker.specs.declared.state.State.{State}
-use Rattle.checker.specs.Step.{Conf, conf, finished, answerOf, placeIn, runOf}
+use Rattle.checker.specs.Step.{conf, finished, answerOf, placeIn, runOf}
 use Rattle.checker.specs.Saved.{stateLength, save, load}
 use Rattle.checker.specs.Ready.{Loaded}
-use Rattle.checker.specs.Grant.{Granted, granted, worked, grantBy, grantOf}
+use Rattle.checker.specs.Grant.{Granted, grantBy, grantOf}
 use Rattle.checker.proofs.Loads.{load-is, load-save, length-save, not-21}
 use Rattle.checker.proofs.Cases.{Case, idles, refuses, works, case-of, right-length}
 use Rattle.checker.proofs.Sound.{Own as OwnFile, loaded-sound, sound-run, sound-loaded}
 use Rattle.grants.specs.Promises.{comesBack}
 use Rattle.grants.proofs.Any.{every-grant}
-use Rattle.jobs.specs.Turns.{Window}
-use Rattle.promised_rounds.specs.Rounds.{NotRefused, roundsOf, Own, ownOf, grantAlone, grantsAlone, AnyJob, AnyJobs}
+use Rattle.promised_rounds.specs.Rounds.{roundsOf, Own, ownOf, grantAlone, grantsAlone, AnyJobs}
 use Rattle.promised_rounds.proofs.Rounds.{alone-is}
 
 no-place : (g : Stage) → finished g ≡ false → placeIn g ≡ 0

@@ -3,7 +3,7 @@ use mathlib.Core.Path.{_≡_, refl, sym, _∙_, ap}
 use mathlib.Core.Logic.{_↔_, _≢_, _⊎_, inl, inr}
 use mathlib.Core.Bool.{Bool, true, false, not, _&&_, _||_, true≢false}
 use mathlib.Core.List.{List}
-use Prim.Native.Nat.{ℕ, zero, suc, _+_, _≤_, _<_}
+use Prim.Native.Nat.{ℕ, zero, suc, _+_, _<_}
 use native.Mathlib.Omega.{arith}
 use lib.ListN.{length}
 use lib.Dec.{eqb, ltb, leb}
@@ -15,7 +15,7 @@ use Rattle.jobs.specs.Parts.{inside, outside, overlap, clash, clashBefore, anyT
 use Rattle.jobs.specs.Turns.{Window, partsAt, turnsTo, Rounded, rounded}
 use Rattle.jobs.proofs.Tests.{found}
 use Rattle.jobs.proofs.Turning.{round-stops, round-goes}
-use Rattle.promised_rounds.specs.Rounds.{In, Share, roundFrom, SomeOutside, SomeOverlap, NotRefused, Refusals}
+use Rattle.promised_rounds.specs.Rounds.{Share, roundFrom, SomeOutside, SomeOverlap, NotRefused, Refusals}
 
 -- ---- tests
 both-true : (x y : Bool) → x && y ≡ true → (x ≡ true) × (y ≡ true)

@@ -1,7 +1,7 @@
 -- A turn gives one job what a grant by itself gives it, and changes nothing else; and so do the turns of a round. Assumes nothing.
 use mathlib.Core.Path.{_≡_, refl, sym, _∙_, ap, subst}
 use mathlib.Core.Logic.{_⊎_, inl, inr, _≢_}
-use mathlib.Core.Bool.{Bool, true, false, _||_}
+use mathlib.Core.Bool.{Bool, true, false}
 use mathlib.Core.List.{List}
 use Prim.Native.Nat.{ℕ, zero, suc, _+_, _≤_, _<_}
 use native.Mathlib.Omega.{arith}
@@ -9,7 +9,7 @@ use lib.ListN.{length, getD, set, length-set}
 use lib.Seq.{getD-set-same, getD-set-other}
 use lib.Dec.{eqb, ltb}
 use borrow.Author.Tests.{eqb-true, eqb-false, ltb-true, ltb-false}
-use Rattle.checker.specs.Grant.{Granted, grantOf}
+use Rattle.checker.specs.Grant.{Granted}
 use Rattle.grants.proofs.Any.{every-grant}
 use Rattle.jobs.specs.declared.parts.Part.{Part}
 use Rattle.jobs.specs.declared.parts.Parts.{Parts}
