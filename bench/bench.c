@@ -290,7 +290,7 @@ int main(int count, char **names)
         differ += compared(names[i]);
     if (count > 1) {
         printf("%d files, %d differ; %d by grants to their verdict\n", count - 1, differ, carried);
-        return differ != 0;
+        return differ != 0 || carried == 0;
     }
     timed("one record of 64 MB", one_record((size_t)64 << 20));
     timed("1,000,000 listed unused records", unused_records(1000000));

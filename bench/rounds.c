@@ -9,7 +9,7 @@
 #include <stdlib.h>
 #include <string.h>
 
-enum { JOBS = TLZ_MOST_JOBS, RECORDS = 100000, WAYS = 3, TURNS = 31 };
+enum { JOBS = TLZ_MOST_JOBS, RECORDS = 100000, WAYS = 3, TURNS = 33 };
 
 /* The plain check stands where the proved one does: its numbers are those of docs/STATE.md, all others are 0. */
 static int stand_alike(const uint32_t *state, const struct plain_state *plain)
@@ -66,6 +66,12 @@ static void begin(struct lent *l)
     }
 }
 
+static void fail(uint64_t q, const char *why)
+{
+    fprintf(stderr, "rounds of %" PRIu64 " steps: %s\n", q, why);
+    exit(1);
+}
+
 /* A way to make so many rounds of q steps a job. */
 typedef void make_rounds(struct lent *l, uint64_t q, uint64_t count);
 
@@ -73,7 +79,7 @@ static void by_rounds(struct lent *l, uint64_t q, uint64_t count)
 {
     for (uint64_t i = 0; i < count; i++)
         if (tlz_round(l->files, JOBS * l->length, l->marks, JOBS * l->length, l->jobs, JOBS, q) != TLZ_RUNNING)
-            exit(1);
+            fail(q, "a round was refused");
 }
 
 static void by_grants(struct lent *l, uint64_t q, uint64_t count)
@@ -89,7 +95,7 @@ static void by_plain(struct lent *l, uint64_t q, uint64_t count)
 {
     for (uint64_t i = 0; i < count; i++)
         if (plain_round(l->files, JOBS * l->length, l->marks, JOBS * l->length, l->plain, JOBS, q) != TLZ_RUNNING)
-            exit(1);
+            fail(q, "a round in C was refused");
 }
 
 static make_rounds *const ways[WAYS] = { by_rounds, by_grants, by_plain };
@@ -159,7 +165,7 @@ static void timed_rounds(struct lent *l, uint64_t q)
         ways[way](l, q, count);
         times[way][turn] = now() - start;
         if (answered(l, way == 2, TLZ_ACCEPTED) != JOBS)
-            exit(1);
+            fail(q, "a job was not accepted");
     }
     for (int way = 0; way < WAYS; way++)
         took[way] = median(times[way], TURNS);

@@ -1,8 +1,9 @@
 /*
  * A check in plain C that can be put down after any step: opening, sweep, and the walk along the CDR's link, the GDR's heads and
  * the list of unused records, with the numbers, places and steps of the rules. It carries files whose lists of variables and
- * attributes are empty; where one is not, the grant ends with NOT_HERE. It believes its state, which is its own: the ranges of
- * the numbers are not looked at, while the proved check does so in each grant.
+ * attributes are empty; where one is not, the grant ends with NOT_HERE. It does less than the proved check in each grant: it
+ * believes its state, which is its own and has eight numbers, and keeps the file's end in it, while the proved check looks at
+ * the ranges of 34 numbers and finds the end anew.
  */
 #include "turns.h"
 

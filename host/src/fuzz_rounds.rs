@@ -61,14 +61,20 @@ struct Loose {
 /// The most rounds of a window.
 const MOST_ROUNDS: usize = 30;
 
+/// What is wrong with a right window.
+const NOTHING: &str = "nothing";
+
 /// The most bytes between two parts.
 const MOST_GAP: usize = 20;
 
 /// One window, and rounds over it by both.
 pub fn try_window(random: &mut Random, covered: &mut Covered) -> Result<(), Difference> {
-    let begun = any_window(random, covered);
+    let (begun, wrong) = any_window(random, covered);
     let mut window = begun.clone();
     let played = rounds(&mut window, random, covered).and_then(|steps| {
+        if steps.is_empty() == (wrong == NOTHING) {
+            return Err(format!("{} rounds, with {wrong} wrong", steps.len()));
+        }
         let place = random.place(begun.jobs().len());
         as_alone(&begun, &window, place, &steps)
     });
@@ -137,7 +143,9 @@ fn as_alone(begun: &Window, now: &Window, place: usize, steps: &[u64]) -> Result
         return Ok(());
     };
     for steps in steps {
-        alone.round(*steps)?;
+        if alone.round(*steps)? != RUNNING {
+            return Err(format!("row {place} alone is refused"));
+        }
     }
     let same = now.stands_as(place, &alone, 0);
     same.then_some(())
@@ -165,8 +173,8 @@ fn steps_kind(steps: u64) -> &'static str {
     }
 }
 
-/// A window of up to eight jobs, or of nine; one in four has something wrong with it.
-fn any_window(random: &mut Random, covered: &mut Covered) -> Window {
+/// A window of up to eight jobs, or of nine; one in four has something wrong with it, which is told.
+fn any_window(random: &mut Random, covered: &mut Covered) -> (Window, &'static str) {
     let number = if random.once_in(40) { MOST_JOBS + 1 } else { random.place(MOST_JOBS + 1) };
     let loose: Vec<Loose> = (0..number).map(|_| any_job(random, covered)).collect();
     let files: Vec<&[u8]> = loose.iter().map(|job| job.file.as_slice()).collect();
@@ -177,7 +185,7 @@ fn any_window(random: &mut Random, covered: &mut Covered) -> Window {
         (true, _) => "nine rows",
         (false, 0) => spoil(&mut file_parts, files.len(), random),
         (false, 1) => spoil(&mut marks_parts, marks.len(), random),
-        _ => "nothing",
+        _ => NOTHING,
     };
     count(&mut covered.windows, wrong);
     let rows = loose.iter().zip(file_parts.into_iter().zip(marks_parts));
@@ -188,7 +196,7 @@ fn any_window(random: &mut Random, covered: &mut Covered) -> Window {
         file,
         marks,
     });
-    Window::new(&files, &marks, &rows.collect::<Vec<Job>>())
+    (Window::new(&files, &marks, &rows.collect::<Vec<Job>>()), wrong)
 }
 
 /// A file, built or damaged, a state, and marks; a part of another length now and then.
@@ -280,7 +288,7 @@ fn spoil(parts: &mut [Part], area: usize, random: &mut Random) -> &'static str {
     let others = parts.iter().enumerate().filter(|(at, part)| *at != place && part.length > 0);
     let others: Vec<Part> = others.map(|(_, part)| *part).collect();
     let (Some(own), other) = (parts.get_mut(place), random.one_of(&others)) else {
-        return "nothing";
+        return NOTHING;
     };
     let (what, part) = match (random.below(6), other) {
         (0, Some(other)) => ("equal parts", *other),

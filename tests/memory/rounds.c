@@ -123,8 +123,11 @@ static int32_t one_round(struct lent *l, uint64_t q)
     int right = q > 0 && l->count <= TLZ_MOST_JOBS && apart(l, 1) && apart(l, 0);
     int32_t answer = 0;
 
-    for (size_t i = 0; right && i < l->count; i++)
+    for (size_t i = 0; right && i < l->count; i++) {
+        int running = rows[i].state[0] == 0;
         single(files, marks, &rows[i], q);
+        answers[rows[i].answer + 1] += running;
+    }
     answer = tlz_round(l->files, l->files_len, l->marks, l->marks_len, l->jobs, l->count, q);
     rounds++;
     answers[TLZ_BAD_ROUND + 1] += !right;
@@ -132,8 +135,6 @@ static int32_t one_round(struct lent *l, uint64_t q)
     expect(memcmp(l->jobs, rows, l->count * sizeof *rows) == 0, right ? "rows" : "a refused round changed a row");
     expect(l->bare || memcmp(l->files, files, l->files_len) == 0, "the file area was written");
     expect(l->bare || memcmp(l->marks, marks, l->marks_len) == 0, right ? "marks" : "a refused round changed a mark");
-    for (size_t i = 0; right && i < l->count; i++)
-        answers[l->jobs[i].answer + 1]++;
     free(rows);
     free(files);
     free(marks);
@@ -415,10 +416,10 @@ static void some_rounds(void)
     give_back(&l);
 }
 
-/* Each of these came at least once. */
+/* Each of these came at least once, to a job that was not finished before. */
 static void all_met(void)
 {
-    static const int32_t met[] = { -1, 0, 2, 3, 5, 6, 7, 8, 9, 10, 11, 12, 13, 20, 21, 24 };
+    static const int32_t met[] = { -1, 0, 2, 3, 5, 6, 7, 8, 9, 10, 11, 12, 13, 14, 20, 21, 23, 24 };
 
     for (size_t i = 0; i < sizeof met / sizeof *met; i++)
         expect(answers[met[i] + 1] > 0, "an answer never came");

@@ -16,7 +16,7 @@ use Rattle.checker.specs.Grant.{granted, otherFile, worked, grantBy, gra
 use Rattle.checker.proofs.Cases.{right-length, idle}
 
 -- a check that is not finished has no place
-running-place : (g : Stage) → finished g ≡ false → placeIn g ≡ 0
+pub running-place : (g : Stage) → finished g ≡ false → placeIn g ≡ 0
 running-place Fresh e = refl
 running-place (Sweep o) e = refl
 running-place (Walking w up) e = refl

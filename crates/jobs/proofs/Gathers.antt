@@ -65,7 +65,7 @@ unfolding refusedOf
 many p r n files marks q e = rw e (or-left (eqb q 0) (anyOutside p n files marks || anyClash p n) (anyOutside r n files marks || anyClash r n))
 
 -- as the code gathers them: none, where there are more than eight jobs
-pub refused-gathered : (p : ℕ → Parts) (n files marks q : ℕ) → refusedOf (partsIn (gathered p (fewOf n) .row)) n files marks q ≡ refusedOf p n files marks q
+refused-gathered : (p : ℕ → Parts) (n files marks q : ℕ) → refusedOf (partsIn (gathered p (fewOf n) .row)) n files marks q ≡ refusedOf p n files marks q
 refused-gathered p n files marks q = by (ltb 8 n) refl
   where
     by : (y : Bool) → ltb 8 n ≡ y → refusedOf (partsIn (gathered p (cond y 0 n) .row)) n files marks q ≡ refusedOf p n files marks q

@@ -31,7 +31,7 @@ not-off true h = refl
 not-off false h = sym h
 
 -- ---- inside
-pub inside-is : (p : Part) (n : ℕ) → inside p n ≡ true → p .from + p .len ≤ n
+inside-is : (p : Part) (n : ℕ) → inside p n ≡ true → p .from + p .len ≤ n
 unfolding inside
 inside-is p n h = leb-true _ _ h
 

@@ -47,7 +47,7 @@ set-keeps h (x ∷ l) zero a d e (suc k) = refl
 set-keeps h (x ∷ l) (suc i) a d e zero = refl
 set-keeps h (x ∷ l) (suc i) a d e (suc k) = set-keeps h l i a d e k
 
-pub turn-parts : (f : List ℕ) (q : ℕ) (w : Window) (i k : ℕ) → partsAt (turnAt f q w i .rows) k ≡ partsAt (w .rows) k
+turn-parts : (f : List ℕ) (q : ℕ) (w : Window) (i k : ℕ) → partsAt (turnAt f q w i .rows) k ≡ partsAt (w .rows) k
 unfolding jobTurn
 turn-parts f q w i k = set-keeps (λ (j : Job). j .parts) (w .rows) i _ noRow refl k
 

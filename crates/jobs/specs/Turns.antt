@@ -4,6 +4,7 @@ use mathlib.Core.Bool.{cond}
 use mathlib.Core.List.{List, []}
 use lib.ListN.{length, getD, set}
 use lib.IntN.{ℤ, pos, negsuc}
+use Rattle.jobs.specs.declared.parts.Part.{Part}
 use Rattle.jobs.specs.declared.parts.Parts.{Parts}
 use Rattle.jobs.specs.declared.turns.Job.{Job}
 use Rattle.checker.specs.Grant.{Granted, grantOf}
@@ -21,13 +22,13 @@ pub record JobTurned : Type 0 where
 abbrev pub jobTurned : Job → List ℕ → JobTurned
 jobTurned j m = record { row = j; marks = m }
 
--- "a grant of the same q steps" over the job's own parts of the file area f and of the marks area m
-abbrev pub grantedTo : List ℕ → List ℕ → Job → ℕ → Granted
-grantedTo f m j q = grantOf (partOf (j .parts .file) f) (partOf (j .parts .marks) m) (j .state) q
-
--- a job's turn: a grant, which on a finished state repeats the verdict: "a finished one its verdict"
+-- a job's turn: "a grant of the same q steps" over its own parts of the file area f and of the marks area m. On a finished state a grant
+-- repeats the verdict: "a finished one its verdict"
 unfoldable pub jobTurn : List ℕ → List ℕ → Job → ℕ → JobTurned
-jobTurn f m j q = let g = grantedTo f m j q in jobTurned (rowAfter j g) (withPart (j .parts .marks) m (g .marks))
+jobTurn f m j q =
+    let own : Part = j .parts .marks in
+    let g = grantOf (partOf (j .parts .file) f) (partOf own m) (j .state) q in
+    jobTurned (rowAfter j g) (withPart own m (g .marks))
 
 -- "Up to eight jobs share a window": the rows of the list, and the marks area
 pub record Window : Type 0 where

@@ -1,6 +1,6 @@
 -- What a grant leaves is told again by its state; and so for a row. Assumes nothing.
 use mathlib.Core.Path.{_≡_, refl, sym, _∙_, ap, subst}
-use mathlib.Core.Logic.{_≢_}
+use mathlib.Core.Logic.{_≢_, _⊎_, inl, inr}
 use mathlib.Core.Bool.{true, false, true≢false}
 use mathlib.Core.List.{List}
 use Prim.Native.Nat.{ℕ, zero, suc}
@@ -15,6 +15,8 @@ use Rattle.checker.specs.Saved.{stateLength, save, load}
 use Rattle.checker.specs.Ready.{Loaded}
 use Rattle.checker.specs.Grant.{Granted, grantBy, grantOf}
 use Rattle.checker.proofs.Loads.{load-is, load-save, length-save, not-21}
+use Rattle.checker.proofs.Granting.{running-place}
+use Rattle.checker.proofs.Runs.{made-all}
 use Rattle.checker.proofs.Cases.{Case, idles, refuses, works, case-of, right-length}
 use Rattle.checker.proofs.Sound.{Own as OwnFile, loaded-sound, sound-run, sound-loaded}
 use Rattle.grants.specs.Promises.{comesBack}
@@ -22,14 +24,7 @@ use Rattle.grants.proofs.Any.{every-grant}
 use Rattle.promised_rounds.specs.Rounds.{roundsOf, Own, ownOf, grantAlone, grantsAlone, AnyJobs}
 use Rattle.promised_rounds.proofs.Rounds.{alone-is}
 
-no-place : (g : Stage) → finished g ≡ false → placeIn g ≡ 0
-no-place Fresh e = refl
-no-place (Sweep o) e = refl
-no-place (Walking w up) e = refl
-no-place (Done v p) e = absurd (true≢false e)
-no-place Strange e = refl
-
-pub has-verdict : (g : Stage) → answerOf g ≢ negsuc 0 → finished g ≡ true
+has-verdict : (g : Stage) → answerOf g ≢ negsuc 0 → finished g ≡ true
 has-verdict Fresh e = absurd (e refl)
 has-verdict (Sweep o) e = absurd (e refl)
 has-verdict (Walking w up) e = absurd (e refl)
@@ -43,12 +38,23 @@ not-running (Walking w up) e = absurd (true≢false (sym e))
 not-running (Done v p) e = λ d. let z : _≡_ {A = ℕ} 0 1 = cc in omega arith
 not-running Strange e = absurd (true≢false (sym e))
 
--- the state that a grant leaves has its length, its place, and its answer unless that is 21
-record Told (g : Granted) : Type 0 where
+is-running : (g : Stage) → answerOf g ≡ negsuc 0 → finished g ≡ false
+is-running Fresh e = refl
+is-running (Sweep o) e = refl
+is-running (Walking w up) e = refl
+is-running (Done v p) e = absurd (not-running (Done v p) refl e)
+is-running Strange e = refl
+
+not-21-running : pos 21 ≢ negsuc 0
+not-21-running e = let z : _≡_ {A = ℕ} 0 1 = cc in omega arith
+
+-- the state that a grant of n leaves has its length, its place, and its answer unless that is 21; with -1 it made n steps
+record Told (n : ℕ) (g : Granted) : Type 0 where
   count : length (g .state) ≡ stateLength
   place : placeIn (load (g .state) .stage) ≡ g .place
   answer : g .answer ≢ pos 21 → answerOf (load (g .state) .stage) ≡ g .answer
   ended : finished (load (g .state) .stage) ≡ true → (g .answer ≢ negsuc 0) × (g .answer ≢ pos 21)
+  spent : g .answer ≡ negsuc 0 → g .steps ≡ n
 
 module _ (f m l : List ℕ) (n : ℕ) (right : length l ≡ stateLength) where
   abbrev s : State
@@ -64,20 +70,32 @@ module _ (f m l : List ℕ) (n : ℕ) (right : length l ≡ stateLength) where
   neither : (t : State) → Loaded (t .length) (t .stage) → finished (t .stage) ≡ true → (answerOf (t .stage) ≢ negsuc 0) × (answerOf (t .stage) ≢ pos 21)
   neither t h e = (not-running (t .stage) e, not-21 (t .length) (t .stage) h)
 
-  by-case : Case f m l n s → Told (grantBy f m l n s)
-  by-case (idles e c) = subst Told (sym e) (record { count = right; place = refl; answer = λ no-21. refl; ended = neither s (load-is l) })
-  by-case (refuses e o w) = subst Told (sym e) (record { count = right; place = no-place (s .stage) o; answer = λ no-21. absurd (no-21 refl); ended = λ e. absurd (true≢false (sym e ∙ o)) })
+  by-case : Case f m l n s → Told n (grantBy f m l n s)
+  by-case (idles e c) = subst (Told n) (sym e) (record { count = right; place = refl; answer = λ no-21. refl; ended = neither s (load-is l); spent = none-left c })
+    where
+      none-left : (finished (s .stage) ≡ true) ⊎ (n ≡ 0) → answerOf (s .stage) ≡ negsuc 0 → 0 ≡ n
+      none-left (inl d) a = absurd (not-running (s .stage) d a)
+      none-left (inr d) a = sym d
+  by-case (refuses e o w) =
+      subst (Told n) (sym e) (record {
+        count = right;
+        place = running-place (s .stage) o;
+        answer = λ no-21. absurd (no-21 refl);
+        ended = λ e. absurd (true≢false (sym e ∙ o));
+        spent = λ a. absurd (not-21-running a);
+      })
   by-case (works e o z w) =
       let d = at-run w in
-      subst Told (sym e) (record {
+      subst (Told n) (sym e) (record {
         count = length-save (runOf f (conf s m) n .at .state);
         place = ap (λ (t : State). placeIn (t .stage)) d;
         answer = λ no-21. ap (λ (t : State). answerOf (t .stage)) d;
         ended = λ e. neither (runOf f (conf s m) n .at .state) (at-loaded w) (sym (ap (λ (t : State). finished (t .stage)) d) ∙ e);
+        spent = λ a. made-all f (conf s m) n (is-running (runOf f (conf s m) n .at .state .stage) a);
       })
 
-  told : Told (grantOf f m l n)
-  told = subst Told (sym (right-length f m l n right)) (by-case (case-of f m l n s))
+  told : Told n (grantOf f m l n)
+  told = subst (Told n) (sym (right-length f m l n right)) (by-case (case-of f m l n s))
 
 -- ---- a job by itself
 module _ (q : ℕ) (o : Own) (right : length (o .state) ≡ stateLength) where
@@ -89,7 +107,7 @@ module _ (q : ℕ) (o : Own) (right : length (o .state) ≡ stateLength) where
   counts zero = right
   counts (suc r) = told (at r .file) (at r .marks) (at r .state) q (counts r) .count
 
-  told-at : (r : ℕ) → Told (grantOf (at r .file) (at r .marks) (at r .state) q)
+  told-at : (r : ℕ) → Told q (grantOf (at r .file) (at r .marks) (at r .state) q)
   told-at r = told (at r .file) (at r .marks) (at r .state) q (counts r)
 
   number-at : (r : ℕ) → comesBack (at (suc r) .answer) ≡ true
@@ -106,6 +124,14 @@ module _ (q : ℕ) (o : Own) (right : length (o .state) ≡ stateLength) where
   ended-at : (r : ℕ) → finished (load (at (suc r) .state) .stage) ≡ true → (at (suc r) .answer ≢ negsuc 0) × (at (suc r) .answer ≢ pos 21)
   unfolding grantsAlone
   ended-at r e = told-at r .ended e
+
+  spent-at : (r : ℕ) → at (suc r) .answer ≡ negsuc 0 → grantOf (at r .file) (at r .marks) (at r .state) q .steps ≡ q
+  unfolding grantsAlone
+  spent-at r e = told-at r .spent e
+
+  sent-away-at : (r : ℕ) → at (suc r) .answer ≡ pos 21 → grantOf (at r .file) (at r .marks) (at r .state) q .steps ≡ 0
+  unfolding grantsAlone
+  sent-away-at r e = ap (λ (g : Granted). g .steps) (every-grant (at r .file) (at r .marks) (at r .state) q .turned-away e)
 
   place-at : (r : ℕ) (x y : List ℕ) → grantOf x y (at (suc r) .state) 0 .place ≡ grantOf (at r .file) (at r .marks) (at r .state) q .place
   unfolding grantsAlone
@@ -131,6 +157,8 @@ any-jobs f q w k runs h right = record {
   repeats = λ r e. is (suc r) ∙ repeats-at q o right e r;
   verdict = λ r running other. subst (λ (z : Own). Verdict z) (sym (is (suc r))) (verdict-at q o right r) running other;
   unfinished = λ r e. subst (λ (z : Own). Ended z) (sym (is (suc r))) (ended-at q o right r) e;
+  spent = λ r e. ap (λ (z : Own). grantOf (z .file) (z .marks) (z .state) q .steps) (is r) ∙ spent-at q o right r (sym (ap (λ (z : Own). z .answer) (is (suc r))) ∙ e);
+  sent-away = λ r e. ap (λ (z : Own). grantOf (z .file) (z .marks) (z .state) q .steps) (is r) ∙ sent-away-at q o right r (sym (ap (λ (z : Own). z .answer) (is (suc r))) ∙ e);
   place = λ r x y. ap (λ (z : Own). grantOf x y (z .state) 0 .place) (is (suc r)) ∙ place-at q o right r x y ∙ sym (ap (λ (z : Own). grantOf (z .file) (z .marks) (z .state) q .place) (is r));
 }
   where

@@ -31,7 +31,7 @@ module _ (f : List ℕ) (q : ℕ) where
     abbrev at : ℕ → Window
     at r = roundsOf f q w r
 
-    pub kept : (r : ℕ) → Same w (at r) × (tested f q (at r) ≡ false)
+    kept : (r : ℕ) → Same w (at r) × (tested f q (at r) ≡ false)
     unfolding roundsOf
     kept zero = (same-refl w, not-tested f q w runs)
     kept (suc r) =

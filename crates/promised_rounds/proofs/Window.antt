@@ -9,13 +9,13 @@ use lib.ListN.{length, getD, set, length-set}
 use lib.Seq.{getD-set-same, getD-set-other}
 use lib.Dec.{eqb, ltb}
 use borrow.Author.Tests.{eqb-true, eqb-false, ltb-true, ltb-false}
-use Rattle.checker.specs.Grant.{Granted}
+use Rattle.checker.specs.Grant.{Granted, grantOf}
 use Rattle.grants.proofs.Any.{every-grant}
 use Rattle.jobs.specs.declared.parts.Part.{Part}
 use Rattle.jobs.specs.declared.parts.Parts.{Parts}
 use Rattle.jobs.specs.declared.turns.Job.{Job}
 use Rattle.jobs.specs.Parts.{partOf, withPart, outside, overlap, clash, clashBefore, refusedOf}
-use Rattle.jobs.specs.Turns.{rowAfter, grantedTo, jobTurn, Window, window, noRow, rowAt, partsAt, turnAt, turnsTo}
+use Rattle.jobs.specs.Turns.{rowAfter, jobTurn, Window, window, noRow, rowAt, partsAt, turnAt, turnsTo}
 use Rattle.jobs.proofs.Tests.{neither, outside-not, none-at, runs-inside, runs-apart, overlap-swap}
 use Rattle.jobs.proofs.Turning.{set-keeps}
 use Rattle.jobs.proofs.Areas.{part-length, withPart-length, part-same, part-other, withPart-else}
@@ -45,7 +45,7 @@ module _ (f : List ℕ) where
     pub inside : (i : ℕ) → i < length (w .rows) → outside (partsAt (w .rows) i) (length f) (length (w .marks)) ≡ false
     pub apart : (i k : ℕ) → i < length (w .rows) → k < length (w .rows) → i ≢ k → overlap (partsAt (w .rows) i .marks) (partsAt (w .rows) k .marks) ≡ false
 
-  pub fit-same : (w v : Window) → Same w v → Fit w → Fit v
+  fit-same : (w v : Window) → Same w v → Fit w → Fit v
   fit-same w v s fit = record {
     inside = λ i h.
         let g : i < length (w .rows) = rw (s .rows-count) at h in
@@ -89,7 +89,7 @@ module _ (f : List ℕ) where
     p = j .parts .marks
 
     abbrev g : Granted
-    g = grantedTo f (w .marks) j q
+    g = grantOf (partOf (j .parts .file) f) (partOf p (w .marks)) (j .state) q
 
     abbrev next : Window
     next = window (set (w .rows) i (rowAfter j g)) (withPart p (w .marks) (g .marks))
@@ -118,20 +118,20 @@ module _ (f : List ℕ) where
       parts = λ k. set-keeps (λ (z : Job). z .parts) (w .rows) i (rowAfter j g) noRow refl k;
     }
 
-    pub turn-same : Same w (turnAt f q w i)
+    turn-same : Same w (turnAt f q w i)
     turn-same = subst (Same w) (sym turn-is) next-same
 
     abbrev ownBy : Job → List ℕ → Own
     ownBy z m = record { file = partOf (z .parts .file) f; marks = partOf (z .parts .marks) m; state = z .state; answer = z .answer }
 
     -- the job has what its grant leaves
-    pub turn-own : ownOf f (turnAt f q w i) i ≡ grantAlone q (ownOf f w i)
+    turn-own : ownOf f (turnAt f q w i) i ≡ grantAlone q (ownOf f w i)
     turn-own =
         ap (λ (v : Window). ownOf f v i) turn-is ∙ ap (λ (z : Job). ownBy z (next .marks)) row-here
         ∙ ap (λ (m : List ℕ). record { file = partOf (j .parts .file) f; marks = m; state = g .state; answer = g .answer }) (part-same p (w .marks) (g .marks) in-area left)
 
     -- another has what it had
-    pub turn-other : (k : ℕ) → k < length (w .rows) → k ≢ i → ownOf f (turnAt f q w i) k ≡ ownOf f w k
+    turn-other : (k : ℕ) → k < length (w .rows) → k ≢ i → ownOf f (turnAt f q w i) k ≡ ownOf f w k
     turn-other k l ne =
         ap (λ (v : Window). ownOf f v k) turn-is ∙ ap (λ (z : Job). ownBy z (next .marks)) (row-there k ne)
         ∙ ap (λ (m : List ℕ). record { file = partOf (rowAt (w .rows) k .parts .file) f; marks = m; state = rowAt (w .rows) k .state; answer = rowAt (w .rows) k .answer })
@@ -146,7 +146,7 @@ module _ (f : List ℕ) where
         beyond false d = ltb-false x (p .from + p .len) d
 
     -- a mark outside its part stays
-    pub turn-else : (x : ℕ) → (In x p → ⊥) → getD (turnAt f q w i .marks) x 0 ≡ getD (w .marks) x 0
+    turn-else : (x : ℕ) → (In x p → ⊥) → getD (turnAt f q w i .marks) x 0 ≡ getD (w .marks) x 0
     turn-else x free =
         ap (λ (v : Window). getD (v .marks) x 0) turn-is
         ∙ withPart-else p (w .marks) (g .marks) in-area left x (not-in x free (ltb x (p .from)) refl)

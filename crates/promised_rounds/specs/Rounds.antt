@@ -141,6 +141,13 @@ pub record AnyJob (f : List ℕ) (q : ℕ) (w : Window) (k : ℕ) : Type 0 where
   pub unfinished : (r : ℕ)
       → finished (load (ownOf f (roundsOf f q w (suc r)) k .state) .stage) ≡ true
       → (ownOf f (roundsOf f q w (suc r)) k .answer ≢ negsuc 0) × (ownOf f (roundsOf f q w (suc r)) k .answer ≢ pos 21)
+  -- "A grant makes as many steps as it has or as remain": with -1 the turn made all q, with 21 none
+  pub spent : (r : ℕ)
+      → ownOf f (roundsOf f q w (suc r)) k .answer ≡ negsuc 0
+      → grantOf (ownOf f (roundsOf f q w r) k .file) (ownOf f (roundsOf f q w r) k .marks) (ownOf f (roundsOf f q w r) k .state) q .steps ≡ q
+  pub sent-away : (r : ℕ)
+      → ownOf f (roundsOf f q w (suc r)) k .answer ≡ pos 21
+      → grantOf (ownOf f (roundsOf f q w r) k .file) (ownOf f (roundsOf f q w r) k .marks) (ownOf f (roundsOf f q w r) k .state) q .steps ≡ 0
   -- the place that its grant gave, which no row holds, is given by a grant of 0 on its state, whatever file x and marks y are lent
   pub place : (r : ℕ) (x y : List ℕ)
       → grantOf x y (ownOf f (roundsOf f q w (suc r)) k .state) 0 .place
