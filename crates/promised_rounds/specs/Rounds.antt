@@ -8,7 +8,7 @@ use lib.ListN.{length, getD}
 use lib.IntN.{ℤ, pos, negsuc}
 use Rattle.checker.specs.Step.{Conf, fresh, finished, answerOf, placeIn, plainRun}
 use Rattle.checker.specs.Saved.{stateLength, save, load}
-use Rattle.checker.specs.Grant.{grantOf}
+use Rattle.checker.specs.Grant.{Granted, grantOf}
 use Rattle.grants.specs.Promises.{comesBack}
 use Rattle.demands.specs.Acceptance.{Accepted}
 use Rattle.jobs.specs.declared.parts.Part.{Part}
@@ -77,11 +77,16 @@ ownOf f w k =
     let j = rowAt (w .rows) k in
     record { file = partOf (j .parts .file) f; marks = partOf (j .parts .marks) (w .marks); state = j .state; answer = j .answer }
 
--- a grant of q steps to a job by itself, with no other job near; and r of them
+-- and after r rounds
+abbrev pub ownAfter : List ℕ → ℕ → Window → ℕ → ℕ → Own
+ownAfter f q w k r = ownOf f (roundsOf f q w r) k
+
+-- a grant of q steps to a job by itself, with no other job near; what it leaves the job; and r of them
+abbrev pub grantTo : ℕ → Own → Granted
+grantTo q o = grantOf (o .file) (o .marks) (o .state) q
+
 abbrev pub grantAlone : ℕ → Own → Own
-grantAlone q o =
-    let g = grantOf (o .file) (o .marks) (o .state) q in
-    record { file = o .file; marks = g .marks; state = g .state; answer = g .answer }
+grantAlone q o = let g = grantTo q o in record { file = o .file; marks = g .marks; state = g .state; answer = g .answer }
 
 unfoldable pub grantsAlone : ℕ → Own → ℕ → Own
 grantsAlone q o zero = o
@@ -93,7 +98,7 @@ pub record RoundsKept (f : List ℕ) (q : ℕ) (w : Window) : Type 0 where
   pub goes-on : (r : ℕ) → roundFrom f q (roundsOf f q w r) .answer ≡ negsuc 0
   -- "each job's verdicts and marks depend on its own part, its own row and q only": after r rounds its own is what r grants of q steps to
   -- it alone make of it
-  pub alone : (k r : ℕ) → k < length (w .rows) → ownOf f (roundsOf f q w r) k ≡ grantsAlone q (ownOf f w k) r
+  pub alone : (k r : ℕ) → k < length (w .rows) → ownAfter f q w k r ≡ grantsAlone q (ownOf f w k) r
   -- "A round changes nothing else": not the number of rows, an owner or a part, nor the number of marks or a mark in no job's part
   pub rows-count : (r : ℕ) → length (roundsOf f q w r .rows) ≡ length (w .rows)
   pub owners : (k r : ℕ) → rowAt (roundsOf f q w r .rows) k .owner ≡ rowAt (w .rows) k .owner
@@ -118,40 +123,40 @@ Isolated =
     → ownOf f w i .file ≡ ownOf g v k .file
     → ownOf f w i .marks ≡ ownOf g v k .marks
     → ownOf f w i .state ≡ ownOf g v k .state
-    → (r : ℕ) → ownOf f (roundsOf f q w (suc r)) i ≡ ownOf g (roundsOf g q v (suc r)) k
+    → (r : ℕ) → ownAfter f q w i (suc r) ≡ ownAfter g q v k (suc r)
 
 -- ---- A ROW, made up or not: what a grant promises, read per job
 
 -- what is promised of job k of a window whose first round is not refused, with a state of the length docs/ gives
 pub record AnyJob (f : List ℕ) (q : ℕ) (w : Window) (k : ℕ) : Type 0 where
   -- a row's answer is a number that comes back from a check
-  pub number : (r : ℕ) → comesBack (ownOf f (roundsOf f q w (suc r)) k .answer) ≡ true
+  pub number : (r : ℕ) → comesBack (ownAfter f q w k (suc r) .answer) ≡ true
   -- "a finished one its verdict", and nothing else of its own changes
   pub repeats : (r : ℕ)
       → finished (load (ownOf f w k .state) .stage) ≡ true
-      → ownOf f (roundsOf f q w (suc r)) k
+      → ownAfter f q w k (suc r)
       ≡ record { file = ownOf f w k .file; marks = ownOf f w k .marks; state = ownOf f w k .state; answer = answerOf (load (ownOf f w k .state) .stage) }
   -- a row that answers neither -1 nor 21 is finished, with that verdict: so nothing unfinished ever reads as accepted
   pub verdict : (r : ℕ)
-      → ownOf f (roundsOf f q w (suc r)) k .answer ≢ negsuc 0
-      → ownOf f (roundsOf f q w (suc r)) k .answer ≢ pos 21
-      → (finished (load (ownOf f (roundsOf f q w (suc r)) k .state) .stage) ≡ true)
-      × (answerOf (load (ownOf f (roundsOf f q w (suc r)) k .state) .stage) ≡ ownOf f (roundsOf f q w (suc r)) k .answer)
+      → ownAfter f q w k (suc r) .answer ≢ negsuc 0
+      → ownAfter f q w k (suc r) .answer ≢ pos 21
+      → (finished (load (ownAfter f q w k (suc r) .state) .stage) ≡ true)
+      × (answerOf (load (ownAfter f q w k (suc r) .state) .stage) ≡ ownAfter f q w k (suc r) .answer)
   -- and one that answers either of them is not finished
   pub unfinished : (r : ℕ)
-      → finished (load (ownOf f (roundsOf f q w (suc r)) k .state) .stage) ≡ true
-      → (ownOf f (roundsOf f q w (suc r)) k .answer ≢ negsuc 0) × (ownOf f (roundsOf f q w (suc r)) k .answer ≢ pos 21)
+      → finished (load (ownAfter f q w k (suc r) .state) .stage) ≡ true
+      → (ownAfter f q w k (suc r) .answer ≢ negsuc 0) × (ownAfter f q w k (suc r) .answer ≢ pos 21)
   -- "A grant makes as many steps as it has or as remain": with -1 the turn made all q, with 21 none
   pub spent : (r : ℕ)
-      → ownOf f (roundsOf f q w (suc r)) k .answer ≡ negsuc 0
-      → grantOf (ownOf f (roundsOf f q w r) k .file) (ownOf f (roundsOf f q w r) k .marks) (ownOf f (roundsOf f q w r) k .state) q .steps ≡ q
+      → ownAfter f q w k (suc r) .answer ≡ negsuc 0
+      → grantTo q (ownAfter f q w k r) .steps ≡ q
   pub sent-away : (r : ℕ)
-      → ownOf f (roundsOf f q w (suc r)) k .answer ≡ pos 21
-      → grantOf (ownOf f (roundsOf f q w r) k .file) (ownOf f (roundsOf f q w r) k .marks) (ownOf f (roundsOf f q w r) k .state) q .steps ≡ 0
+      → ownAfter f q w k (suc r) .answer ≡ pos 21
+      → grantTo q (ownAfter f q w k r) .steps ≡ 0
   -- the place that its grant gave, which no row holds, is given by a grant of 0 on its state, whatever file x and marks y are lent
   pub place : (r : ℕ) (x y : List ℕ)
-      → grantOf x y (ownOf f (roundsOf f q w (suc r)) k .state) 0 .place
-      ≡ grantOf (ownOf f (roundsOf f q w r) k .file) (ownOf f (roundsOf f q w r) k .marks) (ownOf f (roundsOf f q w r) k .state) q .place
+      → grantOf x y (ownAfter f q w k (suc r) .state) 0 .place
+      ≡ grantTo q (ownAfter f q w k r) .place
 
 abbrev pub AnyJobs : Type 0
 AnyJobs =
@@ -178,21 +183,21 @@ plainAt o q r = plainRun (o .file) (o .marks) (r * q) .at
 -- what is promised of job k of a window whose first round is not refused, where it is begun fresh
 pub record FreshJob (f : List ℕ) (q : ℕ) (w : Window) (k : ℕ) : Type 0 where
   -- "Demand 3 is then read per job": after r rounds its state and marks are the plain run's after r * q steps, and so is its answer
-  pub state-is : (r : ℕ) → ownOf f (roundsOf f q w r) k .state ≡ save (plainAt (ownOf f w k) q r .state)
-  pub marks-are : (r : ℕ) → ownOf f (roundsOf f q w r) k .marks ≡ plainAt (ownOf f w k) q r .marks
-  pub answer-is : (r : ℕ) → ownOf f (roundsOf f q w (suc r)) k .answer ≡ answerOf (plainAt (ownOf f w k) q (suc r) .state .stage)
+  pub state-is : (r : ℕ) → ownAfter f q w k r .state ≡ save (plainAt (ownOf f w k) q r .state)
+  pub marks-are : (r : ℕ) → ownAfter f q w k r .marks ≡ plainAt (ownOf f w k) q r .marks
+  pub answer-is : (r : ℕ) → ownAfter f q w k (suc r) .answer ≡ answerOf (plainAt (ownOf f w k) q (suc r) .state .stage)
   -- and so is the place, by a grant of 0 on its state, whatever file x and marks y are lent
   pub place-is : (r : ℕ) (x y : List ℕ)
-      → grantOf x y (ownOf f (roundsOf f q w r) k .state) 0 .place ≡ placeIn (plainAt (ownOf f w k) q r .state .stage)
+      → grantOf x y (ownAfter f q w k r .state) 0 .place ≡ placeIn (plainAt (ownOf f w k) q r .state .stage)
   -- "ends within (its length / 4 rounded down + 1) / q rounds, rounded up": its state is finished, and its answer is a verdict
   pub ends : (r : ℕ)
       → roundsWithin (partsAt (w .rows) k .file .len) q ≤ r
-      → (finished (load (ownOf f (roundsOf f q w r) k .state) .stage) ≡ true) × (ownOf f (roundsOf f q w r) k .answer ≢ negsuc 0)
+      → (finished (load (ownAfter f q w k r .state) .stage) ≡ true) × (ownAfter f q w k r .answer ≢ negsuc 0)
   -- demand 2 per job: with marks as long as its file the answer is then 0 exactly if the file obeys the rules
   pub accepts : (r : ℕ)
       → roundsWithin (partsAt (w .rows) k .file .len) q ≤ r
       → partsAt (w .rows) k .file .len ≤ partsAt (w .rows) k .marks .len
-      → (ownOf f (roundsOf f q w r) k .answer ≡ pos 0) ↔ Accepted (ownOf f w k .file)
+      → (ownAfter f q w k r .answer ≡ pos 0) ↔ Accepted (ownOf f w k .file)
 
 abbrev pub FreshJobs : Type 0
 FreshJobs =
