@@ -12,6 +12,19 @@
 #include <sys/stat.h>
 #include <unistd.h>
 
+/* Looks for the end of a file whose bytes are read; NULL, or what is there instead. */
+static const char *read_end(int fd)
+{
+    ssize_t got = 0;
+
+    do
+        got = read(fd, &(uint8_t){ 0 }, 1);
+    while (got < 0 && errno == EINTR);
+    if (got < 0)
+        return strerror(errno);
+    return got == 0 ? NULL : "the file has more bytes than its length says";
+}
+
 /* Reads a file of so many bytes; NULL, or why not. */
 static const char *read_all(int fd, uint8_t *bytes, size_t length)
 {
@@ -25,7 +38,7 @@ static const char *read_all(int fd, uint8_t *bytes, size_t length)
             return strerror(errno);
         done += got > 0 ? (size_t)got : 0;
     }
-    return read(fd, &(uint8_t){ 0 }, 1) == 0 ? NULL : "the file has more bytes than its length says";
+    return read_end(fd);
 }
 
 /* What kind of file it is and how long; NULL if it can be checked. */
@@ -80,7 +93,9 @@ const char *input_fill(struct input *input, uint8_t *bytes)
     struct stat after;
     const char *why = read_all(input->fd, bytes, input->length);
 
-    if (why == NULL && (fstat(input->fd, &after) != 0 || !as_noted(&after, input)))
+    if (why == NULL && fstat(input->fd, &after) != 0)
+        why = strerror(errno);
+    else if (why == NULL && !as_noted(&after, input))
         why = "the file was changed while it was read";
     input_close(input);
     input->bytes = bytes;
@@ -111,11 +126,13 @@ const char *input_read(const char *path, struct input *input)
     return why;
 }
 
-bool input_unchanged(const char *path, const struct input *input)
+const char *input_changed(const char *path, const struct input *input)
 {
     struct stat found;
 
-    return stat(path, &found) == 0 && as_noted(&found, input);
+    if (stat(path, &found) != 0)
+        return "the file cannot be looked at again";
+    return as_noted(&found, input) ? NULL : "the file changed while it was checked";
 }
 
 void input_free(struct input *input)

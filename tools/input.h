@@ -33,8 +33,11 @@ void input_close(struct input *input);
 /* Reads a whole file into memory of its own. NULL, or why not; then nothing is held. */
 const char *input_read(const char *path, struct input *input);
 
-/* The file of this name still has the length and time of change that it had when it was read. */
-bool input_unchanged(const char *path, const struct input *input);
+/*
+ * NULL if the file of this name still has the length and time of change that it had when it was read; or in words that it has
+ * not, or that it cannot be seen.
+ */
+const char *input_changed(const char *path, const struct input *input);
 
 /* Gives the memory of input_read back. */
 void input_free(struct input *input);

@@ -184,10 +184,14 @@ static void keep(struct job *job, const struct manner *manner)
 
 void job_close(struct job *job, const struct manner *manner)
 {
+    const char *why = NULL;
+
     if (!job->open)
         return;
-    if (job->outcome != UNFINISHED && !input_unchanged(job->path, &job->input))
-        job_unfit(job, "the file changed while it was checked");
+    if (job->outcome != UNFINISHED)
+        why = input_changed(job->path, &job->input);
+    if (why != NULL)
+        job_unfit(job, why);
     if (manner->marks)
         job->marks_sum = sum_with(SUM_OF_NOTHING, job->marks, job->input.length);
     if (manner->save != NULL)

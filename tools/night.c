@@ -54,14 +54,16 @@ static tlz_job row_of(const struct found *file)
     return row;
 }
 
-/* The place of a finished check: a grant of 0 says it again. */
-static uint64_t place_of(struct job *job)
+/* A grant of 0 says a row's verdict again, and its place. If it says another, row and state do not belong to each other. */
+static void say_again(struct job *job, struct turn *turn)
 {
-    uint64_t steps = 0, place = 0;
+    uint64_t steps = 0;
     size_t length = job->input.length;
+    int32_t again = tlz_check_grant(job->input.bytes, length, job->marks, length, job->state, TLZ_STATE_LEN, 0, &steps,
+                                    &turn->place);
 
-    tlz_check_grant(job->input.bytes, length, job->marks, length, job->state, TLZ_STATE_LEN, 0, &steps, &place);
-    return place;
+    if (again != turn->answer)
+        turn->answer = TLZ_BAD_STATE;
 }
 
 /* Takes a row that had its turn. */
@@ -70,8 +72,8 @@ static void take_row(struct job *job, const struct manner *manner, const tlz_job
     struct turn turn = { .answer = row->answer, .steps = q, .seconds = seconds };
 
     memcpy(job->state, row->state, sizeof row->state);
-    if (row->answer != TLZ_RUNNING)
-        turn.place = place_of(job);
+    if (row->answer != TLZ_RUNNING && row->answer != TLZ_BAD_STATE && row->answer != TLZ_OTHER_FILE)
+        say_again(job, &turn);
     job_take(job, manner, &turn);
 }
 
@@ -81,15 +83,16 @@ static void make_round(struct night *night, const struct manner *manner)
     struct found *group[TLZ_MOST_JOBS];
     tlz_job rows[TLZ_MOST_JOBS];
     size_t count = 0;
-    uint64_t q = manner->grant;
+    uint64_t q = manner->grant, due = 0;
     double start = window_clock(), seconds = 0;
     int32_t answer = 0;
 
     for (; count < TLZ_MOST_JOBS && night->first != NULL; count++) {
         group[count] = leave(night);
         rows[count] = row_of(group[count]);
-        if (job_due(&group[count]->job, manner) < q)
-            q = job_due(&group[count]->job, manner);
+        due = job_due(&group[count]->job, manner);
+        if (due < q)
+            q = due;
     }
     answer = tlz_round(night->area.files, night->area.length, night->area.marks, night->area.length, rows, count, q);
     seconds = window_clock() - start;

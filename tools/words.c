@@ -36,7 +36,8 @@ static const struct meaning meanings[] = {
     { TLZ_OTHER_FILE, "the file's length is not the one noted at opening" },
     { TLZ_RESERVED_OPERAND, "the reserved operand of VAX floats: the exponent is zero and the sign is set" },
     { TLZ_TOO_DEEP, "an index has more than eight levels of records" },
-    { TLZ_BAD_ROUND, "the round was refused, an error of this program: no steps, too many files, or parts that overlap" },
+    { TLZ_BAD_ROUND, "the round was refused, an error of this program: no steps, too many files, a part outside its area, or "
+                     "parts that overlap" },
 };
 
 static const struct meaning types[] = {

@@ -1,6 +1,7 @@
 /*
  * A round in place of the library's, for tests of cdfnight. It tells the length of the areas, q and the rows' owners on standard
- * error and grants each row its steps; or, with ANSWER in the environment, makes every row accepted and gives that answer.
+ * error and grants each row its steps; or, with ANSWER in the environment, gives that answer and makes every row accepted, which
+ * the rows' states do not say.
  */
 #include "tlepozaluh.h"
 

@@ -12,7 +12,7 @@ struct night {
     size_t count;
 };
 
-/* Reads a file into the area, behind those that are there. Gives its length, or -1 if it cannot be read. */
+/* Reads a file into the area, behind those that are there. Gives its length, or -1 if it cannot be read or has grown. */
 static long append(struct night *night, FILE *in)
 {
     long length = fseek(in, 0, SEEK_END) == 0 ? ftell(in) : -1;
@@ -25,7 +25,9 @@ static long append(struct night *night, FILE *in)
         return -1;
     night->files = longer;
     rewind(in);
-    return fread(longer + night->length, 1, (size_t)length, in) == (size_t)length ? length : -1;
+    if (fread(longer + night->length, 1, (size_t)length, in) != (size_t)length)
+        return -1;
+    return fgetc(in) == EOF && !ferror(in) ? length : -1; /* more bytes: they were not there at first */
 }
 
 /* A fresh row for a file, with the same part of both areas. Gives 0 if there is one. */
@@ -48,7 +50,10 @@ static int add(struct night *night, uint32_t owner, const char *name)
     return 0;
 }
 
-/* Accepted is 0 and nothing else; -1 is no verdict. A grant of 0 says a refusal's place. Gives 0 if the file is accepted. */
+/*
+ * Accepted is 0 and nothing else; -1 is no verdict; 20 and 21 speak of the state and not of the file. A grant of 0 says a
+ * refusal's place. Gives 0 if the file is accepted.
+ */
 static int report(const struct night *night, tlz_job *job, const char *name)
 {
     const char *word = "refused";
@@ -58,6 +63,8 @@ static int report(const struct night *night, tlz_job *job, const char *name)
         word = "accepted";
     else if (job->answer == TLZ_RUNNING)
         word = "unfinished";
+    else if (job->answer == TLZ_BAD_STATE || job->answer == TLZ_OTHER_FILE)
+        word = "unchecked";
     tlz_check_grant(night->files + job->file_from, job->file_len, night->marks + job->marks_from, job->marks_len, job->state,
                     TLZ_STATE_LEN, 0, &steps, &where);
     printf("%s %" PRId32 " %s", word, job->answer, name);
