@@ -346,8 +346,8 @@ fn marks_of_another_length() {
     assert!(unwritten.iter().all(|mark| *mark == OLD));
 }
 
-/// Rows with states made up, beside one another: each turn is a grant, no later round is refused, all kinds of answers
-/// come.
+/// Rows with states made up, beside one another: each turn is a grant, no later round is refused, and many kinds of answers
+/// come from rows that were not finished.
 #[test]
 fn made_up_states() {
     let mut random = Random::seeded(6);

@@ -14,7 +14,7 @@ use Rattle.walk.specs.declared.places.Levels.{Levels}
 use Rattle.walk.specs.declared.places.Walk as W
 use Rattle.walk.specs.declared.places.Walk.the-variants.{Start, Vars, Chain, Entry, Attrs, Entries, Unused}
 use Rattle.checker.specs.Saved.{offsetRange, countRange, levelThere, noneThere, levelList, noneOf, levelsStand, levelsRange}
-use Rattle.format.proofs.Tests.{both}
+use Rattle.format.proofs.Tests.{both, either}
 use Rattle.checker.proofs.Placed.{Placed}
 
 -- ---- tested from the last level up
@@ -37,10 +37,6 @@ pub more-tested : (l : Level) {ls : List Level} {n t none there : Bool}
 more-tested l e h k = record { none-is = rw (e, k .none-is); there-is = rw (e, h, k .none-is, k .there-is) }
 
 -- ---- levels and, behind them, none
-either : (a b : Bool) → (a || b) ≡ true → (a ≡ true) ⊎ (b ≡ true)
-either true b e = inl refl
-either false b e = inr e
-
 abbrev Cases : Level → List Level → Type 0
 Cases l ls = ((levelThere l ≡ true) × (levelsStand ls ≡ true)) ⊎ (noneOf (l ∷ ls) ≡ true)
 

@@ -1,5 +1,6 @@
 -- Tests that came out a certain way: what each part of them says. Assumes nothing.
 use mathlib.Core.Path.{_≡_, refl, sym}
+use mathlib.Core.Logic.{_⊎_, inl, inr}
 use mathlib.Core.Bool.{Bool, true, false, cond, true≢false, _&&_, _||_}
 use Prim.Native.Nat.{ℕ, suc}
 use native.Mathlib.Omega.{arith}
@@ -12,6 +13,10 @@ pub neither : (a b : Bool) → (a || b) ≡ false → (a ≡ false) × (b ≡ fa
 neither false false e = (refl, refl)
 neither false true e = absurd (true≢false e)
 neither true b e = absurd (true≢false e)
+
+pub either : (a b : Bool) → (a || b) ≡ true → (a ≡ true) ⊎ (b ≡ true)
+either true b e = inl refl
+either false b e = inr e
 
 -- a number that is 0 comes from the branch that is not a refusal
 pub cond-left : (b : Bool) (v w : ℕ) → cond b w (suc v) ≡ 0 → (b ≡ true) × (w ≡ 0)

@@ -1,34 +1,27 @@
 -- Laws of the tests of a round. Assumes nothing.
 use mathlib.Core.Path.{_≡_, refl, sym}
-use mathlib.Core.Bool.{Bool, true, false, not, _&&_, _||_}
+use mathlib.Core.Bool.{Bool, true, false, not, _||_, and-true, and-false, and-comm, or-true}
 use Prim.Native.Nat.{ℕ, zero, suc, _+_, _-_, _≤_, _<_}
 use native.Mathlib.Numerals.{add-one}
 use native.Mathlib.Omega.{arith}
 use lib.Dec.{leb, ltb, eqb}
-use borrow.Author.Tests.{leb-true, le-leb, ltb-true, lt-ltb, ltb-false, eqb-true, eqb-false, eq-eqb, ne-eqb}
+use borrow.Author.Tests.{not-false, leb-true, le-leb, ltb-true, lt-ltb, ltb-false, eqb-true, eqb-false, eq-eqb, ne-eqb}
+use Rattle.format.proofs.Tests.{neither}
 use Rattle.jobs.specs.declared.parts.Part.{Part}
 use Rattle.jobs.specs.declared.parts.Parts.{Parts}
 use Rattle.jobs.specs.Parts.{inside, outside, overlap, anyTo, anyOutside, anyClash, refusedOf}
 
 -- two tests with one meaning
-both : (x y : Bool) → (x ≡ true → y ≡ true) → (y ≡ true → x ≡ true) → x ≡ y
-both true y f g = sym (f refl)
-both false true f g = g refl
-both false false f g = refl
+alike : (x y : Bool) → (x ≡ true → y ≡ true) → (y ≡ true → x ≡ true) → x ≡ y
+alike true y f g = sym (f refl)
+alike false true f g = g refl
+alike false false f g = refl
 
 pub same-leb : (a b c d : ℕ) → (a ≤ b → c ≤ d) → (c ≤ d → a ≤ b) → leb a b ≡ leb c d
-same-leb a b c d f g = both (leb a b) (leb c d) (λ h. le-leb c d (f (leb-true a b h))) (λ h. le-leb a b (g (leb-true c d h)))
+same-leb a b c d f g = alike (leb a b) (leb c d) (λ h. le-leb c d (f (leb-true a b h))) (λ h. le-leb a b (g (leb-true c d h)))
 
 same-ltb : (a b c d : ℕ) → (a < b → c < d) → (c < d → a < b) → ltb a b ≡ ltb c d
-same-ltb a b c d f g = both (ltb a b) (ltb c d) (λ h. lt-ltb c d (f (ltb-true a b h))) (λ h. lt-ltb a b (g (ltb-true c d h)))
-
-pub neither : (x y : Bool) → x || y ≡ false → (x ≡ false) × (y ≡ false)
-neither true y h = (h, let z : true ≡ false = h in cc)
-neither false y h = (refl, h)
-
-not-off : (x : Bool) → not x ≡ false → x ≡ true
-not-off true h = refl
-not-off false h = sym h
+same-ltb a b c d f g = alike (ltb a b) (ltb c d) (λ h. lt-ltb c d (f (ltb-true a b h))) (λ h. lt-ltb a b (g (ltb-true c d h)))
 
 -- ---- inside
 inside-is : (p : Part) (n : ℕ) → inside p n ≡ true → p .from + p .len ≤ n
@@ -40,17 +33,9 @@ pub outside-not : (p : Parts) (files marks : ℕ) → outside p files marks ≡ 
 unfolding outside
 outside-not p files marks h =
     let e = neither (not (inside (p .file) files)) (not (inside (p .marks) marks)) h in
-    (inside-is (p .file) files (not-off _ (e .0)), inside-is (p .marks) marks (not-off _ (e .1)))
+    (inside-is (p .file) files (not-false _ (e .0)), inside-is (p .marks) marks (not-false _ (e .1)))
 
 -- ---- overlap
-and-true : (x : Bool) → x && true ≡ x
-and-true true = refl
-and-true false = refl
-
-and-false : (x : Bool) → x && false ≡ false
-and-false true = refl
-and-false false = refl
-
 pub first-empty : (p r : Part) → p .len ≡ 0 → overlap p r ≡ false
 unfolding overlap
 first-empty p r e = rw (eq-eqb (p .len) 0 e)
@@ -72,24 +57,14 @@ module _ (p r : Part) (one : p .len ≡ 0 → ⊥) (other : r .len ≡ 0 → ⊥
       rw (ne-eqb (p .len) 0 one, ne-eqb (r .len) 0 other, lt-ltb (r .from) (p .from + p .len) (omega (arith, one)), and-true)
       (same-ltb (p .from - r .from) (r .len) (p .from) (r .from + r .len) (λ h. omega arith) (λ h. omega arith))
 
-and-swap : (x y : Bool) → x && y ≡ y && x
-and-swap true true = refl
-and-swap true false = refl
-and-swap false true = refl
-and-swap false false = refl
-
 pub overlap-swap : (p r : Part) → overlap p r ≡ overlap r p
 unfolding overlap
 overlap-swap p r =
-    let a = and-swap (not (eqb (p .len) 0)) (not (eqb (r .len) 0)) in
-    let b = and-swap (ltb (p .from) (r .from + r .len)) (ltb (r .from) (p .from + p .len)) in
+    let a = and-comm (not (eqb (p .len) 0)) (not (eqb (r .len) 0)) in
+    let b = and-comm (ltb (p .from) (r .from + r .len)) (ltb (r .from) (p .from + p .len)) in
     rw (a, b)
 
 -- ---- some number below n
-or-true : (x : Bool) → x || true ≡ true
-or-true true = refl
-or-true false = refl
-
 pub none-more : (t : ℕ → Bool) (k : ℕ) → anyTo t k ≡ false → t k ≡ false → anyTo t (k + 1) ≡ false
 unfolding anyTo
 none-more t k a b = rw (add-one, a, b)

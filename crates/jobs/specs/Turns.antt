@@ -64,8 +64,8 @@ pub record Rounded : Type 0 where
 abbrev pub rounded : ℤ → Window → Rounded
 rounded a w = record { answer = a; window = w }
 
--- A ROUND over the first n rows: "refused with 24, nothing changed"; or "every unfinished job a grant of the same q steps, in list order, and
--- answers -1"
+-- A ROUND over the first n rows, which are all rows of a lent list, or n of eight by value: "refused with 24, nothing changed"; or "every
+-- unfinished job a grant of the same q steps, in list order, and answers -1"
 unfoldable pub roundOf : List ℕ → Window → ℕ → ℕ → Rounded
 roundOf f w n q =
     cond (refusedOf (partsAt (w .rows)) n (length f) (length (w .marks)) q) (rounded (pos 24) w) (rounded (negsuc 0) (turnsTo f q w n))

@@ -8,7 +8,8 @@ use native.Mathlib.Omega.{arith}
 use lib.ListN.{length}
 use lib.Dec.{eqb, ltb, leb}
 use lib.IntN.{pos, negsuc}
-use borrow.Author.Tests.{eqb-true, eqb-false, eq-eqb, ne-eqb, ltb-true, ltb-false, lt-ltb, leb-false, lt-leb}
+use borrow.Author.Tests.{not-true, eqb-true, eqb-false, eq-eqb, ne-eqb, ltb-true, ltb-false, lt-ltb, leb-false, lt-leb}
+use Rattle.format.proofs.Tests.{both, either}
 use Rattle.jobs.specs.declared.parts.Part.{Part}
 use Rattle.jobs.specs.declared.parts.Parts.{Parts}
 use Rattle.jobs.specs.Parts.{inside, outside, overlap, clash, clashBefore, anyTo, anyOutside, anyClash, refusedOf}
@@ -18,18 +19,6 @@ use Rattle.jobs.proofs.Turning.{round-stops, round-goes}
 use Rattle.promised_rounds.specs.Rounds.{Share, roundFrom, SomeOutside, SomeOverlap, NotRefused, Refusals}
 
 -- ---- tests
-both-true : (x y : Bool) → x && y ≡ true → (x ≡ true) × (y ≡ true)
-both-true true y h = (refl, h)
-both-true false y h = absurd (true≢false (sym h))
-
-not-on : (x : Bool) → not x ≡ true → x ≡ false
-not-on true h = absurd (true≢false (sym h))
-not-on false h = refl
-
-either : (x y : Bool) → x || y ≡ true → (x ≡ true) ⊎ (y ≡ true)
-either true y h = inl refl
-either false y h = inr h
-
 or-right : (x y : Bool) → y ≡ true → x || y ≡ true
 or-right true y h = refl
 or-right false y h = h
@@ -49,7 +38,7 @@ unfolding outside inside
 outside-is p files marks = (to, from)
   where
     past : (r : Part) (n : ℕ) → not (leb (r .from + r .len) n) ≡ true → n < r .from + r .len
-    past r n h = leb-false (r .from + r .len) n (not-on _ h)
+    past r n h = leb-false (r .from + r .len) n (not-true _ h)
 
     beyond : (r : Part) (n : ℕ) → n < r .from + r .len → not (leb (r .from + r .len) n) ≡ true
     beyond r n l = rw (lt-leb (r .from + r .len) n l)
@@ -74,10 +63,10 @@ overlap-is p r = (to, from)
   where
     to : (not (eqb (p .len) 0) && not (eqb (r .len) 0)) && (ltb (p .from) (r .from + r .len) && ltb (r .from) (p .from + p .len)) ≡ true → Share p r
     to h =
-        let a = both-true (not (eqb (p .len) 0) && not (eqb (r .len) 0)) (ltb (p .from) (r .from + r .len) && ltb (r .from) (p .from + p .len)) h in
-        let n = both-true (not (eqb (p .len) 0)) (not (eqb (r .len) 0)) (a .0) in
-        let l = both-true (ltb (p .from) (r .from + r .len)) (ltb (r .from) (p .from + p .len)) (a .1) in
-        shared-by p r (eqb-false (p .len) 0 (not-on _ (n .0))) (eqb-false (r .len) 0 (not-on _ (n .1)))
+        let a = both (not (eqb (p .len) 0) && not (eqb (r .len) 0)) (ltb (p .from) (r .from + r .len) && ltb (r .from) (p .from + p .len)) h in
+        let n = both (not (eqb (p .len) 0)) (not (eqb (r .len) 0)) (a .0) in
+        let l = both (ltb (p .from) (r .from + r .len)) (ltb (r .from) (p .from + p .len)) (a .1) in
+        shared-by p r (eqb-false (p .len) 0 (not-true _ (n .0))) (eqb-false (r .len) 0 (not-true _ (n .1)))
         (ltb-true (p .from) (r .from + r .len) (l .0)) (ltb-true (r .from) (p .from + p .len) (l .1)) (ltb (p .from) (r .from)) refl
 
     from : Share p r → (not (eqb (p .len) 0) && not (eqb (r .len) 0)) && (ltb (p .from) (r .from + r .len) && ltb (r .from) (p .from + p .len)) ≡ true

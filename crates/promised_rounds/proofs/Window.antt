@@ -16,7 +16,8 @@ use Rattle.jobs.specs.declared.parts.Parts.{Parts}
 use Rattle.jobs.specs.declared.turns.Job.{Job}
 use Rattle.jobs.specs.Parts.{partOf, withPart, outside, overlap, clash, clashBefore, refusedOf}
 use Rattle.jobs.specs.Turns.{rowAfter, jobTurn, Window, window, noRow, rowAt, partsAt, turnAt, turnsTo}
-use Rattle.jobs.proofs.Tests.{neither, outside-not, none-at, runs-inside, runs-apart, overlap-swap}
+use Rattle.format.proofs.Tests.{neither}
+use Rattle.jobs.proofs.Tests.{outside-not, none-at, runs-inside, runs-apart, overlap-swap}
 use Rattle.jobs.proofs.Turning.{set-keeps}
 use Rattle.jobs.proofs.Areas.{part-length, withPart-length, part-same, part-other, withPart-else}
 use Rattle.promised_rounds.specs.Rounds.{In, Own, ownOf, grantAlone}
