@@ -4,13 +4,13 @@
 # `make neighbours`: each must-fail edit is refused, and its true neighbour is not.
 .PHONY: run examples test neighbours lib tools bench install clean build/tlepozaluh.pc build/tlepozaluh_read.pc
 
-VERSION = 0.6.0
+VERSION = 0.7.0
 PREFIX = /usr/local
 DESTDIR =
 CFLAGS = -std=c11 -O2 -Wall -Wextra -Wpedantic
 
-# The archives that rt makes, one a crate with calls for C. libtlepozaluh.a has both, libtlepozaluh_read.a the reader alone.
-READER = target/staticlib/libreader.a
+# The archives that rt makes, one a crate with calls for C. libtlepozaluh.a has all, libtlepozaluh_read.a the reader and epochs.
+READER = $(addprefix target/staticlib/,libreader.a libepochs.a)
 ARCHIVES = target/staticlib/libcalls.a $(READER)
 LIBRARIES = build/libtlepozaluh.a build/libtlepozaluh_read.a
 PACKAGES = build/tlepozaluh.pc build/tlepozaluh_read.pc
@@ -50,14 +50,11 @@ target/staticlib/lib%.a: $(wildcard crates/*/src/*.rt)
 ALIGN = objcopy --set-section-alignment '.text.tlz_*=64'
 
 build/libtlepozaluh.a: $(ARCHIVES)
+build/libtlepozaluh_read.a: $(READER)
+$(LIBRARIES):
 	mkdir -p build
 	rm -f $@
-	printf 'create $@\n$(foreach archive,$(ARCHIVES),addlib $(archive)\n)save\nend\n' | ar -M
-	$(ALIGN) $@
-
-build/libtlepozaluh_read.a: $(READER)
-	mkdir -p build
-	cp $(READER) $@
+	printf 'create $@\n$(foreach archive,$^,addlib $(archive)\n)save\nend\n' | ar -M
 	$(ALIGN) $@
 
 tools: $(addprefix build/,$(PROGRAMS))

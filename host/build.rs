@@ -1,4 +1,5 @@
-//! Links the proved calls of the check and of the reader, `libcalls.a` and `libreader.a`, from the folder that TLZ_LIB_DIR names.
+//! Links the proved calls of the check, of the reader and of epochs, `libcalls.a`, `libreader.a` and `libepochs.a`, from the folder that
+//! TLZ_LIB_DIR names.
 
 use std::path::{Path, PathBuf};
 
@@ -23,7 +24,7 @@ fn main() {
     let named = std::env::var_os("TLZ_LIB_DIR").unwrap_or_else(|| DEFAULT.into());
     let folder = Path::new(env!("CARGO_MANIFEST_DIR")).join(PathBuf::from(named));
     println!("cargo:rustc-link-search=native={}", folder.display());
-    for name in ["calls", "reader"] {
+    for name in ["calls", "reader", "epochs"] {
         link(&folder, name);
     }
 }

@@ -5,6 +5,7 @@
  * steps as it likes; the check can be stopped after any grant and taken up again later. Up to eight files can be checked by
  * turns, round by round. The reader answers one question a call, from the file's bytes alone; it needs no check before it. The
  * library allocates nothing, keeps nothing between calls and opens no file. Calls on different buffers may run at the same time.
+ * Epochs, which are values of type 31, are turned into dates and back.
  *
  * A file may be padded: its end is where its GDR says (eof), up to 511 bytes below its length. Bytes from the end on are not
  * judged, and marks from the end on are not written.
@@ -33,7 +34,8 @@ extern "C" {
 
 /*
  * The numbers that come back. A finished check has one of 0 to 14, 20 or 23. A call of the reader gives 0 or one of 15 to
- * 18, 20 or 22; of several refusals it gives the first in the order 20, 15, 16, 17, 18, 22. A round gives -1 or 24.
+ * 18, 20 or 22; of several refusals it gives the first in the order 20, 15, 16, 17, 18, 22. A round gives -1 or 24, a call of
+ * epochs 0 or 27.
  */
 #define TLZ_RUNNING (-1)           /* not finished: no verdict yet */
 #define TLZ_ACCEPTED 0             /* the whole file was checked and keeps every rule */
@@ -66,6 +68,7 @@ extern "C" {
 #define TLZ_TOO_DEEP 23            /* an index has more than eight levels of records */
 #define TLZ_BAD_ROUND 24           /* a round: of 0 steps, of more than TLZ_MOST_JOBS jobs, with a part outside its area, or */
                                    /* with parts that overlap */
+#define TLZ_NO_EPOCH 27            /* no whole number of milliseconds from year 0 to 9999, or a date that does not exist */
 
 /* The reader's 20: the file does not open, or the way to the answer breaks a rule. Never on a file that is accepted. */
 #define TLZ_BAD_WAY 20
@@ -373,6 +376,36 @@ int32_t tlz_read_entry_field(const uint8_t *file, size_t file_len, int64_t attri
  */
 int32_t tlz_read_entry_at(const uint8_t *file, size_t file_len, int64_t attribute, int64_t kind, uint64_t place, uint64_t at,
                           int32_t *field);
+
+/*
+ * Epochs. A value of type 31 is a double that counts milliseconds from the beginning of year 0. Epochs are the whole numbers
+ * from 0 to 315,569,519,999,999, the last millisecond of year 9999; their dates are those of the proleptic Gregorian calendar,
+ * in which year 0 is a leap year. All else is TLZ_NO_EPOCH: a fraction, a negative number, negative zero, a NaN, an infinity,
+ * what is past year 9999, a date that does not exist. A call gives 0 and sets the caller's numbers, or gives TLZ_NO_EPOCH and
+ * leaves them alone.
+ */
+
+/*
+ * The date of an epoch.
+ *
+ *   epoch          a double, such as that of the bits that tlz_read_value gives
+ *   year           set to the year, 0 to 9999
+ *   month, day     set to the month, 1 to 12, and the day of the month, from 1
+ *   milliseconds   set to the milliseconds of the day, 0 to 86,399,999
+ */
+int32_t tlz_epoch_date(double epoch, int32_t *year, int32_t *month, int32_t *day, int32_t *milliseconds);
+
+/*
+ * The epoch of a date: sets *epoch to the one epoch that has this date. The numbers are those of tlz_epoch_date; they have 64
+ * bits so that none is cut before it is judged.
+ */
+int32_t tlz_epoch_from(int64_t year, int64_t month, int64_t day, int64_t milliseconds, double *epoch);
+
+/*
+ * The milliseconds from an epoch b to an epoch a: sets *difference to a - b, exactly; of two equal ones it is +0.
+ * TLZ_NO_EPOCH where a or b is none.
+ */
+int32_t tlz_epoch_difference(double a, double b, double *difference);
 
 #ifdef __cplusplus
 }
