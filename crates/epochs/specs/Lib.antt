@@ -1,0 +1,5 @@
+pub mod Calendar
+pub mod Epochs
+pub mod Shown
+pub mod Promises
+pub mod Examples

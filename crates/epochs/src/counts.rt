@@ -1,0 +1,79 @@
+// Epochs as counts of milliseconds from the beginning of year 0.
+ghost use mathlib.Core.Path.{_≡_};
+ghost use Rattle.format.specs.Fields.{natOr};
+ghost use Rattle.epochs.specs.Calendar.{date};
+ghost use Rattle.epochs.specs.Epochs.{countOf, isEpoch, isMoment, countMoment, countFrom};
+use crate::calendar;
+
+// A whole number of milliseconds of the years 0 to 9999, or that there is none.
+pub enum Count {
+    Whole(u64),
+    NoEpoch,
+}
+
+// The count of a double: its whole part, if that is the same double again. A whole part is had of a number above -1 and below 2^64,
+// which a NaN is not; negative zero has other bits than 0.
+pub fn count_of(x: f64) -> Count
+    ensures { λ r. ⌜ r ≡ countOf x ⌝ }
+{
+    if !(x > -1.0) {
+        return Count::NoEpoch;
+    }
+    if !(x < 18446744073709551616.0) {
+        return Count::NoEpoch;
+    }
+    let n = std::num::truncating_f64_to_u64(x);
+    if 315569519999999 < n {
+        return Count::NoEpoch;
+    }
+    if f64::to_bits(n as f64) != f64::to_bits(x) {
+        return Count::NoEpoch;
+    }
+    Count::Whole(n)
+}
+
+// A double is an epoch.
+pub fn is_epoch(x: f64) -> bool
+    ensures { λ r. ⌜ r ≡ isEpoch x ⌝ }
+{
+    match count_of(x) {
+        Count::Whole(_) => true,
+        Count::NoEpoch => false,
+    }
+}
+
+// A date of the years 0 to 9999 and milliseconds of the day.
+fn is_moment(y: u64, m: u64, d: u64, t: u64) -> bool
+    ensures { λ r. ⌜ r ≡ isMoment (date y m d) t ⌝ }
+{
+    (y <= 9999) & (calendar::is_date(y, m, d) & (t < 86400000))
+}
+
+// The count at a date and a millisecond of the day.
+fn count_moment(y: u64, m: u64, d: u64, t: u64) -> Count
+    ensures { λ r. ⌜ r ≡ countMoment (date y m d) t ⌝ }
+{
+    if !is_moment(y, m, d, t) {
+        return Count::NoEpoch;
+    }
+    Count::Whole(calendar::days_before(y, m, d) * 86400000 + t)
+}
+
+// A number that is not negative; for one that is, a number beyond every year, month, day and millisecond of the day.
+fn natural(x: i64) -> u64
+    ensures { λ r. ⌜ r ≡ natOr 99999999 x ⌝ }
+{
+    if x < 0 { 99999999 } else { x as u64 }
+}
+
+// The count at a date and a millisecond of the day that a caller gives.
+pub fn count_from(year: i64, month: i64, day: i64, milliseconds: i64) -> Count
+    ensures { λ r. ⌜ r ≡ countFrom year month day milliseconds ⌝ }
+{
+    count_moment(
+        natural(year),
+        natural(month),
+        natural(day),
+        natural(milliseconds),
+    )
+}
