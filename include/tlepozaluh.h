@@ -10,8 +10,8 @@
  * A file may be padded: its end is where its GDR says (eof), up to 511 bytes below its length. Bytes from the end on are not
  * judged, and marks from the end on are not written.
  *
- * Link with libtlepozaluh.a, or with libtlepozaluh_read.a for the reader alone. docs/INTERFACE.md has worked programs,
- * docs/STATE.md describes the saved state.
+ * Link with libtlepozaluh.a, or with libtlepozaluh_read.a for the reader and epochs alone. docs/INTERFACE.md has worked
+ * programs, docs/STATE.md describes the saved state.
  */
 #ifndef TLEPOZALUH_H
 #define TLEPOZALUH_H
@@ -68,7 +68,7 @@ extern "C" {
 #define TLZ_TOO_DEEP 23            /* an index has more than eight levels of records */
 #define TLZ_BAD_ROUND 24           /* a round: of 0 steps, of more than TLZ_MOST_JOBS jobs, with a part outside its area, or */
                                    /* with parts that overlap */
-#define TLZ_NO_EPOCH 27            /* no whole number of milliseconds from year 0 to 9999, or a date that does not exist */
+#define TLZ_NO_EPOCH 27            /* no whole number of milliseconds of the years 0 to 9999, or no such date or time of day */
 
 /* The reader's 20: the file does not open, or the way to the answer breaks a rule. Never on a file that is accepted. */
 #define TLZ_BAD_WAY 20
@@ -76,7 +76,8 @@ extern "C" {
 /*
  * Pointers. No pointer is null, also where a length is 0; each is valid for its length and aligned for its type. A buffer
  * of length 0 is not read or written. All buffers are the caller's before, during and after a call. What a call may write
- * (state, marks, jobs, *steps, *where, the numbers that the reader sets) overlaps no other buffer or number of that call.
+ * (state, marks, jobs, *steps, *where, the numbers that the reader and the calls of epochs set) overlaps no other buffer or
+ * number of that call.
  */
 
 /*
@@ -381,8 +382,8 @@ int32_t tlz_read_entry_at(const uint8_t *file, size_t file_len, int64_t attribut
  * Epochs. A value of type 31 is a double that counts milliseconds from the beginning of year 0. Epochs are the whole numbers
  * from 0 to 315,569,519,999,999, the last millisecond of year 9999; their dates are those of the proleptic Gregorian calendar,
  * in which year 0 is a leap year. All else is TLZ_NO_EPOCH: a fraction, a negative number, negative zero, a NaN, an infinity,
- * what is past year 9999, a date that does not exist. A call gives 0 and sets the caller's numbers, or gives TLZ_NO_EPOCH and
- * leaves them alone.
+ * what is past year 9999; a date that does not exist or is not of these years, milliseconds that are not of a day. A call gives
+ * 0 and sets the caller's numbers, or gives TLZ_NO_EPOCH and leaves them alone.
  */
 
 /*

@@ -38,7 +38,7 @@ static const struct meaning meanings[] = {
     { TLZ_TOO_DEEP, "an index has more than eight levels of records" },
     { TLZ_BAD_ROUND, "the round was refused, an error of this program: no steps, too many files, a part outside its area, or "
                      "parts that overlap" },
-    { TLZ_NO_EPOCH, "no whole number of milliseconds from year 0 to 9999, or a date that does not exist" },
+    { TLZ_NO_EPOCH, "no whole number of milliseconds of the years 0 to 9999, or no such date or time of day" },
 };
 
 static const struct meaning types[] = {
