@@ -16,7 +16,7 @@ LIBRARIES = build/libtlepozaluh.a build/libtlepozaluh_read.a
 PACKAGES = build/tlepozaluh.pc build/tlepozaluh_read.pc
 
 # The programs, each tools/NAME.c, with what they share and their own parts; each has a manual page man/NAME.1.
-# cdfread is made of the reader alone.
+# cdfread is made of the reader and epochs alone.
 PROGRAMS = cdfcheck cdfnight cdfread
 SHARED = $(addprefix tools/,area.c console.c input.c job.c options.c print.c record.c saved.c text.c window.c words.c)
 READING = $(addprefix tools/,attribute.c console.c input.c look.c options.c record.c text.c values.c variable.c window.c words.c)
