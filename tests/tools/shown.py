@@ -96,7 +96,8 @@ def asked(cdfread, status, *words):
 
 def compare_values(cdfread, path, kind, doubles, refused):
     """What is printed of the two variables of a made file: a line a record, and all on one line."""
-    texts, wanted, status = [text_of(each, kind) for each in doubles], [json_of(each, kind) for each in doubles], 1 if refused else 0
+    texts, wanted = [text_of(each, kind) for each in doubles], [json_of(each, kind) for each in doubles]
+    status = 1 if refused else 0
     expected = [f"{i}: {text}" for i, text in enumerate(texts)]
     assert asked(cdfread, status, path, "z", 0).splitlines() == expected + refused, path
     assert asked(cdfread, status, path, "z", 1).splitlines() == ["0: " + " ".join(texts)] + refused, path
