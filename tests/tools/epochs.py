@@ -50,7 +50,7 @@ def make(encoding, kind, path, pad, *numbers):
 
 
 def around_months():
-    """Milliseconds around the beginning of each month of years of each kind, and around noon of the day before."""
+    """Milliseconds around the beginning of each month of years of each kind, and noon of the day before."""
     for year in (0, 1, 4, 99, 100, 399, 400, 1582, 1600, 1700, 1900, 1970, 1999, 2000, 2004, 2100, 9996, 9999):
         before = 365 * year + (year + 3) // 4 - (year + 99) // 100 + (year + 399) // 400
         for month in range(12):
