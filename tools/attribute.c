@@ -58,6 +58,14 @@ static const char *letter(const struct entry *entry)
     return entry->of->scope == 1 ? "g" : "r";
 }
 
+/* The values of an entry. */
+static void print_elements(struct source *source, const struct entry *e, const char *between)
+{
+    const struct elements elements = { read_element, e, e->type, e->elements };
+
+    values_print(source, &elements, between);
+}
+
 /* Characters are one string, and no list. */
 static bool is_text(const struct entry *entry)
 {
@@ -68,7 +76,7 @@ static void entry_text(struct source *source, const struct entry *e)
 {
     printf("  %sEntry %" PRId32 " %s (%" PRId32 ") x %" PRId32 ": ", letter(e), e->number, words_of_type(e->type), e->type,
            e->elements);
-    values_print(source, read_element, e, e->elements, " ");
+    print_elements(source, e, " ");
     printf("\n");
 }
 
@@ -78,7 +86,7 @@ static void entry_json(struct source *source, const struct entry *e)
            ", \"values\": ",
            letter(e), e->number, e->type, words_of_type(e->type), e->elements);
     printf("%s", is_text(e) ? "" : "[");
-    values_print(source, read_element, e, e->elements, ", ");
+    print_elements(source, e, ", ");
     printf("%s}", is_text(e) ? "" : "]");
 }
 

@@ -29,13 +29,22 @@ struct value {
 /* Reads element `element` of what is asked for. */
 typedef int32_t values_read(const struct source *source, const void *asked, int64_t element, struct value *value);
 
+/* Elements that are asked for, how each of them is read, and their data type. */
+struct elements {
+    values_read *read;
+    const void *asked;
+    int32_t type;
+    int64_t count;
+};
+
 /* Prints bytes as a string: ASCII, the rest as \xNN, or as JSON, where codes from 80 hex on are U+0080 to U+00FF. */
 void values_string(const struct source *source, const uint8_t *bytes, size_t length);
 
 /*
- * Prints so many elements: numbers with what is given between them, characters together as one string. Nothing of them is
- * printed if the first is refused; a reserved operand is shown as reserved, in JSON a string. Gives the answer that ended it.
+ * Prints elements: numbers with what is given between them, characters together as one string. Nothing of them is printed if
+ * the first is refused; a reserved operand is shown as reserved, in JSON a string. An epoch that has a date is shown as that,
+ * in JSON with its number; any other is a number. Gives the answer that ended it.
  */
-int32_t values_print(struct source *source, values_read *read, const void *asked, int64_t elements, const char *between);
+int32_t values_print(struct source *source, const struct elements *elements, const char *between);
 
 #endif

@@ -52,10 +52,12 @@ static int32_t read_pad(const struct source *source, const void *asked, int64_t 
 /* The pad value, or that there is none. */
 static void print_pad(struct source *source, const struct variable *variable)
 {
+    const struct elements pad = { read_pad, variable, variable->type, variable->elements };
+
     if ((variable->flags & TLZ_FLAG_PAD) == 0)
         fputs(source->json ? "null" : "none", stdout);
     else
-        values_print(source, read_pad, variable, variable->elements, " ");
+        values_print(source, &pad, " ");
 }
 
 static const char *letter(const struct variable *variable)
@@ -202,6 +204,7 @@ static void print_place(const struct asked *asked)
 static int32_t print_values(struct source *source, struct asked *asked)
 {
     const struct variable *v = asked->variable;
+    const struct elements value = { read_value, asked, v->type, v->elements };
     int32_t last = v->dimensions - 1, answer = 0;
     bool more = true, begins = true;
 
@@ -209,7 +212,7 @@ static int32_t print_values(struct source *source, struct asked *asked)
         if (!source->json && begins)
             print_place(asked);
         fputs(source->json ? (begins ? "" : ", ") : " ", stdout);
-        answer = values_print(source, read_value, asked, v->elements, " ");
+        answer = values_print(source, &value, " ");
         more = advance(asked, v->dimensions);
         begins = !source->json && (last < 0 || asked->indices[last] == 0);
         if (begins && answer == 0)

@@ -1,8 +1,8 @@
 """Compares what cdfread prints as JSON with the dumps of another reader: dumps.py CDFREAD SAMPLES
 
 Every variable, record, value, pad value, attribute and entry of every sample. A float is turned back into its bits, so that
-it is seen to read back exactly; in encodings 3, 14 and 15 each is a double, or the reserved operand. Prints how many samples,
-lines and values were compared; exits with 1 if one differs.
+it is seen to read back exactly; in encodings 3, 14 and 15 each is a double, or the reserved operand. In type 31 a number that has a
+date has it beside it. Prints how many samples, lines, values and dates were compared; exits with 1 if one differs.
 """
 import itertools
 import json
@@ -12,12 +12,15 @@ import struct
 import subprocess
 import sys
 
+from shown import number_of
+
 cdfread, folder = sys.argv[1], pathlib.Path(sys.argv[2])
 # Where the other reader is wrong (samples/README.md): its lines that begin so are not compared.
 WRONG = {"22_dims_product_overflow": ("R ",), "25_entry_number_2147483647": None, "26_entry_number_2000000000": None}
 # The encodings of VAX floats.
 VAX = (3, 14, 15)
 values_compared = 0
+dates_compared = 0
 
 
 def asked(*words):
@@ -33,9 +36,11 @@ def float_bits(value, letter, form):
     return f"{letter}{int.from_bytes(struct.pack(form, float(value)), 'big'):0{2 * size}x}"
 
 
-def token(value, kind, encoding):
-    global values_compared
+def token(shown, kind, encoding):
+    global values_compared, dates_compared
     values_compared += 1
+    dates_compared += isinstance(shown, dict)
+    value = number_of(shown, kind)
     if kind in (51, 52):
         return "c" + value.encode("latin-1").hex()
     if value == "reserved":
@@ -149,4 +154,4 @@ for sample in samples:
         if not same(sample, one, other):
             sys.exit(f"{sample.name}:\ncdfread  {one}\ndump     {other}")
     lines += len(found)
-print(f"{len(samples)} samples, {lines} lines, {values_compared} values")
+print(f"{len(samples)} samples, {lines} lines, {values_compared} values, {dates_compared} dates")

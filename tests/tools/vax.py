@@ -7,13 +7,12 @@ and as JSON, with the values that their bytes have as fractions. Prints how many
 were rounded, ties and reserved; exits with 1 if one differs.
 """
 import fractions
-import json
 import random
 import struct
-import subprocess
 import sys
 
-from made import fields, opening
+from made import file_of
+from shown import RESERVED, WORDS, bits_of, compare_listing, compare_values
 
 # Rows of tables 5.4, 5.7 and 5.8: byte, its lowest and highest bit, field (sign, exponent, mantissa), the field's lowest bit.
 REST = [(2, 0, 7, "m", 32), (3, 0, 7, "m", 40), (4, 0, 7, "m", 16), (5, 0, 7, "m", 24), (6, 0, 7, "m", 0), (7, 0, 7, "m", 8)]
@@ -23,9 +22,6 @@ G_FLOAT = [(0, 0, 3, "m", 48), (0, 4, 7, "e", 0), (1, 0, 6, "e", 4), (1, 7, 7, "
 # Rows, bits of the exponent and of the mantissa, what is taken from the exponent.
 FORMS = {"F": (F_FLOAT, 8, 23, 128), "D": (D_FLOAT, 8, 55, 128), "G": (G_FLOAT, 11, 52, 1024)}
 TYPES = {21: 4, 44: 4, 22: 8, 31: 8, 45: 8}
-# What is printed of a reserved operand, as text and in JSON, and the line behind the text.
-RESERVED = "reserved"
-WORDS = "refused 22: the reserved operand of VAX floats: the exponent is zero and the sign is set"
 
 
 def form_of(encoding, kind):
@@ -52,10 +48,6 @@ def exact(form, data):
     return -value if parts["s"] else value
 
 
-def bits_of(number):
-    return int.from_bytes(struct.pack(">d", number), "big")
-
-
 def double_of(bits):
     return struct.unpack(">d", bits.to_bytes(8, "big"))[0]
 
@@ -67,78 +59,6 @@ def nearest(value):
     others = [abs(fractions.Fraction(double_of(bits + step)) - value) for step in (-1, 1) if value != 0]
     assert all(away < other or (away == other and bits % 2 == 0) for other in others), value
     return found, away in others
-
-
-def variable(at, number, kind, values, size, pad, later):
-    """A zVariable at an offset, all of its records in one run: of one value each, or of so many along a dimension."""
-    dimensions = [] if size == 0 else [size]
-    length = 132 + 8 * len(dimensions) + len(pad or b"")
-    records = len(values) if size == 0 else 1
-    body = b"".join(values)
-    index, run = at + length, at + length + 32
-    end = run + 8 + len(body)
-    flags = 1 if pad is None else 3
-    data = fields(length, 8, end if later else 0, kind, records - 1, index, index, flags, 0, 0, 0, 0, 1, number, 0, 0)
-    data += f"float{number}".encode().ljust(64, b"\0") + fields(len(dimensions), *dimensions, *[-1] * len(dimensions))
-    data += (pad or b"") + fields(32, 6, 0, 1, 1, 0, records - 1, run) + fields(8 + len(body), 7) + body
-    return data
-
-
-def file_of(encoding, kind, pad, values):
-    variables = variable(372, 0, kind, values, 0, pad, True)
-    variables += variable(372 + len(variables), 1, kind, values, len(values), pad, False)
-    attribute = 372 + len(variables)
-    body = b"".join(values)
-    data = fields(116, 4, 0, attribute + 116, 1, 0, 1, 0, 0, 0, 0, -1, 0) + b"floats".ljust(64, b"\0")
-    data += fields(48 + len(body), 5, 0, 0, kind, 0, len(values), 0, 0, 0, 0, 0) + body
-    return opening(encoding, attribute + len(data), 2, attribute) + variables + data
-
-
-def asked(status, *words):
-    done = subprocess.run([cdfread, *map(str, words)], capture_output=True, text=True, check=False)
-    assert (done.returncode, done.stderr) == (status, ""), (words, done)
-    return done.stdout
-
-
-def text_of(value):
-    """A double, or RESERVED, as cdfread prints it."""
-    if value == RESERVED:
-        return value
-    text = f"{value:.17g}"
-    return text if "." in text or "e" in text else text + ".0"
-
-
-def bits_shown(shown):
-    return [value if value == RESERVED else bits_of(float(value)) for value in shown]
-
-
-def compare_values(path, doubles, refused):
-    """What is printed of the two variables: a line a record, and all on one line."""
-    texts, bits, status = list(map(text_of, doubles)), bits_shown(doubles), 1 if refused else 0
-    expected = [f"{i}: {text}" for i, text in enumerate(texts)]
-    assert asked(status, path, "z", 0).splitlines() == expected + refused, path
-    assert asked(status, path, "z", 1).splitlines() == ["0: " + " ".join(texts)] + refused, path
-    found = [json.loads(line) for line in asked(status, "--json", path, "z", 0).splitlines()]
-    assert [each["record"] for each in found] == list(range(len(doubles))), path
-    assert [each["values"] for each in found] == [[value] for value in doubles], path
-    assert bits_shown(each["values"][0] for each in found) == bits, path
-    (found,) = map(json.loads, asked(status, "--json", path, "z", 1).splitlines())
-    assert found == {"record": 0, "values": doubles} and bits_shown(found["values"]) == bits, path
-
-
-def compare_listing(path, doubles, pad, refused):
-    """What the listing has of the pad values and of the entry."""
-    status = 1 if refused else 0
-    lines = asked(status, path).splitlines()
-    shown = [line[14:] for line in lines if line.startswith("  pad  ")]
-    assert shown == [text_of(pad)] * 2, (path, shown)
-    (entry,) = [line.split(": ")[1] for line in lines if line.startswith("  gEntry ")]
-    assert entry.split(" ") == list(map(text_of, doubles)), path
-    assert lines[len(lines) - len(refused):] == refused and "\n".join(lines).count("refused") == len(refused), path
-    found = json.loads(asked(status, "--json", path))
-    assert [each["pad"] for each in found["variables"]] == [pad] * 2, path
-    assert bits_shown(each["pad"] for each in found["variables"]) == bits_shown([pad] * 2), path
-    assert bits_shown(found["attributes"][0]["entries"][0]["values"]) == bits_shown(doubles), path
 
 
 def patterns(form, chance):
@@ -153,7 +73,7 @@ def patterns(form, chance):
     return found
 
 
-def compare(folder):
+def compare(cdfread, folder):
     """Each encoding and type, with and without reserved operands."""
     chance, count = random.Random(102), {"files": 0, "floats": 0, "rounded": 0, "ties": 0, "reserved": 0}
     for encoding, kind, some in ((encoding, kind, some) for encoding in (3, 14, 15) for kind in TYPES for some in (False, True)):
@@ -167,8 +87,8 @@ def compare(folder):
         path = f"{folder}/vax_{encoding}_{kind}_{some}.cdf"
         with open(path, "wb") as file:
             file.write(file_of(encoding, kind, pad, values))
-        compare_values(path, doubles, [WORDS] if some else [])
-        compare_listing(path, doubles, doubles[values.index(pad)], [WORDS] if some else [])
+        compare_values(cdfread, path, kind, doubles, [WORDS] if some else [])
+        compare_listing(cdfread, path, kind, doubles, doubles[values.index(pad)], [WORDS] if some else [])
         wrong = [double for double, number in zip(doubles, numbers) if number is not None and fractions.Fraction(double) != number]
         assert not wrong or TYPES[kind] == 8, path
         new = (1, len(values), len(wrong), sum(tie for _, tie in pairs), len(reserved))
@@ -176,10 +96,14 @@ def compare(folder):
     print(", ".join(f"{number} {name}" for name, number in count.items()))
 
 
-if sys.argv[1] == "compare":
-    cdfread = sys.argv[2]
-    compare(sys.argv[3])
-else:
-    first_pad = None if sys.argv[5] == "-" else bytes.fromhex(sys.argv[5])
-    with open(sys.argv[4], "wb") as out:
-        out.write(file_of(int(sys.argv[2]), int(sys.argv[3]), first_pad, list(map(bytes.fromhex, sys.argv[6:]))))
+def main(command, *words):
+    if command == "compare":
+        compare(*words)
+        return
+    encoding, kind, path, pad, *values = words
+    with open(path, "wb") as out:
+        out.write(file_of(int(encoding), int(kind), None if pad == "-" else bytes.fromhex(pad), list(map(bytes.fromhex, values))))
+
+
+if __name__ == "__main__":
+    main(*sys.argv[1:])
