@@ -17,6 +17,7 @@ pub mod damage;
 pub mod dump;
 pub mod epochs;
 pub mod fuzz;
+pub mod fuzz_epochs;
 pub mod fuzz_rounds;
 pub mod made_up;
 pub mod padding;
