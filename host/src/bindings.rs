@@ -1,4 +1,4 @@
-//! The proved checker, rounds and reader, called as C calls them (`include/tlepozaluh.h`).
+//! The proved checker, rounds, reader and epochs, called as C calls them (`include/tlepozaluh.h`).
 
 // The only place with unsafe code: a call of a C function cannot be written without it.
 #![allow(unsafe_code)]
@@ -179,6 +179,21 @@ mod c {
             at: u64,
             field: *mut i32,
         ) -> i32;
+        pub fn tlz_epoch_date(
+            epoch: f64,
+            year: *mut i32,
+            month: *mut i32,
+            day: *mut i32,
+            milliseconds: *mut i32,
+        ) -> i32;
+        pub fn tlz_epoch_from(
+            year: i64,
+            month: i64,
+            day: i64,
+            milliseconds: i64,
+            epoch: *mut f64,
+        ) -> i32;
+        pub fn tlz_epoch_difference(a: f64, b: f64, difference: *mut f64) -> i32;
     }
 }
 
@@ -263,7 +278,7 @@ pub fn from_bytes(bytes: &[u8]) -> Option<State> {
 /// The number of a VAX float that stands for no value, `TLZ_RESERVED_OPERAND`.
 pub const RESERVED_OPERAND: i32 = 22;
 
-/// What stands in the caller's numbers before a read.
+/// What stands in the caller's numbers before a call of the reader or of epochs.
 const BEFORE: u64 = 0x5A5A_A5A5_0F0F_F0F1;
 
 /// A value: its kind, its bits and the file offset it was read from.
@@ -444,4 +459,80 @@ pub fn read_entry_at(
 ) -> Result<i32, i32> {
     let (f, n) = (file.as_ptr(), file.len());
     field(|to| unsafe { c::tlz_read_entry_at(f, n, attribute, kind, place, at, to) })
+}
+
+/// The number of what is no epoch, and of a date that does not exist, `TLZ_NO_EPOCH`.
+pub const NO_EPOCH: i32 = 27;
+
+/// A date as a call sets it.
+#[derive(Clone, Copy, Debug, PartialEq, Eq)]
+pub struct Date {
+    /// The year.
+    pub year: i32,
+    /// The month, from 1.
+    pub month: i32,
+    /// The day of the month, from 1.
+    pub day: i32,
+    /// Milliseconds of the day.
+    pub milliseconds: i32,
+}
+
+/// Asks for a double, which is given as its bits.
+fn double(call: impl FnOnce(*mut f64) -> i32) -> Result<u64, i32> {
+    let mut after = f64::from_bits(BEFORE);
+    let answer = call(&mut after);
+    given(answer, BEFORE, after.to_bits())
+}
+
+/// The date of an epoch; doubles are lent and given as their bits.
+pub fn epoch_date(epoch: u64) -> Result<Date, i32> {
+    let [year, month] = [BEFORE, !BEFORE].map(|number| number as i32);
+    let [day, milliseconds] = [BEFORE, !BEFORE].map(|number| (number >> 32) as i32);
+    let before = Date { year, month, day, milliseconds };
+    let mut after = before;
+    // SAFETY: the numbers that are written are four locals.
+    let answer = unsafe {
+        c::tlz_epoch_date(
+            f64::from_bits(epoch),
+            &mut after.year,
+            &mut after.month,
+            &mut after.day,
+            &mut after.milliseconds,
+        )
+    };
+    given(answer, before, after)
+}
+
+/// The epoch of a date, as its bits.
+pub fn epoch_from(year: i64, month: i64, day: i64, milliseconds: i64) -> Result<u64, i32> {
+    double(|to| unsafe { c::tlz_epoch_from(year, month, day, milliseconds, to) })
+}
+
+/// The milliseconds from an epoch b to an epoch a, as the bits of a double.
+pub fn epoch_difference(a: u64, b: u64) -> Result<u64, i32> {
+    let (a, b) = (f64::from_bits(a), f64::from_bits(b));
+    double(|to| unsafe { c::tlz_epoch_difference(a, b, to) })
+}
+
+#[cfg(test)]
+mod tests {
+    use super::*;
+
+    #[test]
+    fn what_a_call_gives() {
+        assert_eq!((given(0, 1, 2), given(0, 1, 1), given(27, 1, 1)), (Ok(2), Ok(1), Err(27)));
+        assert_eq!(double(|_| NO_EPOCH), Err(NO_EPOCH));
+        assert_eq!(double(|_| 0), Ok(BEFORE));
+    }
+
+    /// A refusal that changes the caller's number, even to one of another sign alone, is found.
+    #[test]
+    #[should_panic(expected = "refused with 27, and the caller's numbers changed")]
+    fn a_changed_number_is_found() {
+        // SAFETY: the pointer is that of a local.
+        let _ = double(|to| unsafe {
+            *to = -*to;
+            NO_EPOCH
+        });
+    }
 }

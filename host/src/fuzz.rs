@@ -1,4 +1,5 @@
-//! Fuzzing: the proved checker, rounds and reader against the second ones, on files built and damaged at random.
+//! Fuzzing: the proved checker, rounds, reader and epochs against the second ones, on files built and damaged at random, and
+//! on doubles and dates.
 //!
 //! For each seed a good file is built and damaged or not. Both check it, in one grant and in grants at random. Then both go on
 //! from points of the check with marks made up, from states made up, and after bytes of the file have been changed. At
@@ -6,14 +7,15 @@
 //! leave what several do, and a grant after the end must say the same again. Then both readers are asked: they must answer
 //! the same, and never 20 on an accepted file. An answer for a VAX float must be what the plainest statement of them says of
 //! the bytes that are stored there: the double, or 22 for a reserved operand; 22 must come for nothing else. On a padded
-//! file all this must be the same with other bytes and other marks in the padding, which must stay. At last more files are
-//! built and damaged, which share a window, and both make rounds over them.
+//! file all this must be the same with other bytes and other marks in the padding, which must stay. Then more files are
+//! built and damaged, which share a window, and both make rounds over them. At last both are asked for dates and epochs.
 
 use crate::bindings::Granted;
 use crate::build;
 use crate::build::model::{File, Index};
 use crate::build::random::Random;
 use crate::damage::{self, Damage};
+use crate::fuzz_epochs;
 use crate::fuzz_rounds;
 use crate::made_up::{Point, Source, BEYOND};
 use crate::padding;
@@ -69,6 +71,8 @@ pub struct Covered {
     pub vax_sorts: BTreeMap<&'static str, u64>,
     /// Windows, and rounds over them.
     pub rounds: fuzz_rounds::Covered,
+    /// Epochs, dates and differences.
+    pub epochs: fuzz_epochs::Covered,
 }
 
 impl fmt::Display for Covered {
@@ -97,7 +101,8 @@ impl fmt::Display for Covered {
         let floats = self.vax_floats.values().sum::<u64>();
         writeln!(out, "VAX floats        {floats}: {}", list(&self.vax_floats))?;
         writeln!(out, "of them           {}", list(&self.vax_sorts))?;
-        write!(out, "{}", self.rounds)
+        writeln!(out, "{}", self.rounds)?;
+        write!(out, "{}", self.epochs)
     }
 }
 
@@ -127,25 +132,28 @@ pub(crate) fn count<K: Ord>(counts: &mut BTreeMap<K, u64>, key: K) {
     *counts.entry(key).or_insert(0) += 1;
 }
 
-/// A file on which something went wrong, and what.
+/// What went wrong, and on which file.
 #[derive(Clone, Debug)]
 pub struct Difference {
-    /// The file.
-    pub file: Vec<u8>,
+    /// The file; nothing if it has to do with none.
+    pub file: Option<Vec<u8>>,
     /// In words.
     pub what: String,
 }
 
-/// The file of this seed and all that is done with it, then a window; what was done is added to what was covered.
+/// The file of this seed and all that is done with it, then a window, then epochs; what was done is added to what was covered.
 pub fn try_seed(seed: u64, covered: &mut Covered) -> Result<(), Difference> {
     let mut random = Random::seeded(seed);
     let file = any_file(&mut random, covered);
     covered.files += 1;
     count(&mut covered.padding, padding_kind(&file));
     let source = Source::new(&file);
-    unchanged(&source, &mut random, covered).map_err(|what| Difference { file, what })?;
+    let of_file = |what| Difference { file: Some(file), what };
+    unchanged(&source, &mut random, covered).map_err(of_file)?;
     with_changes(&source, &mut random, covered)?;
-    fuzz_rounds::try_window(&mut random, &mut covered.rounds)
+    fuzz_rounds::try_window(&mut random, &mut covered.rounds)?;
+    let epochs = fuzz_epochs::try_epochs(&mut random, &mut covered.epochs);
+    epochs.map_err(|what| Difference { file: None, what })
 }
 
 /// All that is done with a file that stays the same.
@@ -418,7 +426,9 @@ fn with_changes(
         let marks = source.any_marks(&real, random);
         match go_on(&file, &(state, marks), random, covered) {
             Ok(answer) => count(&mut covered.changed_answers, answer),
-            Err(what) => return Err(Difference { file, what: format!("{kind}: {what}") }),
+            Err(what) => {
+                return Err(Difference { file: Some(file), what: format!("{kind}: {what}") })
+            }
         }
     }
     Ok(())
@@ -465,5 +475,12 @@ mod tests {
         assert!(of.windows.len() == 7 && of.states.len() == 8 && of.parts.len() == 7, "{one}");
         assert!(of.rounds[&-1] > 800 && of.rounds[&24] > 150 && of.steps.len() == 5, "{one}");
         assert!(of.answers.len() > 15 && of.ended.len() > 12, "{one}");
+        let of = &one.epochs;
+        assert!(of.doubles.len() == 9 && of.dates.len() == 4 && of.differences.len() == 6, "{one}");
+        assert!(of.doubles.values().all(|doubles| *doubles > 700), "{one}");
+        assert!(of.differences.values().all(|pairs| *pairs > 1000), "{one}");
+        for answers in [&of.turned, &of.turned_back] {
+            assert!(answers.len() == 2 && answers[&0] > 5000 && answers[&27] > 5000, "{one}");
+        }
     }
 }

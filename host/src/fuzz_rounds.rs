@@ -78,7 +78,7 @@ pub fn try_window(random: &mut Random, covered: &mut Covered) -> Result<(), Diff
         let place = random.place(begun.jobs().len());
         as_alone(&begun, &window, place, &steps)
     });
-    played.map_err(|what| Difference { file: begun.files().to_vec(), what })
+    played.map_err(|what| Difference { file: Some(begun.files().to_vec()), what })
 }
 
 /// Rounds until no job is left that runs, or as many as there may be: the steps of each that was made.

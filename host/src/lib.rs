@@ -1,9 +1,9 @@
-//! The host side of Tlepozaluh: a second checker and reader of CDF files, written
-//! from document 01, the requests for lower index records, padded files, places of refusals, VAX floats and files by turns
-//! and docs/STATE.md alone, a builder of good files and sources of damaged ones, and of states that no check leaves, and a
-//! plain statement of what VAX floats are.
+//! The host side of Tlepozaluh: a second checker and reader of CDF files, with a second calendar for epochs, written
+//! from document 01, the requests for lower index records, padded files, places of refusals, VAX floats, files by turns and
+//! epochs as dates and docs/STATE.md alone, a builder of good files and sources of damaged ones, and of states that no check
+//! leaves, and a plain statement of what VAX floats are.
 //!
-//! The proved checker, rounds and reader, behind `bindings`, are compared with `second`; the two share no code.
+//! The proved checker, rounds, reader and epochs, behind `bindings`, are compared with `second`; the two share no code.
 
 // Denied and not forbidden: `bindings` calls C functions.
 #![deny(unsafe_code)]
@@ -15,7 +15,9 @@ pub mod build;
 pub mod calls;
 pub mod damage;
 pub mod dump;
+pub mod epochs;
 pub mod fuzz;
+pub mod fuzz_epochs;
 pub mod fuzz_rounds;
 pub mod made_up;
 pub mod padding;

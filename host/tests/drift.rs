@@ -6,11 +6,11 @@ use std::mem::{align_of, offset_of, size_of};
 use std::path::{Path, PathBuf};
 use tlepozaluh_host::bindings::{check_begin, FILE_PADDING, RESERVED_OPERAND, STATE_LENGTH};
 use tlepozaluh_host::bindings::{read_attribute, read_entry_at, read_file, read_variable};
-use tlepozaluh_host::bindings::{TlzJob, BAD_ROUND, MOST_JOBS};
+use tlepozaluh_host::bindings::{TlzJob, BAD_ROUND, MOST_JOBS, NO_EPOCH};
 use tlepozaluh_host::calls::{self, Call};
 use tlepozaluh_host::samples;
 use tlepozaluh_host::second::check::TOO_DEEP;
-use tlepozaluh_host::second::rounds;
+use tlepozaluh_host::second::{epochs, rounds};
 use tlepozaluh_host::structs::{self, Layout, Struct};
 
 /// Constants of the header that are no numbers that come back, and how the reader's begin.
@@ -96,7 +96,7 @@ fn struct_drift(header: &str, source: &str) -> Vec<String> {
 #[test]
 fn the_header_declares_the_exports() {
     let exported = calls::of_rattle_source(&sources()).expect("the exports");
-    assert!(exported.len() >= 18, "{exported:?}");
+    assert!(exported.len() >= 21, "{exported:?}");
     assert_eq!(drift(&header(), &sources()), Vec::<String>::new());
 }
 
@@ -231,6 +231,23 @@ const OF_HEADER: &[(&str, &str)] = &[
     ("uint64_t what, int32_t *field", "int64_t what, int32_t *field"),
     ("uint64_t place, uint64_t at", "uint64_t at, uint64_t place"),
     ("uint64_t *offset, uint64_t *length", "uint64_t *length, uint64_t *offset"),
+    ("int32_t tlz_epoch_date(", "double tlz_epoch_date("),
+    ("tlz_epoch_date(double epoch", "tlz_epoch_date(float epoch"),
+    ("tlz_epoch_date(double epoch", "tlz_epoch_date(uint64_t epoch"),
+    ("tlz_epoch_date(double epoch", "tlz_epoch_date(const double *epoch"),
+    ("int32_t *year, int32_t *month", "int32_t *month, int32_t *year"),
+    ("int32_t *year, int32_t *month", "int64_t *year, int32_t *month"),
+    ("int32_t *year, int32_t *month", "int32_t year, int32_t *month"),
+    ("int32_t *day, int32_t *milliseconds", "int32_t *milliseconds, int32_t *day"),
+    ("int32_t *day, int32_t *milliseconds", "int32_t *day"),
+    ("tlz_epoch_from(int64_t year, int64_t month", "tlz_epoch_from(int64_t month, int64_t year"),
+    ("tlz_epoch_from(int64_t year, int64_t month", "tlz_epoch_from(int32_t year, int64_t month"),
+    ("int64_t milliseconds, double *epoch", "int64_t milliseconds, float *epoch"),
+    ("int64_t milliseconds, double *epoch", "int64_t milliseconds, double epoch"),
+    ("int64_t milliseconds, double *epoch", "double *epoch, int64_t milliseconds"),
+    ("tlz_epoch_difference(double a, double b", "tlz_epoch_difference(double b, double a"),
+    ("tlz_epoch_difference(double a, double b", "tlz_epoch_difference(double a, float b"),
+    ("double b, double *difference", "double b, const double *difference"),
 ];
 
 /// Edits of the header's row.
@@ -264,6 +281,11 @@ const OF_SOURCES: &[(&str, &str)] = &[
     ("fn tlz_round(", "fn tlz_rounds("),
     ("    pub owner: u32,\n    pub answer: i32,\n", "    pub answer: i32,\n    pub owner: u32,\n"),
     ("    pub owner: u32,\n    pub answer: i32,\n", "    pub owner: u32,\n    pub answer: u32,\n"),
+    ("    epoch: f64,\n    year: &mut i32,\n", "    epoch: f32,\n    year: &mut i32,\n"),
+    ("    epoch: f64,\n    year: &mut i32,\n", "    year: &mut i32,\n    epoch: f64,\n"),
+    ("    month: &mut i32,\n    day: &mut i32,\n", "    day: &mut i32,\n    month: &mut i32,\n"),
+    ("fn tlz_epoch_from(", "fn tlz_epoch_of("),
+    ("fn tlz_epoch_difference(", "fn tlz_epoch_between("),
 ];
 
 /// Each edit of the header or of the sources is found.
@@ -289,6 +311,33 @@ fn swapped_names_are_found() {
     assert!(!drift("int32_t tlz_x(uint64_t *bits, uint64_t *kind);", source).is_empty());
 }
 
+/// Doubles, and pointers to them, in all three texts.
+#[test]
+fn doubles_as_parameters() {
+    let source = "#[no_mangle]\npub extern \"C\" fn tlz_x(\n    epoch: f64,\n    year: &mut i32,\n    to: &mut f64,\n) -> i32\n{ 0 }";
+    let header = "int32_t tlz_x(double epoch, int32_t *year, double *to);";
+    let bindings =
+        "extern \"C\" {\n    pub fn tlz_x(epoch: f64, year: *mut i32, to: *mut f64) -> i32;\n}";
+    assert_eq!(drift(header, source), Vec::<String>::new());
+    let bound = calls::of_bindings(bindings).expect("the bindings");
+    assert_eq!(calls::of_header(header), Ok(bound.clone()));
+    assert_eq!(bound[0].prototype(), header);
+    let edits = [
+        ("double epoch", "float epoch"),
+        ("double epoch", "int64_t epoch"),
+        ("double epoch", "double *epoch"),
+        ("int32_t *year", "double *year"),
+        ("double *to", "double to"),
+        ("double *to", "const double *to"),
+        ("double *to", "float *to"),
+    ];
+    for (from, to) in edits {
+        let drifted = header.replacen(from, to, 1);
+        assert!(!drift(&drifted, source).is_empty(), "{drifted}");
+        assert_ne!(calls::of_header(&drifted), Ok(bound.clone()), "{drifted}");
+    }
+}
+
 /// Every form of parameter that a call can have.
 #[test]
 fn forms_of_parameters() {
@@ -307,7 +356,7 @@ fn forms_of_parameters() {
     assert!(calls::of_rattle_source(&source.replace("u32,", "Strange,")).is_err());
 }
 
-/// The table of docs/INTERFACE.md, the header and the tools' words have the same numbers: -1 to 24, but not 19.
+/// The table of docs/INTERFACE.md, the header and the tools' words have the same numbers: -1 to 24, but not 19, and 27.
 #[test]
 fn every_number_of_the_table() {
     let table = calls::table_numbers(&text("docs/INTERFACE.md"));
@@ -317,12 +366,14 @@ fn every_number_of_the_table() {
     let numbers: Vec<(String, i64)> = defined.into_iter().filter(comes_back).collect();
     assert_eq!(numbers, table);
     let all: Vec<i64> = table.iter().map(|(_, number)| *number).collect();
-    assert_eq!(all, (-1..=18).chain(20..=24).collect::<Vec<i64>>());
+    assert_eq!(all, (-1..=18).chain(20..=24).chain([27]).collect::<Vec<i64>>());
     let ours = [
         ("TLZ_TOO_DEEP", TOO_DEEP),
         ("TLZ_RESERVED_OPERAND", RESERVED_OPERAND),
         ("TLZ_BAD_ROUND", BAD_ROUND),
         ("TLZ_BAD_ROUND", rounds::BAD_ROUND),
+        ("TLZ_NO_EPOCH", NO_EPOCH),
+        ("TLZ_NO_EPOCH", epochs::NO_EPOCH),
     ];
     for (name, number) in ours {
         assert!(table.contains(&(name.to_string(), i64::from(number))), "{name}: {table:?}");

@@ -1,8 +1,9 @@
-//! Compares the proved checker, rounds and reader with the second ones for a given time and prints what was covered.
+//! Compares the proved checker, rounds, reader and epochs with the second ones for a given time and prints what was covered.
 //!
 //!     fuzz --seconds N [--seed S]
 //!
-//! Equal seeds begin with equal files. Exits with 1 if the two differ; the file is then saved in the folder of the run.
+//! Equal seeds begin with equal files. Exits with 1 if the two differ; the file on which they do, if there is
+//! one, is then saved in the folder of the run.
 
 use std::process::ExitCode;
 use std::time::{Duration, Instant};
@@ -21,13 +22,14 @@ fn options(words: &[String]) -> Option<(f64, u64)> {
     seconds.filter(|seconds| (0.0..1e9).contains(seconds)).map(|seconds| (seconds, seed))
 }
 
-/// Says what went wrong, and saves the file.
+/// Says what went wrong, and saves the file if there is one.
 fn fail(seed: u64, found: &Difference) -> ExitCode {
     let name = format!("difference-{seed}.cdf");
     println!("DIFFERENCE with seed {seed}: {}", found.what);
-    match std::fs::write(&name, &found.file) {
-        Ok(()) => println!("The file is {name}."),
-        Err(error) => println!("The file could not be saved as {name}: {error}."),
+    match found.file.as_ref().map(|file| std::fs::write(&name, file)) {
+        Some(Ok(())) => println!("The file is {name}."),
+        Some(Err(error)) => println!("The file could not be saved as {name}: {error}."),
+        None => println!("It has to do with no file."),
     }
     ExitCode::from(1)
 }
