@@ -71,7 +71,7 @@ build/cdfread: tools/cdfread.c $(READING) $(HEADERS) build/libtlepozaluh_read.a
 
 # The clearing of marks by itself is timed by a call of its own, which is in no library. The time of so short a loop hangs on
 # where it lies in a cache line, so it is linked four times, 0, 16, 32 and 48 bytes from a line's start.
-BENCH = $(addprefix bench/,bench.c check.c clearing.c files.c read.c rounds.c times.c turns.c)
+BENCH = $(addprefix bench/,bench.c check.c clearing.c dates.c epochs.c files.c read.c rounds.c times.c turns.c)
 CLEARING = $(patsubst %,build/clearing_%.o,0 16 32 48)
 
 $(CLEARING): build/clearing_%.o: target/staticlib/libclearing.a

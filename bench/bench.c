@@ -1,13 +1,14 @@
 /*
- * Times the proved check and reader against the same in plain C, in one run and on the same buffers.
+ * Times the proved check, reader and epochs against the same in plain C, in one run and on the same buffers.
  *
- *     bench            builds large files and prints median times and their ratio, proved / C; then rounds over eight files,
- *                      the clearing of marks by itself, and how the time grows
+ *     bench            builds large files and prints median times and their ratio, proved / C, and those of epochs and dates;
+ *                      then rounds over eight files, the clearing of marks by itself, and how the time grows
  *     bench FILE..     no times: compares verdict, steps, place and marks, in one grant and in several, and the answers to many
- *                      reads, on each file
+ *                      reads, on each file; then epochs and dates, of each day of all years and drawn by chance
  */
 #include "check.h"
 #include "clearing.h"
+#include "dates.h"
 #include "files.h"
 #include "read.h"
 #include "rounds.h"
@@ -283,15 +284,23 @@ static void growth(void)
     }
 }
 
+/* Compares the two on so many files, then on epochs and dates; 0 if they agree on all. */
+static int all_compared(char **names, int count)
+{
+    uint64_t epochs = 0, refused = 0, unlike = 0;
+    int differ = 0;
+    for (int i = 0; i < count; i++)
+        differ += compared(names[i]);
+    printf("%d files, %d differ; %d by grants to their verdict\n", count, differ, carried);
+    unlike = dates_differ(100000, &epochs, &refused);
+    printf("%" PRIu64 " epochs and dates, %" PRIu64 " refused, %" PRIu64 " differ\n", epochs, refused, unlike);
+    return differ != 0 || carried == 0 || unlike != 0 || refused == 0;
+}
+
 int main(int count, char **names)
 {
-    int differ = 0;
-    for (int i = 1; i < count; i++)
-        differ += compared(names[i]);
-    if (count > 1) {
-        printf("%d files, %d differ; %d by grants to their verdict\n", count - 1, differ, carried);
-        return differ != 0 || carried == 0;
-    }
+    if (count > 1)
+        return all_compared(names + 1, count - 1);
     timed("one record of 64 MB", one_record((size_t)64 << 20));
     timed("1,000,000 listed unused records", unused_records(1000000));
     timed("100,000 zVariables with an index entry", variables(100000));
@@ -301,6 +310,7 @@ int main(int count, char **names)
     timed_vax("every value of 1,000,000 records of G_FLOAT", 1000000, 15);
     timed_reads("one value of each of 20,000 zVariables", variables(20000), 20000, 1, proved_variables, plain_variables);
     timed_reads("single reads through eight levels", tree(8, 4, 4), 65536, REPEATS, proved_places, plain_places);
+    dates();
     rounds();
     clearing();
     growth();

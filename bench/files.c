@@ -111,8 +111,7 @@ struct file records(size_t n)
     return file;
 }
 
-/* The next number by chance, from a fixed start: all 64 bits of it. */
-static uint64_t next(uint64_t *seed)
+uint64_t next(uint64_t *seed)
 {
     *seed ^= *seed << 13;
     *seed ^= *seed >> 7;

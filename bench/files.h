@@ -13,6 +13,9 @@ struct file {
 /* So many bytes, written to; ends the program if there is no memory. */
 void *allocated(size_t n);
 
+/* The next number by chance, from a fixed start: all 64 bits of it. */
+uint64_t next(uint64_t *seed);
+
 /* One unused record, on no list. */
 struct file one_record(size_t size);
 

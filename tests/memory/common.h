@@ -1,35 +1,13 @@
-/* What the programs here share: chance, buffers of exact lengths, files, and a file's end, found apart from the library. */
+/* What the programs over files share: chance and buffers, files, and a file's end, found apart from the library. */
 #ifndef MEMORY_COMMON_H
 #define MEMORY_COMMON_H
 
-#include <stdint.h>
-#include <stdio.h>
-#include <stdlib.h>
+#include "exact.h"
+
 #include <string.h>
 
 /* The most bytes of padding that a file may have. */
 enum { PADDING = 511 };
-
-static uint64_t seed = 88172645463325252;
-
-static uint64_t any(uint64_t below)
-{
-    seed ^= seed << 13;
-    seed ^= seed >> 7;
-    seed ^= seed << 17;
-    return (seed >> 11) % below;
-}
-
-static void *exactly(size_t length)
-{
-    void *bytes = malloc(length);
-
-    if (bytes == NULL) {
-        fprintf(stderr, "no memory\n");
-        exit(2);
-    }
-    return bytes;
-}
 
 /* Reads a file, which stays until the next is read; NULL, after a message, if it cannot be read or has 65,536 bytes or more. */
 static const uint8_t *read_file(const char *name, size_t *length)
