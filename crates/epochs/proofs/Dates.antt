@@ -10,7 +10,7 @@ use borrow.Author.Tests.{ltb-true, ltb-false, leb-true, le-leb}
 use Rattle.format.proofs.Tests.{both}
 use Rattle.epochs.specs.declared.calendar.Date.{Date}
 use Rattle.epochs.specs.Calendar.{date, leap, monthDays, daysBeforeMonth, daysBeforeYear, isDate, daysBefore, nextDay, dateOf}
-use Rattle.epochs.proofs.Years.{all-years}
+use Rattle.epochs.proofs.Years.{InYear, all-years}
 use Rattle.epochs.proofs.Months.{Holds, year-length, no-month, month-zero, month-some, month-short}
 
 -- what is not below is at most
@@ -155,20 +155,19 @@ date-is n y m d v e =
     let k = date-counts n in
     same y m d (dateOf n .year) (dateOf n .month) (dateOf n .day) v (k .0) (e ∙ sym (k .1))
 
--- ---- the date that the code finds: the year y of the day n, the month m of the day of the year
-module _ (n y s : ℕ) (l : Bool) (in-y : (y ≤ 9999) × ((daysBeforeYear y ≤ n) × (n < daysBeforeYear (suc y)))) (s-is : s ≡ daysBeforeYear y) (l-is : l ≡ leap y) where
-  pub day-of-year : n - s < cond l 366 365
-  unfolding daysBeforeYear
-  day-of-year = rw (s-is, l-is) (omega (arith, in-y))
+-- ---- the date that the code finds: the day d of the year y, its month m, and b days before that
+module _ (n y d : ℕ) (l : Bool) (in-y : InYear n y d) (l-is : l ≡ leap y) where
+  pub day-of-year : d < cond l 366 365
+  day-of-year = rw l-is (in-y .1 .1)
 
-  module _ (m b : ℕ) (in-m : Holds l (n - s) m) (b-is : b ≡ daysBeforeMonth l m) where
-    pub date-found : (date y m (n - s - b + 1) ≡ dateOf n) × ((y ≤ 9999) × ((m ≤ 12) × (n - s - b + 1 ≤ 31)))
+  module _ (m b : ℕ) (in-m : Holds l d m) (b-is : b ≡ daysBeforeMonth l m) where
+    pub date-found : (date y m (d - b + 1) ≡ dateOf n) × ((y ≤ 9999) × ((m ≤ 12) × (d - b + 1 ≤ 31)))
     date-found =
         let b-of : b ≡ daysBeforeMonth (leap y) m = b-is ∙ ap (λ (t : Bool). daysBeforeMonth t m) l-is in
-        let low : b ≤ n - s = rw (sym b-is) at (in-m .1 .0) in
-        let high : n - s < daysBeforeMonth (leap y) (suc m) = rw l-is at (in-m .1 .1) in
-        let v : Valid y m (n - s - b + 1) = record { some = omega arith; within = omega (arith, next-before (leap y) m) } in (
-          date-is n y m (n - s - b + 1) v (omega (arith, in-y)),
+        let low : b ≤ d = rw (sym b-is) at (in-m .1 .0) in
+        let high : d < daysBeforeMonth (leap y) (suc m) = rw l-is at (in-m .1 .1) in
+        let v : Valid y m (d - b + 1) = record { some = omega arith; within = omega (arith, next-before (leap y) m) } in (
+          date-is n y m (d - b + 1) v (omega (arith, in-y)),
           (in-y .0, (in-m .0 .1, omega (arith, v .within, month-short (leap y) m (in-m .0 .0) (in-m .0 .1)))),
         )
 

@@ -1,22 +1,21 @@
 -- Moments: a date of the years 0 to 9999 and milliseconds of the day, and their count. Assumes nothing.
-use mathlib.Core.Path.{_≡_, refl, sym}
-use mathlib.Core.Bool.{Bool, true, false, _&&_}
+use mathlib.Core.Path.{_≡_, refl, sym, _∙_}
+use mathlib.Core.Bool.{Bool, true, false, true≢false, _&&_, _||_}
 use Prim.Native.Nat.{ℕ, _≤_, _<_}
 use native.Mathlib.Omega.{arith}
 use lib.Dec.{leb, ltb}
-use lib.IntN.{ℤ, pos, negsuc}
+use lib.Signed.{ltZ}
+use lib.IntN.{ℤ, pos, negsuc, natAbs}
 use mir.Syntax.{w64}
 use mir.Val.{SFits, toZ, ofZ}
 use mir.Facts.{toZ-ofZ}
-use borrow.Author.Tests.{leb-true, le-leb, ltb-true, lt-ltb}
-use Rattle.format.specs.Fields.{natOr}
-use Rattle.format.proofs.Tests.{both}
+use borrow.Author.Tests.{leb-true, le-leb, le-ltb, ltb-true, lt-ltb}
+use Rattle.format.proofs.Tests.{both, neither}
 use Rattle.epochs.specs.declared.counts.Count.{Count}
 use Rattle.epochs.specs.declared.counts.Count.the-variants.{Whole, NoEpoch}
-use Rattle.epochs.specs.Calendar.{date, leap, isDate, daysBefore}
+use Rattle.epochs.specs.Calendar.{date, isDate, daysBefore}
 use Rattle.epochs.specs.Epochs.{dayLength, lastEpoch, isMoment, countAt, countMoment, countFrom}
-use Rattle.epochs.proofs.Months.{no-month, month-short}
-use Rattle.epochs.proofs.Dates.{valid-of, day-small, month-from, month-to}
+use Rattle.epochs.proofs.Dates.{valid-of, day-small}
 
 -- what is asked of a moment
 pub record Moment (y m d t : ℕ) : Type 0 where
@@ -53,13 +52,6 @@ module _ (y m d t : ℕ) where
   unfolding countAt daysBefore
   count-small a = omega (arith, day-small y m d (a .year) (valid-of y m d (a .there)), a .time)
 
-  no-moment : (Moment y m d t → ⊥) → countMoment (date y m d) t ≡ NoEpoch
-  no-moment h = go (isMoment (date y m d) t) refl
-    where
-      go : (b : Bool) → isMoment (date y m d) t ≡ b → countMoment (date y m d) t ≡ NoEpoch
-      go true e = absurd (h (moment-of e))
-      go false e = sym (not-counted e)
-
   -- what has a count is a moment
   pub count-of-moment : (n : ℕ) → countMoment (date y m d) t ≡ Whole n → (Moment y m d t) × (countAt (date y m d) t ≡ n)
   count-of-moment n e = go (isMoment (date y m d) t) refl
@@ -68,36 +60,65 @@ module _ (y m d t : ℕ) where
       go true p = let q = counted p in (moment-of p, cc)
       go false p = let q = not-counted p in let z : NoEpoch ≡ Whole n = cc in absurd (none-whole z)
 
--- ---- the code takes a negative number for one beyond every year, month, day and millisecond of the day
-abbrev beyond : ℕ
-beyond = 99999999
+-- ---- what a caller gives: any number that is negative, or none
+abbrev anyNegative : ℤ → ℤ → ℤ → ℤ → Bool
+anyNegative y m d t = ltZ y (pos 0) || (ltZ m (pos 0) || (ltZ d (pos 0) || ltZ t (pos 0)))
 
-no-such-month : (y d t : ℕ) → Moment y beyond d t → ⊥
-no-such-month y d t a =
-    let v = valid-of y beyond d (a .there) in
-    omega (arith, v .some, v .within, no-month (leap y) beyond (omega arith))
+not-negative : (n : ℕ) → ltZ (pos n) (pos 0) ≡ false
+not-negative n = le-ltb n 0 (omega arith)
 
-no-such-day : (y m t : ℕ) → Moment y m beyond t → ⊥
-no-such-day y m t a =
-    let v = valid-of y m beyond (a .there) in
-    omega (arith, v .within, month-short (leap y) m (month-from y m beyond v) (month-to y m beyond v))
-
-pub signed-is : (y m d t : ℤ) → countMoment (date (natOr beyond y) (natOr beyond m) (natOr beyond d)) (natOr beyond t) ≡ countFrom y m d t
+any-negative : (y m d t : ℤ) → anyNegative y m d t ≡ true → NoEpoch ≡ countFrom y m d t
 unfolding countFrom
-signed-is (pos y) (pos m) (pos d) (pos t) = refl
-signed-is (negsuc y) m d t = no-moment beyond (natOr beyond m) (natOr beyond d) (natOr beyond t) (λ a. omega (arith, a .year))
-signed-is (pos y) (negsuc m) d t = no-moment y beyond (natOr beyond d) (natOr beyond t) (no-such-month y (natOr beyond d) (natOr beyond t))
-signed-is (pos y) (pos m) (negsuc d) t = no-moment y m beyond (natOr beyond t) (no-such-day y m (natOr beyond t))
-signed-is (pos y) (pos m) (pos d) (negsuc t) = no-moment y m d beyond (λ a. omega (arith, a .time))
+any-negative (pos y) (pos m) (pos d) (pos t) e =
+    let f = rw (not-negative y, not-negative m, not-negative d, not-negative t) at e in absurd (true≢false (sym f))
+any-negative (negsuc y) m d t e = refl
+any-negative (pos y) (negsuc m) d t e = refl
+any-negative (pos y) (pos m) (negsuc d) t e = refl
+any-negative (pos y) (pos m) (pos d) (negsuc t) e = refl
 
--- signed numbers that are passed on as arguments
-pub passed : (y m d t : ℤ) → SFits w64 y → SFits w64 m → SFits w64 d → SFits w64 t → {k : Count}
-    → k ≡ countFrom (toZ w64 (ofZ w64 y)) (toZ w64 (ofZ w64 m)) (toZ w64 (ofZ w64 d)) (toZ w64 (ofZ w64 t)) → k ≡ countFrom y m d t
-passed y m d t f g h i e = rw (toZ-ofZ {w = w64} f, toZ-ofZ {w = w64} g, toZ-ofZ {w = w64} h, toZ-ofZ {w = w64} i) at e
+pub record NoneNegative (y m d t : ℤ) : Type 0 where
+  pub year : ltZ y (pos 0) ≡ false
+  pub month : ltZ m (pos 0) ≡ false
+  pub day : ltZ d (pos 0) ≡ false
+  pub time : ltZ t (pos 0) ≡ false
+
+none-negative : (y m d t : ℤ) → NoneNegative y m d t → countMoment (date (natAbs y) (natAbs m) (natAbs d)) (natAbs t) ≡ countFrom y m d t
+unfolding countFrom
+none-negative (pos y) (pos m) (pos d) (pos t) k = refl
+none-negative (negsuc y) m d t k = absurd (true≢false (k .year))
+none-negative (pos y) (negsuc m) d t k = absurd (true≢false (k .month))
+none-negative (pos y) (pos m) (negsuc d) t k = absurd (true≢false (k .day))
+none-negative (pos y) (pos m) (pos d) (negsuc t) k = absurd (true≢false (k .time))
+
+-- as the code reads it
+abbrev read : ℤ → ℤ
+read x = toZ w64 (ofZ w64 x)
+
+module _ (y m d t : ℤ) (fy : SFits w64 y) (fm : SFits w64 m) (fd : SFits w64 d) (ft : SFits w64 t) where
+  pub negative-given : anyNegative (read y) (read m) (read d) (read t) ≡ true → NoEpoch ≡ countFrom y m d t
+  negative-given e = any-negative y m d t (rw (toZ-ofZ {w = w64} fy, toZ-ofZ {w = w64} fm, toZ-ofZ {w = w64} fd, toZ-ofZ {w = w64} ft) at e)
+
+  pub passed : {k : Count} → k ≡ countFrom (read y) (read m) (read d) (read t) → k ≡ countFrom y m d t
+  passed e = rw (toZ-ofZ {w = w64} fy, toZ-ofZ {w = w64} fm, toZ-ofZ {w = w64} fd, toZ-ofZ {w = w64} ft) at e
+
+  module _ (e : anyNegative (read y) (read m) (read d) (read t) ≡ false) where
+    pub none-given : NoneNegative (read y) (read m) (read d) (read t)
+    none-given =
+        let p = neither (ltZ (read y) (pos 0)) (ltZ (read m) (pos 0) || (ltZ (read d) (pos 0) || ltZ (read t) (pos 0))) e in
+        let q = neither (ltZ (read m) (pos 0)) (ltZ (read d) (pos 0) || ltZ (read t) (pos 0)) (p .1) in
+        let r = neither (ltZ (read d) (pos 0)) (ltZ (read t) (pos 0)) (q .1) in
+        record { year = p .0; month = q .0; day = r .0; time = r .1 }
+
+    pub moment-given : {k : Count} → k ≡ countMoment (date (natAbs (read y)) (natAbs (read m)) (natAbs (read d))) (natAbs (read t)) → k ≡ countFrom y m d t
+    moment-given f = passed (f ∙ none-negative (read y) (read m) (read d) (read t) none-given)
 
 -- the count at what a caller gives is no later than the last epoch
 pub from-small : (y m d t : ℤ) (n : ℕ) → countFrom y m d t ≡ Whole n → n ≤ lastEpoch
-from-small y m d t n e =
-    let s = signed-is y m d t in
-    let k = count-of-moment (natOr beyond y) (natOr beyond m) (natOr beyond d) (natOr beyond t) n (rw s e) in
-    omega (arith, k .1, count-small (natOr beyond y) (natOr beyond m) (natOr beyond d) (natOr beyond t) (k .0))
+unfolding countFrom
+from-small (pos y) (pos m) (pos d) (pos t) n e =
+    let k = count-of-moment y m d t n e in
+    omega (arith, k .1, count-small y m d t (k .0))
+from-small (negsuc y) m d t n e = absurd (none-whole e)
+from-small (pos y) (negsuc m) d t n e = absurd (none-whole e)
+from-small (pos y) (pos m) (negsuc d) t n e = absurd (none-whole e)
+from-small (pos y) (pos m) (pos d) (negsuc t) n e = absurd (none-whole e)

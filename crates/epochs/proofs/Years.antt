@@ -82,14 +82,22 @@ unfolding daysBeforeYear
 by-division zero = refl
 by-division (suc y) = year-more y ∙ rw (by-division y)
 
-pub some-year : (n y : ℕ) → n < daysBeforeYear y → 1 ≤ y
+some-before : (n y : ℕ) → n < daysBeforeYear y → 1 ≤ y
 unfolding daysBeforeYear
-some-year n zero k = absurd (omega arith)
-some-year n (suc y) k = omega arith
+some-before n zero k = absurd (omega arith)
+some-before n (suc y) k = omega arith
 
 -- the years 0 to 9999 have 3,652,425 days
 pub all-years : daysBeforeYear 10000 ≡ 3652425
 all-years = sym (by-division 10000)
+
+-- the day n is the day d of the year y
+abbrev pub InYear : ℕ → ℕ → ℕ → Type 0
+InYear n y d = (y ≤ 9999) × ((daysBeforeYear y + d ≡ n) × (d < cond (leap y) 366 365))
+
+in-year : (n y b : ℕ) → y ≤ 9999 → b ≡ daysBeforeYear y → b ≤ n → n < daysBeforeYear (suc y) → InYear n y (n - b)
+unfolding daysBeforeYear
+in-year n y b h b-is from to = (h, (omega arith, omega arith))
 
 -- a day n, and y the year by the mean length of a year: n is in y or in the year before
 module _ (n y : ℕ) (e : y ≡ (400 * n + 400) / 146097) (h : n < 3652425) where
@@ -102,11 +110,21 @@ module _ (n y : ℕ) (e : y ≡ (400 * n + 400) / 146097) (h : n < 3652425) wher
   not-last : byDivision y ≤ n → y ≤ 9999
   not-last k = omega arith
 
-  pub year-before : n < daysBeforeYear y → (y - 1 ≤ 9999) × ((daysBeforeYear (y - 1) ≤ n) × (n < daysBeforeYear (suc (y - 1))))
-  year-before k =
-      let p : 1 ≤ y = some-year n y k in
-      let up : suc (y - 1) ≡ y = omega arith in
-      (omega arith, (rw (by-division (y - 1)) at not-before, rw up k))
+  pub year-found : (b : ℕ) → b ≡ daysBeforeYear y → b ≤ n → InYear n y (n - b)
+  year-found b b-is k =
+      let from : daysBeforeYear y ≤ n = rw b-is at k in
+      in-year n y b (not-last (rw (sym (by-division y)) at from)) b-is k (rw (by-division (suc y)) at not-after)
 
-  pub year-found : daysBeforeYear y ≤ n → (y ≤ 9999) × ((daysBeforeYear y ≤ n) × (n < daysBeforeYear (suc y)))
-  year-found k = (not-last (rw (sym (by-division y)) at k), (k, rw (by-division (suc y)) at not-after))
+  module _ (b : ℕ) (b-is : b ≡ daysBeforeYear y) (k : n < b) where
+    pub some-year : 1 ≤ y
+    some-year = some-before n y (rw b-is at k)
+
+    pub before-some : (c : ℕ) → c ≡ daysBeforeYear (y - 1) → c ≤ n
+    before-some c c-is = rw (c-is, sym (by-division (y - 1))) not-before
+
+    pub year-before : (c : ℕ) → c ≡ daysBeforeYear (y - 1) → InYear n (y - 1) (n - c)
+    year-before c c-is =
+        let p = some-year in
+        let up : suc (y - 1) ≡ y = omega arith in
+        let to : n < daysBeforeYear y = rw b-is at k in
+        in-year n (y - 1) c (omega arith) c-is (before-some c c-is) (rw up to)

@@ -1,13 +1,19 @@
 // The proleptic Gregorian calendar of the years 0 to 9999.
 ghost use mathlib.Core.Path.{_≡_};
 ghost use mathlib.Core.Bool.{true, cond};
-ghost use Prim.Native.Nat.{suc, _≤_, _<_};
+ghost use Prim.Native.Nat.{suc, _+_, _≤_, _<_};
 ghost use Rattle.epochs.specs.Calendar.{leap, monthDays, daysBeforeMonth, daysBeforeYear, date, isDate, daysBefore, dateOf};
 
 // A date: the year, the month from 1 to 12, the day of the month from 1.
 pub struct Date {
     pub year: u64,
     pub month: u64,
+    pub day: u64,
+}
+
+// A year and a day of it, from 0.
+pub struct YearDay {
+    pub year: u64,
     pub day: u64,
 }
 
@@ -32,13 +38,22 @@ fn before_year(y: u64) -> u64
     365 * y + (y + 3) / 4 + (y + 399) / 400 - (y + 99) / 100
 }
 
-// The year of a day of the 3,652,425 of the years 0 to 9999: by the mean length of a year it is the one found, or the one before.
-fn year_of(n: u64) -> u64
+// The year of a day of the 3,652,425 of the years 0 to 9999, and which day of it: by the mean length of a year it is the one found, or the
+// one before.
+fn year_of(n: u64) -> YearDay
     requires { ⌜ n < 3652425 ⌝ }
-    ensures { λ r. ⌜ (r ≤ 9999) × ((daysBeforeYear r ≤ n) × (n < daysBeforeYear (suc r))) ⌝ }
+    ensures { λ r. ⌜ (r .year ≤ 9999) × ((daysBeforeYear (r .year) + r .day ≡ n) × (r .day < cond (leap (r .year)) 366 365)) ⌝ }
 {
     let y = (400 * n + 400) / 146097;
-    if n < before_year(y) { y - 1 } else { y }
+    let b = before_year(y);
+    if n < b {
+        let z = y - 1;
+        return YearDay {
+            year: z,
+            day: n - before_year(z),
+        };
+    }
+    YearDay { year: y, day: n - b }
 }
 
 // The days by which February is shorter than 30.
@@ -91,8 +106,9 @@ pub fn date_of(n: u64) -> Date
     requires { ⌜ n < 3652425 ⌝ }
     ensures { λ r. ⌜ (r ≡ dateOf n) × ((r .year ≤ 9999) × ((r .month ≤ 12) × (r .day ≤ 31))) ⌝ }
 {
-    let y = year_of(n);
-    let d = n - before_year(y);
+    let p = year_of(n);
+    let y = p.year;
+    let d = p.day;
     let l = is_leap(y);
     let m = month_of(l, d);
     let b = before_month(l, m);

@@ -1,6 +1,5 @@
 // Epochs as counts of milliseconds from the beginning of year 0.
 ghost use mathlib.Core.Path.{_≡_};
-ghost use Rattle.format.specs.Fields.{natOr};
 ghost use Rattle.epochs.specs.Calendar.{date};
 ghost use Rattle.epochs.specs.Epochs.{countOf, isEpoch, isMoment, countMoment, countFrom};
 use crate::calendar;
@@ -59,21 +58,17 @@ fn count_moment(y: u64, m: u64, d: u64, t: u64) -> Count
     Count::Whole(calendar::days_before(y, m, d) * 86400000 + t)
 }
 
-// A number that is not negative; for one that is, a number beyond every year, month, day and millisecond of the day.
-fn natural(x: i64) -> u64
-    ensures { λ r. ⌜ r ≡ natOr 99999999 x ⌝ }
-{
-    if x < 0 { 99999999 } else { x as u64 }
-}
-
-// The count at a date and a millisecond of the day that a caller gives.
+// The count at a date and a millisecond of the day that a caller gives; none of the numbers may be negative.
 pub fn count_from(year: i64, month: i64, day: i64, milliseconds: i64) -> Count
     ensures { λ r. ⌜ r ≡ countFrom year month day milliseconds ⌝ }
 {
+    if (year < 0) | ((month < 0) | ((day < 0) | (milliseconds < 0))) {
+        return Count::NoEpoch;
+    }
     count_moment(
-        natural(year),
-        natural(month),
-        natural(day),
-        natural(milliseconds),
+        year as u64,
+        month as u64,
+        day as u64,
+        milliseconds as u64,
     )
 }
