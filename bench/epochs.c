@@ -8,9 +8,6 @@
 
 enum { NO_EPOCH = 27, DAY = 86400000 };
 
-/* The last millisecond of year 9999. */
-static const uint64_t last = 315569519999999;
-
 static int is_leap(uint64_t y)
 {
     return y % 4 == 0 && (y % 100 != 0 || y % 400 == 0);
@@ -42,14 +39,16 @@ static uint64_t lack_of(uint64_t y)
     return is_leap(y) ? 1 : 2;
 }
 
-/* A double is an epoch, and its milliseconds. */
+/* A double is an epoch, and its milliseconds. Behind 2^52 a double has no room for a fraction. */
 static int is_epoch(double x, uint64_t *n)
 {
-    if (!(x > -1.0 && x < 18446744073709551616.0))
+    const double large = 4503599627370496.0;
+    uint64_t bits = 0;
+    memcpy(&bits, &x, sizeof bits);
+    if (!(x <= 315569519999999.0) || bits >> 63 != 0 || (x + large) - large != x)
         return 0;
     *n = (uint64_t)x;
-    double again = (double)*n;
-    return *n <= last && memcmp(&again, &x, sizeof x) == 0;
+    return 1;
 }
 
 int32_t plain_date(double epoch, int32_t *year, int32_t *month, int32_t *day, int32_t *milliseconds)

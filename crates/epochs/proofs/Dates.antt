@@ -129,7 +129,8 @@ abbrev Counts : Date → ℕ → Type 0
 Counts d n = (Valid (d .year) (d .month) (d .day)) × (before (d .year) (d .month) (d .day) ≡ n)
 
 module _ (y m d n : ℕ) (v : Valid y m d) (k : before y m d ≡ n) where
-  next-by : (a : Bool) → ltb d (monthDays (leap y) m) ≡ a → (b : Bool) → ltb m 12 ≡ b → Counts (cond a (date y m (suc d)) (cond b (date y (suc m) 1) (date (suc y) 1 1))) (suc n)
+  next-by : (a : Bool) → ltb d (monthDays (leap y) m) ≡ a → (b : Bool) → ltb m 12 ≡ b
+      → Counts (cond a (date y m (suc d)) (cond b (date y (suc m) 1) (date (suc y) 1 1))) (suc n)
   next-by true p b q = let r = next-in-month y m d v (ltb-true d (monthDays (leap y) m) p) in (r .0, r .1 ∙ ap suc k)
   next-by false p true q =
       let e : d ≡ monthDays (leap y) m = omega (arith, v .within, ltb-false d (monthDays (leap y) m) p) in

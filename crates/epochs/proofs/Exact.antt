@@ -1,8 +1,8 @@
--- The difference of two whole numbers is exact. Assumes nothing.
+-- Sums and differences of whole numbers are exact. Assumes nothing.
 use mathlib.Core.Path.{_≡_, refl, sym, ap, _∙_}
 use mathlib.Core.Bool.{Bool, true, false, cond}
-use Prim.Native.Nat.{ℕ, zero, suc, _-_, _*_, _≤_, _<_}
-use native.Mathlib.Nat.{le-refl, sub-self, mul-one, mul-assoc, mul-comm, mul-pos, zero-lt-suc, mul-le-mul-right, mul-lt-mul-of-pos-right, mul-sub}
+use Prim.Native.Nat.{ℕ, zero, suc, _+_, _-_, _*_, _≤_, _<_}
+use native.Mathlib.Nat.{le-refl, sub-self, mul-one, mul-assoc, mul-comm, mul-pos, zero-lt-suc, mul-le-mul-right, mul-lt-mul-of-pos-right, mul-sub, add-mul}
 use native.Mathlib.Omega.{arith}
 use lib.IntN.{ℤ, pos, _-ℤ_, subℕ}
 use lib.Dec.{ltb}
@@ -66,6 +66,22 @@ exact f (fin s m e) (inf t) a b p q = absurd q
 exact f (fin s m e) (fin t n d) a b p q =
     rw (p .0, q .0, left-is m a n b e d (p .1) (q .1), right-is m a n b e d (p .1) (q .1))
     (diff f a b (down e * down d) (mul-pos (down-pos e) (down-pos d)) ∙ sym (int-is f a b))
+
+-- of natural numbers, the second the smaller one
+pub exact-natural : (f : Format) (x y : Float) (a b : ℕ) → HasValue x false a 1 → HasValue y false b 1 → b ≤ a → sub f x y ≡ round f false (a - b) 1
+unfolding rounded
+exact-natural f x y a b p q h = exact f x y a b p q ∙ int-is f a b ∙ rw (le-ltb a b h)
+
+pub exact-sum : (f : Format) (x y : Float) (a b : ℕ) → HasValue x false a 1 → HasValue y false b 1 → add f x y ≡ round f false (a + b) 1
+unfolding add sum
+exact-sum f nan y a b p q = absurd p
+exact-sum f (inf s) y a b p q = absurd p
+exact-sum f (fin s m e) nan a b p q = absurd q
+exact-sum f (fin s m e) (inf t) a b p q = absurd q
+exact-sum f (fin s m e) (fin t n d) a b p q =
+    let c = down e * down d in
+    rw (p .0, q .0, left-is m a n b e d (p .1) (q .1), right-is m a n b e d (p .1) (q .1))
+    (round-same f false (a * c + b * c) c (a + b) 1 (mul-pos (down-pos e) (down-pos d)) (zero-lt-suc 0) (mul-one (a * c + b * c) ∙ sym (add-mul a b c)))
 
 -- of equal numbers it is +0
 zero-is : round binary64 false 0 1 ≡ fin false 0 (pos 0)

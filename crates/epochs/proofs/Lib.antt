@@ -4,5 +4,6 @@ pub mod Dates
 pub mod Moments
 pub mod Wholes
 pub mod Exact
+pub mod Fractions
 pub mod Shown
 pub mod Promised

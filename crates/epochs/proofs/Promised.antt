@@ -70,7 +70,8 @@ pub date-and-back : DateAndBack
 unfolding dateShown epochShown countFrom at
 date-and-back x f y m d t z = go (countOf x) refl
   where
-    go : (c : Count) → countOf x ≡ c → let s = dateShown c y m d t in s .answer ≡ pos 0 → epochShown (countFrom (s .year) (s .month) (s .day) (s .milliseconds)) z ≡ shownDouble (pos 0) x
+    go : (c : Count) → countOf x ≡ c → let s = dateShown c y m d t in s .answer ≡ pos 0
+        → epochShown (countFrom (s .year) (s .month) (s .day) (s .milliseconds)) z ≡ shownDouble (pos 0) x
     go (Whole n) e a = let k = count-is x n f e in rw (counted-back n (k .1)) (ap (shownDouble (pos 0)) (sym (k .0)))
     go NoEpoch e a = no-answer a
 

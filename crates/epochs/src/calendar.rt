@@ -53,7 +53,10 @@ fn year_of(n: u64) -> YearDay
             day: n - before_year(z),
         };
     }
-    YearDay { year: y, day: n - b }
+    YearDay {
+        year: y,
+        day: n - b,
+    }
 }
 
 // The days by which February is shorter than 30.

@@ -10,25 +10,21 @@ pub enum Count {
     NoEpoch,
 }
 
-// The count of a double: its whole part, if that is the same double again. A whole part is had of a number above -1 and below 2^64,
-// which a NaN is not; negative zero has other bits than 0.
+// The count of a double. A NaN is not below the last epoch; the sign of negative zero is set. From 2^52 to 2^53 doubles are whole
+// numbers, so a fraction is lost where 2^52 is added.
 pub fn count_of(x: f64) -> Count
     ensures { λ r. ⌜ r ≡ countOf x ⌝ }
 {
-    if !(x > -1.0) {
+    if !(x <= 315569519999999.0) {
         return Count::NoEpoch;
     }
-    if !(x < 18446744073709551616.0) {
+    if f64::to_bits(x) >= 0x8000_0000_0000_0000 {
         return Count::NoEpoch;
     }
-    let n = std::num::truncating_f64_to_u64(x);
-    if 315569519999999 < n {
+    if (x + 4503599627370496.0) - 4503599627370496.0 != x {
         return Count::NoEpoch;
     }
-    if f64::to_bits(n as f64) != f64::to_bits(x) {
-        return Count::NoEpoch;
-    }
-    Count::Whole(n)
+    Count::Whole(x as u64)
 }
 
 // A double is an epoch.
@@ -65,10 +61,5 @@ pub fn count_from(year: i64, month: i64, day: i64, milliseconds: i64) -> Count
     if (year < 0) | ((month < 0) | ((day < 0) | (milliseconds < 0))) {
         return Count::NoEpoch;
     }
-    count_moment(
-        year as u64,
-        month as u64,
-        day as u64,
-        milliseconds as u64,
-    )
+    count_moment(year as u64, month as u64, day as u64, milliseconds as u64)
 }

@@ -15,11 +15,11 @@ enum-known-n c = search needs
 
 int-to-float-epoch : tie.Need-int-to-float-epoch
 int-to-float-epoch c =
-    let g = c .before .before .before .before .before in
-    let a = g .args in
+    let a = c .before .before .before .before .before .args in
+    let f = c .before .before .before .before .before .fits in
     let k = c .before .before .before .before .count-from in
     let n = c .before .before .n .given in
-    let e = passed (a .year) (a .month) (a .day) (a .milliseconds) (g .fits .year) (g .fits .month) (g .fits .day) (g .fits .milliseconds) (k .ensures) in
+    let e = passed (f .year) (f .month) (f .day) (f .milliseconds) (k .ensures) in
     may-cast (n .0 .0) (from-small (a .year) (a .month) (a .day) (a .milliseconds) (n .0 .0) (sym e ∙ n .1))
 
 enum-told : tie.Need-enum-told
@@ -27,19 +27,19 @@ enum-told c = search needs
 
 returns : tie.Need-returns
 returns c =
-    let g = c .before .before .before .before .before in
-    let a = g .args in
+    let a = c .before .before .before .before .before .args in
+    let f = c .before .before .before .before .before .fits in
     let k = c .before .before .before .before .count-from in
     let n = c .before .before .n .given in
-    let e = passed (a .year) (a .month) (a .day) (a .milliseconds) (g .fits .year) (g .fits .month) (g .fits .day) (g .fits .milliseconds) (k .ensures) in
+    let e = passed (f .year) (f .month) (f .day) (f .milliseconds) (k .ensures) in
     epoch-is-shown (countFrom (a .year) (a .month) (a .day) (a .milliseconds)) (k .result) e (n .0 .0) (n .1) (a .epoch .now)
 
 returns-2 : tie.Need-returns-2
 returns-2 c =
-    let g = c .before .before .before in
-    let a = g .args in
+    let a = c .before .before .before .args in
+    let f = c .before .before .before .fits in
     let k = c .before .before .count-from in
-    let e = passed (a .year) (a .month) (a .day) (a .milliseconds) (g .fits .year) (g .fits .month) (g .fits .day) (g .fits .milliseconds) (k .ensures) in
+    let e = passed (f .year) (f .month) (f .day) (f .milliseconds) (k .ensures) in
     epoch-not-shown (countFrom (a .year) (a .month) (a .day) (a .milliseconds)) (k .result) e (c .enum-told .given .1) (a .epoch .now)
 
 pub tlz-epoch-from-spec : {M : Type 1} → statement M

@@ -29,7 +29,9 @@ returns : tie.Need-returns
 returns c = let a = c .before .before in month-early (a .args .l) (a .args .d) (a .pre) (rw (c .before .short .ensures .0) at (c .if1 .taken))
 
 returns-2 : tie.Need-returns-2
-returns-2 c = let a = c .before .before in rw (c .before .short .ensures .0) (month-late (a .args .l) (a .args .d) (a .pre) (rw (c .before .short .ensures .0) at (c .if1 .left)))
+returns-2 c =
+    let a = c .before .before in
+    rw (c .before .short .ensures .0) (month-late (a .args .l) (a .args .d) (a .pre) (rw (c .before .short .ensures .0) at (c .if1 .left)))
 
 pub month-of-spec : {M : Type 1} → statement M
 month-of-spec =

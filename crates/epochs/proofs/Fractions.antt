@@ -1,0 +1,231 @@
+-- The tests of a double that the code makes. From 2 ^ 52 to 2 ^ 53 doubles are whole numbers, so a fraction is lost where 2 ^ 52 is added to an epoch.
+-- Assumes nothing.
+use mathlib.Core.Path.{_≡_, refl, sym, ap, _∙_, subst}
+use mathlib.Core.Logic.{_⊎_, inl, inr}
+use mathlib.Core.Bool.{true, false, not, _&&_, true≢false}
+use Prim.Native.Nat.{ℕ, zero, suc, _+_, _-_, _*_, _/_, _%_, _^_, _≤_, _<_}
+use native.Mathlib.Omega.{arith}
+use native.Mathlib.Nat.{mul-one, mul-div-cancel, mul-right-comm, eq-of-mul-eq-mul-right, le-of-mul-le-mul-right, pow-succ'}
+use lib.Dec.{T, ltb, leb, eqb, ltb→lt}
+use lib.IntN.{ℤ, pos, negsuc}
+use lib.Pow.{pow-pos}
+use lib.Ieee.{Float, nan, inf, fin, binary64, up, down, round, sum, add, sub, neg, ofInt, toBits, toUnsigned, inUnsigned, fits, isNan, lt, le, eq, ne}
+use lib.Ieee.Exact.{HasValue}
+use lib.Ieee.Fits.{down-pos, neg-fits, round-fits, and-l, and-r}
+use lib.Ieee.Bits.{toBits-lt}
+use lib.Ieee.Back.{round-whole, unsigned-back}
+use lib.Ieee.Order.{round-mono, le-of-values}
+use lib.Ieee.Positive.{num, den, positive, positive-of-value, own-value, values-of-le, between}
+use lib.Ieee.Compare.{differs-from-itself}
+use borrow.Author.Tests.{ltb-true, eqb-true, not-false}
+use Rattle.format.proofs.Tests.{both, either}
+use Rattle.epochs.specs.declared.counts.Count.the-variants.{Whole, NoEpoch}
+use Rattle.epochs.specs.Epochs.{lastEpoch, countOf}
+use Rattle.epochs.proofs.Wholes.{value-counts, count-value, count-is, may-cast, refused-unless}
+use Rattle.epochs.proofs.Exact.{exact-natural, exact-sum}
+
+-- the double of the last epoch, and 2 ^ 52
+abbrev pub last : Float
+last = fin false lastEpoch (pos 0)
+
+abbrev large : Float
+large = fin false 1 (pos 52)
+
+pub at-most-not-nan : (x : Float) → le x last ≡ true → T (not (isNan x))
+unfolding le lt eq isNan
+at-most-not-nan nan e = absurd (true≢false (sym e))
+at-most-not-nan (inf s) e = tt
+at-most-not-nan (fin s m d) e = tt
+
+-- ---- the sign, by the bits
+sign-set : (m : ℕ) (e : ℤ) → 2 ^ 63 ≤ toBits binary64 (fin true m e)
+unfolding toBits
+sign-set m e = omega arith
+
+sign-clear : (m : ℕ) (e : ℤ) → T (fits binary64 (fin false m e)) → toBits binary64 (fin false m e) < 2 ^ 63
+unfolding toBits neg
+sign-clear m e f = let h = toBits-lt binary64 (fin true m e) (neg-fits binary64 (fin false m e) f) in omega (arith, h)
+
+-- ---- no test refuses a count
+module _ (x : Float) (f : T (fits binary64 x)) where
+  pub refused-late : le x last ≡ false → NoEpoch ≡ countOf x
+  refused-late e = refused-unless x (λ n k. go n (count-value x n k))
+    where
+      go : (n : ℕ) → (HasValue x false n 1) × (n ≤ lastEpoch) → ⊥
+      go n v = subst T e (le-of-values x last n 1 lastEpoch 1 (omega arith) (omega arith) (v .0) (refl, refl) (omega (arith, v .1)))
+
+  pub refused-signed : 2 ^ 63 ≤ toBits binary64 x → NoEpoch ≡ countOf x
+  refused-signed h = refused-unless x (λ n k. go n x f (count-value x n k .0) h)
+    where
+      go : (n : ℕ) (x : Float) → T (fits binary64 x) → HasValue x false n 1 → 2 ^ 63 ≤ toBits binary64 x → ⊥
+      go n nan f v h = v
+      go n (inf s) f v h = v
+      go n (fin true m e) f v h = true≢false (v .0)
+      go n (fin false m e) f v h = omega (arith, sign-clear m e f)
+
+  module _ (n : ℕ) (k : countOf x ≡ Whole n) where
+    back-again : sub binary64 (add binary64 x large) large ≡ x
+    unfolding ofInt
+    back-again =
+        let v = count-value x n k in
+        let s = exact-sum binary64 x large n 4503599627370496 (v .0) (refl, refl) in
+        let w = round-whole binary64 false (n + 4503599627370496) (omega (arith, v .1)) in
+        let r = round binary64 false (n + 4503599627370496) 1 in
+        let d = exact-natural binary64 r large (n + 4503599627370496) 4503599627370496 w (refl, refl) (omega arith) in
+        let e : n + 4503599627370496 - 4503599627370496 ≡ n = omega arith in
+        rw s (d ∙ rw e (sym (count-is x n f k .0)))
+
+    not-lost : ne (sub binary64 (add binary64 x large) large) x ≡ true → ⊥
+    not-lost e =
+        let g : ne x x ≡ true = rw back-again at e in
+        let h : x ≡ nan = differs-from-itself x (subst T (sym g) tt) in
+        subst (λ (z : Float). HasValue z false n 1) h (count-value x n k .0)
+
+  pub refused-fraction : ne (sub binary64 (add binary64 x large) large) x ≡ true → NoEpoch ≡ countOf x
+  refused-fraction e = refused-unless x (λ n k. not-lost n k e)
+
+-- ---- what passes them is a count
+-- a double from 2 ^ 52 on is a whole number
+record WholeNumber (x : Float) : Type 0 where
+  pub number : ℕ
+  pub value : HasValue x false number 1
+
+digits-small : (m : ℕ) (e : ℤ) → T (fits binary64 (fin false (suc m) e)) → suc m < 9007199254740992
+unfolding fits
+digits-small m e f =
+    let p = and-l (eqb (suc m % 2) 1 && ltb (suc m) 9007199254740992 && leb (down e) (2 ^ 1074)) (ltb (suc m * up e) (2 ^ 1024 * down e)) f in
+    let q = and-l (eqb (suc m % 2) 1 && ltb (suc m) 9007199254740992) (leb (down e) (2 ^ 1074)) p in
+    ltb→lt (suc m) 9007199254740992 (and-r (eqb (suc m % 2) 1) (ltb (suc m) 9007199254740992) q)
+
+large-whole : (x : Float) → T (fits binary64 x) → T (positive x) → 4503599627370496 * den x ≤ num x → WholeNumber x
+large-whole nan f p h = absurd p
+large-whole (inf s) f p h = absurd p
+large-whole (fin true m e) f p h = absurd p
+large-whole (fin false m (pos k)) f p h = record { number = m * 2 ^ k; value = (refl, refl) }
+large-whole (fin false zero (negsuc k)) f p h = absurd p
+large-whole (fin false (suc m) (negsuc k)) f p h = absurd (omega (arith, pow-pos k, pow-succ' 2 k, digits-small m (negsuc k) f))
+
+-- two doubles that compare as equal
+equal-value : (w : Float) (m : ℕ) (e : ℤ) (a : ℕ) → HasValue w false a 1 → eq w (fin false m e) ≡ true → HasValue (fin false m e) false a 1
+unfolding eq
+equal-value nan m e a v h = absurd v
+equal-value (inf s) m e a v h = absurd v
+equal-value (fin true n d) m e a v h = absurd (true≢false (v .0))
+equal-value (fin false n d) m e a v h =
+    let q = eqb-true (n * up d * down e) (m * up e * down d) (both (eqb (n * up d * down e) (m * up e * down d)) true h .0) in
+    let r : m * up e * down d ≡ a * down e * down d = sym q ∙ ap (λ (z : ℕ). z * down e) (sym (mul-one (n * up d)) ∙ v .1) ∙ mul-right-comm a (down d) (down e) in
+    (refl, mul-one (m * up e) ∙ eq-of-mul-eq-mul-right (down d) (down-pos d) (m * up e) (a * down e) r)
+
+-- a double of 0 to the last epoch
+bounded : (m : ℕ) (e : ℤ) → le (fin false m e) last ≡ true → m * up e ≤ lastEpoch * down e
+unfolding le lt eq
+bounded m e h = go (either (ltb (m * up e * 1) (lastEpoch * down e)) (eqb (m * up e * 1) (lastEpoch * down e) && true) h)
+  where
+    go : (ltb (m * up e * 1) (lastEpoch * down e) ≡ true) ⊎ ((eqb (m * up e * 1) (lastEpoch * down e) && true) ≡ true) → m * up e ≤ lastEpoch * down e
+    go (inl l) = omega (arith, ltb-true (m * up e * 1) (lastEpoch * down e) l)
+    go (inr l) = omega (arith, eqb-true (m * up e * 1) (lastEpoch * down e) (both (eqb (m * up e * 1) (lastEpoch * down e)) true l .0))
+
+-- between which the sum lies
+low : Float
+low = round binary64 false 4503599627370496 1
+
+high : Float
+high = round binary64 false 9007199254740992 1
+
+low-value : HasValue low false 4503599627370496 1
+unfolding low
+low-value = round-whole binary64 false 4503599627370496 (omega arith)
+
+high-value : HasValue high false 9007199254740992 1
+unfolding high
+high-value = round-whole binary64 false 9007199254740992 (omega arith)
+
+low-positive : T (positive low)
+low-positive = positive-of-value low 4503599627370496 1 low-value (omega arith)
+
+high-positive : T (positive high)
+high-positive = positive-of-value high 9007199254740992 1 high-value (omega arith)
+
+module _ (m : ℕ) (e : ℤ) (h : m * up e ≤ lastEpoch * down e) where
+  -- 2 ^ 52 is added
+  abbrev sum-found : Float
+  sum-found = round binary64 false (m * up e + 4503599627370496 * down e) (down e)
+
+  sum-is : add binary64 (fin false m e) large ≡ sum-found
+  unfolding add sum
+  sum-is = rw (mul-one (m * up e), mul-one (down e))
+
+  from-low : T (le low sum-found)
+  unfolding low
+  from-low = round-mono binary64 4503599627370496 1 (m * up e + 4503599627370496 * down e) (down e) (omega arith) (down-pos e) (omega arith)
+
+  to-high : T (le sum-found high)
+  unfolding high
+  to-high = round-mono binary64 (m * up e + 4503599627370496 * down e) (down e) 9007199254740992 1 (down-pos e) (omega arith) (omega arith)
+
+  sum-positive : T (positive sum-found)
+  sum-positive = between low sum-found high low-positive high-positive from-low to-high
+
+  sum-whole : WholeNumber sum-found
+  sum-whole =
+      let own = own-value sum-found sum-positive in
+      let k = values-of-le low sum-found 4503599627370496 1 (num sum-found) (den sum-found) low-positive sum-positive low-value own from-low in
+      large-whole sum-found (round-fits binary64 false (m * up e + 4503599627370496 * down e) (down e)) sum-positive (omega (arith, k))
+
+  -- and taken away
+  not-lost-whole : eq (sub binary64 (add binary64 (fin false m e) large) large) (fin false m e) ≡ true → WholeNumber (fin false m e)
+  not-lost-whole k =
+      let n = sum-whole .number in
+      let v = sum-whole .value in
+      let l = values-of-le low sum-found 4503599627370496 1 n 1 low-positive sum-positive low-value v from-low in
+      let g = values-of-le sum-found high n 1 9007199254740992 1 sum-positive high-positive v high-value to-high in
+      let d = exact-natural binary64 sum-found large n 4503599627370496 v (refl, refl) (omega (arith, l)) in
+      let w = round-whole binary64 false (n - 4503599627370496) (omega (arith, g)) in
+      let q : eq (round binary64 false (n - 4503599627370496) 1) (fin false m e) ≡ true = rw (sum-is, d) at k in
+      record { number = n - 4503599627370496; value = equal-value (round binary64 false (n - 4503599627370496) 1) m e (n - 4503599627370496) w q }
+
+  number-small : (n : ℕ) → HasValue (fin false m e) false n 1 → n ≤ lastEpoch
+  number-small n v = le-of-mul-le-mul-right {k = down e} (omega (arith, v .1)) (down-pos e)
+
+-- a count that the tests find
+record Found (x : Float) : Type 0 where
+  pub number : ℕ
+  pub value : HasValue x false number 1
+  pub small : number ≤ lastEpoch
+
+found : (x : Float) → le x last ≡ true → toBits binary64 x < 2 ^ 63 → eq (sub binary64 (add binary64 x large) large) x ≡ true → Found x
+unfolding le lt eq toBits
+found nan h s k = absurd (true≢false (sym h))
+found (inf false) h s k = absurd (true≢false (sym h))
+found (inf true) h s k = absurd (omega arith)
+found (fin true m e) h s k = absurd (omega (arith, sign-set m e))
+found (fin false m e) h s k =
+    let b = bounded m e h in
+    let w = not-lost-whole m e b k in
+    record { number = w .number; value = w .value; small = number-small m e b (w .number) (w .value) }
+
+-- its whole part is the count
+whole-part : (x : Float) (n : ℕ) → n ≤ lastEpoch → HasValue x false n 1 → toUnsigned 64 x ≡ n
+unfolding toUnsigned
+whole-part (fin true m e) n h v = absurd (true≢false (v .0))
+whole-part (fin false m e) n h v =
+    let q : m * up e ≡ n * down e = omega (arith, v .1) in
+    let c : m * up e / down e ≡ n = rw q (mul-div-cancel n (down-pos e)) in
+    rw c (omega arith)
+
+module _ (x : Float) (f : T (fits binary64 x)) (h : le x last ≡ true) (s : toBits binary64 x < 2 ^ 63)
+    (e : ne (sub binary64 (add binary64 x large) large) x ≡ false) where
+  the-count : Found x
+  unfolding ne
+  the-count = found x h s (not-false (eq (sub binary64 (add binary64 x large) large) x) e)
+
+  counts : countOf x ≡ Whole (the-count .number)
+  counts = value-counts (the-count .number) (the-count .small) x (the-count .value)
+
+  pub may-take : T (inUnsigned binary64 64 x)
+  may-take =
+      let n = the-count .number in
+      rw (count-is x n f counts .0) (unsigned-back binary64 64 n (may-cast n (the-count .small)) (omega (arith, the-count .small)) .0)
+
+  pub part-counts : Whole (toUnsigned 64 x) ≡ countOf x
+  part-counts = ap Whole (whole-part x (the-count .number) (the-count .small) (the-count .value)) ∙ sym counts
