@@ -1,5 +1,5 @@
 # Tlepozaluh. `make run`: the tools on a good file, on rings and on a record at fault, then the worked examples. `make test`: the gate.
-# `make lib`: the static libraries for C. `make tools`: the programs. `make bench`: the speed of check and reader against the
+# `make lib`: the static libraries for C. `make tools`: the programs. `make bench`: the speed of check, reader and epochs against the
 # same in plain C. `make install`: header, libraries, programs and manual pages below PREFIX, with DESTDIR before it.
 # `make neighbours`: each must-fail edit is refused, and its true neighbour is not.
 .PHONY: run examples test neighbours lib tools bench install clean build/tlepozaluh.pc build/tlepozaluh_read.pc
