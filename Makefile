@@ -9,7 +9,8 @@ PREFIX = /usr/local
 DESTDIR =
 CFLAGS = -std=c11 -O2 -Wall -Wextra -Wpedantic
 
-# The archives that rt makes, one a crate with calls for C. libtlepozaluh.a has all, libtlepozaluh_read.a the reader and epochs.
+# The archives that rt makes, one a crate with calls for C. libtlepozaluh.a has all but the benchmark's, libtlepozaluh_read.a the
+# reader and epochs.
 READER = $(addprefix target/staticlib/,libreader.a libepochs.a)
 ARCHIVES = target/staticlib/libcalls.a $(READER)
 LIBRARIES = build/libtlepozaluh.a build/libtlepozaluh_read.a

@@ -93,7 +93,7 @@ static void drawn_doubles(uint64_t n)
 
 /* Doubles at the edges of zero, of the epochs, of the tests for them and of doubles; every second is negative. */
 static const double edges[] = { 0.0, 5e-324, 0.5, 0.99999999999999989, 1.0, 1.5, DAY, 315569519999998.5, 315569519999999.0,
-                                315569519999999.5, 315569520000000.0, 9007199254740992.0, 9223372036854775808.0,
+                                315569519999999.5, 315569520000000.0, 4503599627370496.0, 9007199254740992.0, 9223372036854775808.0,
                                 18446744073709549568.0, 18446744073709551616.0, 1e300, INFINITY, NAN };
 enum { EDGES = 2 * sizeof edges / sizeof *edges };
 
@@ -227,6 +227,12 @@ static void timed_dates(const char *name, const struct items *items, ask_all *as
     printf("%-44s %10d calls  proved %9.3f ms  C %9.3f ms  %17s  proved/C %.2f\n", name, ITEMS, 1e3 * p, 1e3 * c, "", p / c);
 }
 
+static void end_differing(void)
+{
+    fprintf(stderr, "epochs: %" PRIu64 " of %" PRIu64 " differ\n", differ, count);
+    exit(1);
+}
+
 /* Sets the dates of the epochs and compares the two on both and on the differences; ends the program if they differ. */
 static void prepare(const struct items *items)
 {
@@ -236,17 +242,16 @@ static void prepare(const struct items *items)
         there_and_back(items->epochs[i]);
         subtraction(items->epochs[i], items->epochs[ITEMS - 1 - i]);
     }
-    if (differ != 0) {
-        fprintf(stderr, "epochs: %" PRIu64 " of %" PRIu64 " differ\n", differ, count);
-        exit(1);
-    }
+    if (differ != 0)
+        end_differing();
 }
 
 void dates(void)
 {
     struct items items = { allocated(ITEMS * sizeof *items.epochs), allocated(ITEMS * sizeof *items.dates) };
     uint64_t seed = 88172645463325252, compared = 0, refused = 0;
-    dates_differ(ITEMS, &compared, &refused);
+    if (dates_differ(ITEMS, &compared, &refused) != 0)
+        end_differing();
     for (size_t i = 0; i < ITEMS; i++)
         items.epochs[i] = (double)(next(&seed) % all);
     prepare(&items);

@@ -39,24 +39,28 @@ static uint64_t lack_of(uint64_t y)
     return is_leap(y) ? 1 : 2;
 }
 
-/* A double is an epoch, and its milliseconds. Behind 2^52 a double has no room for a fraction. */
-static int is_epoch(double x, uint64_t *n)
+/* A double is an epoch, and its milliseconds. Below 1 there is 0 alone; from 2^52 on a double has no room for a fraction. */
+static int is_epoch(double x, int64_t *n)
 {
     const double large = 4503599627370496.0;
     uint64_t bits = 0;
     memcpy(&bits, &x, sizeof bits);
-    if (!(x <= 315569519999999.0) || bits >> 63 != 0 || (x + large) - large != x)
+    if (!(x <= 315569519999999.0))
         return 0;
-    *n = (uint64_t)x;
+    if (x < 1.0)
+        return bits == 0;
+    if ((x + large) - large != x)
+        return 0;
+    *n = (int64_t)x;
     return 1;
 }
 
 int32_t plain_date(double epoch, int32_t *year, int32_t *month, int32_t *day, int32_t *milliseconds)
 {
-    uint64_t n = 0;
-    if (!is_epoch(epoch, &n))
+    int64_t count = 0;
+    if (!is_epoch(epoch, &count))
         return NO_EPOCH;
-    uint64_t days = n / DAY, y = (400 * days + 400) / 146097, before = before_year(y);
+    uint64_t n = (uint64_t)count, days = n / DAY, y = (400 * days + 400) / 146097, before = before_year(y);
     if (days < before)
         before = before_year(--y);
     uint64_t d = days - before, lack = lack_of(y);
@@ -76,13 +80,13 @@ int32_t plain_from(int64_t year, int64_t month, int64_t day, int64_t millisecond
     if (d > month_days(m, lack))
         return NO_EPOCH;
     uint64_t days = before_year(y) + before_month(m, lack) + (d - 1);
-    *epoch = (double)(days * DAY + (uint64_t)milliseconds);
+    *epoch = (double)(int64_t)(days * DAY + (uint64_t)milliseconds);
     return 0;
 }
 
 int32_t plain_difference(double a, double b, double *difference)
 {
-    uint64_t m = 0, n = 0;
+    int64_t m = 0, n = 0;
     if (!is_epoch(a, &m) || !is_epoch(b, &n))
         return NO_EPOCH;
     *difference = a - b;

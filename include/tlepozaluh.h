@@ -5,7 +5,7 @@
  * steps as it likes; the check can be stopped after any grant and taken up again later. Up to eight files can be checked by
  * turns, round by round. The reader answers one question a call, from the file's bytes alone; it needs no check before it. The
  * library allocates nothing, keeps nothing between calls and opens no file. Calls on different buffers may run at the same time.
- * Epochs, which are values of type 31, are turned into dates and back.
+ * Values of type 31 that are epochs are turned into dates and back.
  *
  * A file may be padded: its end is where its GDR says (eof), up to 511 bytes below its length. Bytes from the end on are not
  * judged, and marks from the end on are not written.
@@ -379,8 +379,8 @@ int32_t tlz_read_entry_at(const uint8_t *file, size_t file_len, int64_t attribut
                           int32_t *field);
 
 /*
- * Epochs. A value of type 31 is a double that counts milliseconds from the beginning of year 0. Epochs are the whole numbers
- * from 0 to 315,569,519,999,999, the last millisecond of year 9999; their dates are those of the proleptic Gregorian calendar,
+ * Epochs. A value of type 31 is a double that counts milliseconds from the beginning of year 0. It is an epoch if it is a whole
+ * number from 0 to 315,569,519,999,999, the last millisecond of year 9999; dates are those of the proleptic Gregorian calendar,
  * in which year 0 is a leap year. All else is TLZ_NO_EPOCH: a fraction, a negative number, negative zero, a NaN, an infinity,
  * what is past year 9999; a date that does not exist or is not of these years, milliseconds that are not of a day. A call gives
  * 0 and sets the caller's numbers, or gives TLZ_NO_EPOCH and leaves them alone.
@@ -397,14 +397,14 @@ int32_t tlz_read_entry_at(const uint8_t *file, size_t file_len, int64_t attribut
 int32_t tlz_epoch_date(double epoch, int32_t *year, int32_t *month, int32_t *day, int32_t *milliseconds);
 
 /*
- * The epoch of a date: sets *epoch to the one epoch that has this date. The numbers are those of tlz_epoch_date; they have 64
- * bits so that none is cut before it is judged.
+ * The epoch of a date: sets *epoch to the one epoch that has this date and these milliseconds. The numbers are those of
+ * tlz_epoch_date; they have 64 bits so that none is cut before it is judged.
  */
 int32_t tlz_epoch_from(int64_t year, int64_t month, int64_t day, int64_t milliseconds, double *epoch);
 
 /*
- * The milliseconds from an epoch b to an epoch a: sets *difference to a - b, exactly; of two equal ones it is +0.
- * TLZ_NO_EPOCH where a or b is none.
+ * The milliseconds from an epoch b to an epoch a: sets *difference to a - b, exactly; of two equal ones it is +0, if the program
+ * has not set rounding downward. TLZ_NO_EPOCH where a or b is none.
  */
 int32_t tlz_epoch_difference(double a, double b, double *difference);
 

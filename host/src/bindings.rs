@@ -490,7 +490,7 @@ pub fn epoch_date(epoch: u64) -> Result<Date, i32> {
     let [day, milliseconds] = [BEFORE, !BEFORE].map(|number| (number >> 32) as i32);
     let before = Date { year, month, day, milliseconds };
     let mut after = before;
-    // SAFETY: the numbers that are written are four locals.
+    // SAFETY: the numbers that are written are four fields of a local.
     let answer = unsafe {
         c::tlz_epoch_date(
             f64::from_bits(epoch),

@@ -1,8 +1,8 @@
 /*
- * epochs EVERY: makes the calls for epochs with each number that they set in an allocation of its own, of exactly its size and
- * never written before, to be run under a memory checker. A calendar is walked day by day from the first of year 0 to the last
- * of year 9999, by the lengths of months; of every so many days the first and the last millisecond and one by chance go to
- * dates and back, and are subtracted from others. Then come doubles that are no epochs and dates that do not exist. Prints how
+ * epochs EVERY: makes the calls for epochs with each number that they set in an allocation of its own, of exactly its size and,
+ * but for refusals, never written before, to be run under a memory checker. A calendar is walked day by day from the first of
+ * year 0 to the last of year 9999, by the lengths of months; of every so many days, and of the last month's, the first and the
+ * last millisecond and one by chance go to dates and back, and are subtracted from others. Then come doubles that are no epochs and dates that do not exist. Prints how
  * many calls were made; exits with 1 if an answer or a number is wrong, or a refusal changed a number.
  */
 #include "exact.h"
@@ -236,9 +236,13 @@ static int32_t ask_all(void)
 
 int main(int count, char **words)
 {
+    int64_t every = count == 2 ? strtoll(words[1], NULL, 10) : 0;
+
     if (MISSING != 0)
         return ask_all() != 0;
-    walk(count > 1 ? strtoll(words[1], NULL, 10) : DAY);
+    if (every < 1)
+        return 2;
+    walk(every);
     no_epochs();
     no_dates();
     printf("%" PRIu64 " dates, %" PRIu64 " epochs, %" PRIu64 " differences, %" PRIu64 " of them refused, %" PRIu64 " wrong\n",

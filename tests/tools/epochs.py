@@ -2,7 +2,7 @@
 
 make writes a file as vax.py does, in any encoding; a NUMBER is a double in decimal, or its bits as 0x and 16 digits. compare makes
 files in the folder, of days at which months begin, of numbers that have no date and of numbers by chance, and compares what cdfread
-prints of them, as text and as JSON, with python's dates; the same numbers of types 22 and 45 are no dates. Prints how many files,
+prints of them, as text and as JSON, with python's dates; such numbers of types 22 and 45 are no dates. Prints how many files,
 doubles and dates were compared; exits with 1 if one differs.
 """
 import math

@@ -84,10 +84,10 @@ exact-sum f (fin s m e) (fin t n d) a b p q =
     (round-same f false (a * c + b * c) c (a + b) 1 (mul-pos (down-pos e) (down-pos d)) (zero-lt-suc 0) (mul-one (a * c + b * c) ∙ sym (add-mul a b c)))
 
 -- of equal numbers it is +0
-zero-is : round binary64 false 0 1 ≡ fin false 0 (pos 0)
-unfolding round units odd size span climb
-zero-is = refl
+pub zero-int : ofInt binary64 (pos 0) ≡ fin false 0 (pos 0)
+unfolding ofInt round units odd size span climb
+zero-int = refl
 
 pub equal-zero : (n : ℕ) → ofInt binary64 (pos n -ℤ pos n) ≡ fin false 0 (pos 0)
-unfolding rounded
-equal-zero n = int-is binary64 n n ∙ rw (le-ltb n n (le-refl n), sub-self n) zero-is
+unfolding rounded ofInt
+equal-zero n = int-is binary64 n n ∙ rw (le-ltb n n (le-refl n), sub-self n) zero-int

@@ -9,20 +9,20 @@ use native.Mathlib.Nat.{mul-one, mul-div-cancel, mul-right-comm, eq-of-mul-eq-mu
 use lib.Dec.{T, ltb, leb, eqb, ltb→lt}
 use lib.IntN.{ℤ, pos, negsuc}
 use lib.Pow.{pow-pos}
-use lib.Ieee.{Float, nan, inf, fin, binary64, up, down, round, sum, add, sub, neg, ofInt, toBits, toUnsigned, inUnsigned, fits, isNan, lt, le, eq, ne}
+use lib.Ieee.{Float, nan, inf, fin, binary64, up, down, round, sum, add, sub, ofInt, ofBits, toBits, size, span, climb, toUnsigned, inUnsigned, fits, isNan, lt, le, eq, ne}
 use lib.Ieee.Exact.{HasValue}
-use lib.Ieee.Fits.{down-pos, neg-fits, round-fits, and-l, and-r}
-use lib.Ieee.Bits.{toBits-lt}
+use lib.Ieee.Fits.{down-pos, round-fits, and-l, and-r}
+use lib.Ieee.Bits.{ofBits-toBits}
 use lib.Ieee.Back.{round-whole, unsigned-back}
 use lib.Ieee.Order.{round-mono, le-of-values}
 use lib.Ieee.Positive.{num, den, positive, positive-of-value, own-value, values-of-le, between}
 use lib.Ieee.Compare.{differs-from-itself}
-use borrow.Author.Tests.{ltb-true, eqb-true, not-false}
+use borrow.Author.Tests.{ltb-true, ltb-false, eqb-true, not-false}
 use Rattle.format.proofs.Tests.{both, either}
 use Rattle.epochs.specs.declared.counts.Count.the-variants.{Whole, NoEpoch}
 use Rattle.epochs.specs.Epochs.{lastEpoch, countOf}
 use Rattle.epochs.proofs.Wholes.{value-counts, count-value, count-is, may-cast, refused-unless}
-use Rattle.epochs.proofs.Exact.{exact-natural, exact-sum}
+use Rattle.epochs.proofs.Exact.{exact-natural, exact-sum, zero-int}
 
 -- the double of the last epoch, and 2 ^ 52
 abbrev pub last : Float
@@ -37,14 +37,26 @@ at-most-not-nan nan e = absurd (true≢false (sym e))
 at-most-not-nan (inf s) e = tt
 at-most-not-nan (fin s m d) e = tt
 
--- ---- the sign, by the bits
-sign-set : (m : ℕ) (e : ℤ) → 2 ^ 63 ≤ toBits binary64 (fin true m e)
-unfolding toBits
-sign-set m e = omega arith
+-- ---- below 1
+abbrev pub one : Float
+one = fin false 1 (pos 0)
 
-sign-clear : (m : ℕ) (e : ℤ) → T (fits binary64 (fin false m e)) → toBits binary64 (fin false m e) < 2 ^ 63
-unfolding toBits neg
-sign-clear m e f = let h = toBits-lt binary64 (fin true m e) (neg-fits binary64 (fin false m e) f) in omega (arith, h)
+zero-bits : toBits binary64 (fin false 0 (pos 0)) ≡ 0
+unfolding toBits size span climb
+zero-bits = refl
+
+bits-count : countOf (ofBits binary64 0) ≡ Whole 0
+unfolding countOf ofBits
+bits-count = refl
+
+-- a whole number below 1 is 0
+below-one : (x : Float) (n : ℕ) → HasValue x false n 1 → lt x one ≡ true → n ≡ 0
+unfolding lt
+below-one nan n v h = absurd v
+below-one (inf s) n v h = absurd v
+below-one (fin true m e) n v h = absurd (true≢false (v .0))
+below-one (fin false m e) zero v h = refl
+below-one (fin false m e) (suc n) v h = absurd (omega (arith, v .1, ltb-true (m * up e * 1) (1 * down e) h))
 
 -- ---- no test refuses a count
 module _ (x : Float) (f : T (fits binary64 x)) where
@@ -54,14 +66,19 @@ module _ (x : Float) (f : T (fits binary64 x)) where
       go : (n : ℕ) → (HasValue x false n 1) × (n ≤ lastEpoch) → ⊥
       go n v = subst T e (le-of-values x last n 1 lastEpoch 1 (omega arith) (omega arith) (v .0) (refl, refl) (omega (arith, v .1)))
 
-  pub refused-signed : 2 ^ 63 ≤ toBits binary64 x → NoEpoch ≡ countOf x
-  refused-signed h = refused-unless x (λ n k. go n x f (count-value x n k .0) h)
+  pub zero-counts : toBits binary64 x ≡ 0 → Whole 0 ≡ countOf x
+  zero-counts h =
+      let e : x ≡ ofBits binary64 0 = sym (ofBits-toBits binary64 x f) ∙ ap (ofBits binary64) h in
+      sym (ap countOf e ∙ bits-count)
+
+  pub refused-small : lt x one ≡ true → (toBits binary64 x ≡ 0 → ⊥) → NoEpoch ≡ countOf x
+  refused-small l h = refused-unless x (λ n k. h (go n (count-value x n k .0) (count-is x n f k .0)))
     where
-      go : (n : ℕ) (x : Float) → T (fits binary64 x) → HasValue x false n 1 → 2 ^ 63 ≤ toBits binary64 x → ⊥
-      go n nan f v h = v
-      go n (inf s) f v h = v
-      go n (fin true m e) f v h = true≢false (v .0)
-      go n (fin false m e) f v h = omega (arith, sign-clear m e f)
+      go : (n : ℕ) → HasValue x false n 1 → x ≡ ofInt binary64 (pos n) → toBits binary64 x ≡ 0
+      go n v e =
+          let z = below-one x n v l in
+          let q : x ≡ fin false 0 (pos 0) = e ∙ rw z zero-int in
+          rw q zero-bits
 
   module _ (n : ℕ) (k : countOf x ≡ Whole n) where
     back-again : sub binary64 (add binary64 x large) large ≡ x
@@ -193,13 +210,13 @@ record Found (x : Float) : Type 0 where
   pub value : HasValue x false number 1
   pub small : number ≤ lastEpoch
 
-found : (x : Float) → le x last ≡ true → toBits binary64 x < 2 ^ 63 → eq (sub binary64 (add binary64 x large) large) x ≡ true → Found x
-unfolding le lt eq toBits
-found nan h s k = absurd (true≢false (sym h))
-found (inf false) h s k = absurd (true≢false (sym h))
-found (inf true) h s k = absurd (omega arith)
-found (fin true m e) h s k = absurd (omega (arith, sign-set m e))
-found (fin false m e) h s k =
+found : (x : Float) → le x last ≡ true → lt x one ≡ false → eq (sub binary64 (add binary64 x large) large) x ≡ true → Found x
+unfolding le lt eq
+found nan h l k = absurd (true≢false (sym h))
+found (inf false) h l k = absurd (true≢false (sym h))
+found (inf true) h l k = absurd (true≢false l)
+found (fin true m e) h l k = absurd (omega (arith, down-pos e, ltb-false 0 (m * up e * 1 + 1 * down e) l))
+found (fin false m e) h l k =
     let b = bounded m e h in
     let w = not-lost-whole m e b k in
     record { number = w .number; value = w .value; small = number-small m e b (w .number) (w .value) }
@@ -213,11 +230,11 @@ whole-part (fin false m e) n h v =
     let c : m * up e / down e ≡ n = rw q (mul-div-cancel n (down-pos e)) in
     rw c (omega arith)
 
-module _ (x : Float) (f : T (fits binary64 x)) (h : le x last ≡ true) (s : toBits binary64 x < 2 ^ 63)
+module _ (x : Float) (f : T (fits binary64 x)) (h : le x last ≡ true) (l : lt x one ≡ false)
     (e : ne (sub binary64 (add binary64 x large) large) x ≡ false) where
   the-count : Found x
   unfolding ne
-  the-count = found x h s (not-false (eq (sub binary64 (add binary64 x large) large) x) e)
+  the-count = found x h l (not-false (eq (sub binary64 (add binary64 x large) large) x) e)
 
   counts : countOf x ≡ Whole (the-count .number)
   counts = value-counts (the-count .number) (the-count .small) x (the-count .value)

@@ -22,7 +22,7 @@ counts : (countFrom (pos 1970) (pos 1) (pos 1) (pos 0) ≡ Whole 62167219200000)
 unfolding countFrom countMoment isMoment isDate countAt daysBefore daysBeforeYear daysBeforeMonth monthDays leap
 counts = (refl, refl)
 
--- the last moment; what is past it; a day of 86,400,000 milliseconds
+-- the last moment; what is past it; millisecond 86,400,000 of a day
 last : (isMoment (date 9999 12 31) 86399999 ≡ true) × (isMoment (date 10000 1 1) 0 ≡ false) × (isMoment (date 1 1 1) 86400000 ≡ false)
 unfolding isMoment isDate monthDays leap
 last = (refl, refl, refl)

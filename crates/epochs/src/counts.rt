@@ -10,15 +10,18 @@ pub enum Count {
     NoEpoch,
 }
 
-// The count of a double. A NaN is not below the last epoch; the sign of negative zero is set. From 2^52 to 2^53 doubles are whole
-// numbers, so a fraction is lost where 2^52 is added.
+// The count of a double. That a double is at most the last epoch is false of a NaN. Below 1 there is 0 alone, whose bits are all clear. From
+// 2^52 to 2^53 doubles are whole numbers, so a fraction is lost where 2^52 is added.
 pub fn count_of(x: f64) -> Count
     ensures { λ r. ⌜ r ≡ countOf x ⌝ }
 {
     if !(x <= 315569519999999.0) {
         return Count::NoEpoch;
     }
-    if f64::to_bits(x) >= 0x8000_0000_0000_0000 {
+    if x < 1.0 {
+        if f64::to_bits(x) == 0 {
+            return Count::Whole(0);
+        }
         return Count::NoEpoch;
     }
     if (x + 4503599627370496.0) - 4503599627370496.0 != x {
