@@ -3,9 +3,9 @@
 use mathlib.Core.Path.{_≡_, refl, sym, ap, _∙_, subst}
 use mathlib.Core.Logic.{_⊎_, inl, inr}
 use mathlib.Core.Bool.{true, false, not, _&&_, true≢false}
-use Prim.Native.Nat.{ℕ, zero, suc, _+_, _-_, _*_, _/_, _%_, _^_, _≤_, _<_}
+use Prim.Native.Nat.{ℕ, zero, suc, _+_, _-_, _*_, _%_, _^_, _≤_, _<_}
 use native.Mathlib.Omega.{arith}
-use native.Mathlib.Nat.{mul-one, mul-div-cancel, mul-right-comm, eq-of-mul-eq-mul-right, le-of-mul-le-mul-right, pow-succ'}
+use native.Mathlib.Nat.{mul-one, mul-right-comm, eq-of-mul-eq-mul-right, le-of-mul-le-mul-right, pow-succ'}
 use lib.Dec.{T, ltb, leb, eqb, ltb→lt}
 use lib.IntN.{ℤ, pos, negsuc}
 use lib.Pow.{pow-pos}
@@ -23,6 +23,13 @@ use Rattle.epochs.specs.declared.counts.Count.the-variants.{Whole, NoEpo
 use Rattle.epochs.specs.Epochs.{lastEpoch, countOf}
 use Rattle.epochs.proofs.Wholes.{value-counts, count-value, count-is, may-cast, refused-unless}
 use Rattle.epochs.proofs.Exact.{exact-natural, exact-sum, zero-int}
+
+-- 2 ^ 52 and 2 ^ 53
+abbrev p52 : ℕ
+p52 = 4503599627370496
+
+abbrev p53 : ℕ
+p53 = 9007199254740992
 
 -- the double of the last epoch, and 2 ^ 52
 abbrev pub last : Float
@@ -85,11 +92,10 @@ module _ (x : Float) (f : T (fits binary64 x)) where
     unfolding ofInt
     back-again =
         let v = count-value x n k in
-        let s = exact-sum binary64 x large n 4503599627370496 (v .0) (refl, refl) in
-        let w = round-whole binary64 false (n + 4503599627370496) (omega (arith, v .1)) in
-        let r = round binary64 false (n + 4503599627370496) 1 in
-        let d = exact-natural binary64 r large (n + 4503599627370496) 4503599627370496 w (refl, refl) (omega arith) in
-        let e : n + 4503599627370496 - 4503599627370496 ≡ n = omega arith in
+        let s = exact-sum binary64 x large n p52 (v .0) (refl, refl) in
+        let w = round-whole binary64 false (n + p52) (omega (arith, v .1)) in
+        let d = exact-natural binary64 (round binary64 false (n + p52) 1) large (n + p52) p52 w (refl, refl) (omega arith) in
+        let e : n + p52 - p52 ≡ n = omega arith in
         rw s (d ∙ rw e (sym (count-is x n f k .0)))
 
     not-lost : ne (sub binary64 (add binary64 x large) large) x ≡ true → ⊥
@@ -107,14 +113,14 @@ record WholeNumber (x : Float) : Type 0 where
   pub number : ℕ
   pub value : HasValue x false number 1
 
-digits-small : (m : ℕ) (e : ℤ) → T (fits binary64 (fin false (suc m) e)) → suc m < 9007199254740992
+digits-small : (m : ℕ) (e : ℤ) → T (fits binary64 (fin false (suc m) e)) → suc m < p53
 unfolding fits
 digits-small m e f =
-    let p = and-l (eqb (suc m % 2) 1 && ltb (suc m) 9007199254740992 && leb (down e) (2 ^ 1074)) (ltb (suc m * up e) (2 ^ 1024 * down e)) f in
-    let q = and-l (eqb (suc m % 2) 1 && ltb (suc m) 9007199254740992) (leb (down e) (2 ^ 1074)) p in
-    ltb→lt (suc m) 9007199254740992 (and-r (eqb (suc m % 2) 1) (ltb (suc m) 9007199254740992) q)
+    let p = and-l (eqb (suc m % 2) 1 && ltb (suc m) p53 && leb (down e) (2 ^ 1074)) (ltb (suc m * up e) (2 ^ 1024 * down e)) f in
+    let q = and-l (eqb (suc m % 2) 1 && ltb (suc m) p53) (leb (down e) (2 ^ 1074)) p in
+    ltb→lt (suc m) p53 (and-r (eqb (suc m % 2) 1) (ltb (suc m) p53) q)
 
-large-whole : (x : Float) → T (fits binary64 x) → T (positive x) → 4503599627370496 * den x ≤ num x → WholeNumber x
+large-whole : (x : Float) → T (fits binary64 x) → T (positive x) → p52 * den x ≤ num x → WholeNumber x
 large-whole nan f p h = absurd p
 large-whole (inf s) f p h = absurd p
 large-whole (fin true m e) f p h = absurd p
@@ -142,64 +148,62 @@ bounded m e h = go (either (ltb (m * up e * 1) (lastEpoch * down e)) (eqb (m * u
     go (inl l) = omega (arith, ltb-true (m * up e * 1) (lastEpoch * down e) l)
     go (inr l) = omega (arith, eqb-true (m * up e * 1) (lastEpoch * down e) (both (eqb (m * up e * 1) (lastEpoch * down e)) true l .0))
 
--- between which the sum lies
-low : Float
-low = round binary64 false 4503599627370496 1
+-- a whole number as a double
+abbrev whole : ℕ → Float
+whole n = round binary64 false n 1
 
-high : Float
-high = round binary64 false 9007199254740992 1
-
-low-value : HasValue low false 4503599627370496 1
-unfolding low
-low-value = round-whole binary64 false 4503599627370496 (omega arith)
-
-high-value : HasValue high false 9007199254740992 1
-unfolding high
-high-value = round-whole binary64 false 9007199254740992 (omega arith)
-
-low-positive : T (positive low)
-low-positive = positive-of-value low 4503599627370496 1 low-value (omega arith)
-
-high-positive : T (positive high)
-high-positive = positive-of-value high 9007199254740992 1 high-value (omega arith)
+whole-positive : (n : ℕ) → 0 < n → n ≤ p53 → T (positive (whole n))
+whole-positive n h k = positive-of-value (whole n) n 1 (round-whole binary64 false n k) h
 
 module _ (m : ℕ) (e : ℤ) (h : m * up e ≤ lastEpoch * down e) where
   -- 2 ^ 52 is added
   abbrev sum-found : Float
-  sum-found = round binary64 false (m * up e + 4503599627370496 * down e) (down e)
+  sum-found = round binary64 false (m * up e + p52 * down e) (down e)
 
   sum-is : add binary64 (fin false m e) large ≡ sum-found
   unfolding add sum
   sum-is = rw (mul-one (m * up e), mul-one (down e))
 
-  from-low : T (le low sum-found)
-  unfolding low
-  from-low = round-mono binary64 4503599627370496 1 (m * up e + 4503599627370496 * down e) (down e) (omega arith) (down-pos e) (omega arith)
+  -- the sum lies between 2 ^ 52 and 2 ^ 53
+  from-low : T (le (whole p52) sum-found)
+  from-low = round-mono binary64 p52 1 (m * up e + p52 * down e) (down e) (omega arith) (down-pos e) (omega arith)
 
-  to-high : T (le sum-found high)
-  unfolding high
-  to-high = round-mono binary64 (m * up e + 4503599627370496 * down e) (down e) 9007199254740992 1 (down-pos e) (omega arith) (omega arith)
+  to-high : T (le sum-found (whole p53))
+  to-high = round-mono binary64 (m * up e + p52 * down e) (down e) p53 1 (down-pos e) (omega arith) (omega arith)
+
+  low-positive : T (positive (whole p52))
+  low-positive = whole-positive p52 (omega arith) (omega arith)
+
+  high-positive : T (positive (whole p53))
+  high-positive = whole-positive p53 (omega arith) (omega arith)
 
   sum-positive : T (positive sum-found)
-  sum-positive = between low sum-found high low-positive high-positive from-low to-high
+  sum-positive = between (whole p52) sum-found (whole p53) low-positive high-positive from-low to-high
+
+  above-low : (a c : ℕ) → HasValue sum-found false a c → p52 * c ≤ a
+  above-low a c v =
+      let k = values-of-le (whole p52) sum-found p52 1 a c low-positive sum-positive (round-whole binary64 false p52 (omega arith)) v from-low in
+      omega (arith, k)
+
+  below-high : (a : ℕ) → HasValue sum-found false a 1 → a ≤ p53
+  below-high a v =
+      let k = values-of-le sum-found (whole p53) a 1 p53 1 sum-positive high-positive v (round-whole binary64 false p53 (omega arith)) to-high in
+      omega (arith, k)
 
   sum-whole : WholeNumber sum-found
   sum-whole =
-      let own = own-value sum-found sum-positive in
-      let k = values-of-le low sum-found 4503599627370496 1 (num sum-found) (den sum-found) low-positive sum-positive low-value own from-low in
-      large-whole sum-found (round-fits binary64 false (m * up e + 4503599627370496 * down e) (down e)) sum-positive (omega (arith, k))
+      let fit = round-fits binary64 false (m * up e + p52 * down e) (down e) in
+      large-whole sum-found fit sum-positive (above-low (num sum-found) (den sum-found) (own-value sum-found sum-positive))
 
   -- and taken away
   not-lost-whole : eq (sub binary64 (add binary64 (fin false m e) large) large) (fin false m e) ≡ true → WholeNumber (fin false m e)
   not-lost-whole k =
       let n = sum-whole .number in
       let v = sum-whole .value in
-      let l = values-of-le low sum-found 4503599627370496 1 n 1 low-positive sum-positive low-value v from-low in
-      let g = values-of-le sum-found high n 1 9007199254740992 1 sum-positive high-positive v high-value to-high in
-      let d = exact-natural binary64 sum-found large n 4503599627370496 v (refl, refl) (omega (arith, l)) in
-      let w = round-whole binary64 false (n - 4503599627370496) (omega (arith, g)) in
-      let q : eq (round binary64 false (n - 4503599627370496) 1) (fin false m e) ≡ true = rw (sum-is, d) at k in
-      record { number = n - 4503599627370496; value = equal-value (round binary64 false (n - 4503599627370496) 1) m e (n - 4503599627370496) w q }
+      let d = exact-natural binary64 sum-found large n p52 v (refl, refl) (omega (arith, above-low n 1 v)) in
+      let w = round-whole binary64 false (n - p52) (omega (arith, below-high n v)) in
+      let q : eq (whole (n - p52)) (fin false m e) ≡ true = rw (sum-is, d) at k in
+      record { number = n - p52; value = equal-value (whole (n - p52)) m e (n - p52) w q }
 
   number-small : (n : ℕ) → HasValue (fin false m e) false n 1 → n ≤ lastEpoch
   number-small n v = le-of-mul-le-mul-right {k = down e} (omega (arith, v .1)) (down-pos e)
@@ -221,15 +225,6 @@ found (fin false m e) h l k =
     let w = not-lost-whole m e b k in
     record { number = w .number; value = w .value; small = number-small m e b (w .number) (w .value) }
 
--- its whole part is the count
-whole-part : (x : Float) (n : ℕ) → n ≤ lastEpoch → HasValue x false n 1 → toUnsigned 64 x ≡ n
-unfolding toUnsigned
-whole-part (fin true m e) n h v = absurd (true≢false (v .0))
-whole-part (fin false m e) n h v =
-    let q : m * up e ≡ n * down e = omega (arith, v .1) in
-    let c : m * up e / down e ≡ n = rw q (mul-div-cancel n (down-pos e)) in
-    rw c (omega arith)
-
 module _ (x : Float) (f : T (fits binary64 x)) (h : le x last ≡ true) (l : lt x one ≡ false)
     (e : ne (sub binary64 (add binary64 x large) large) x ≡ false) where
   the-count : Found x
@@ -239,10 +234,15 @@ module _ (x : Float) (f : T (fits binary64 x)) (h : le x last ≡ true) (l : lt 
   counts : countOf x ≡ Whole (the-count .number)
   counts = value-counts (the-count .number) (the-count .small) x (the-count .value)
 
-  pub may-take : T (inUnsigned binary64 64 x)
-  may-take =
+  -- and the cast gives it
+  cast-back : T (inUnsigned binary64 64 x) × (toUnsigned 64 x ≡ the-count .number)
+  cast-back =
       let n = the-count .number in
-      rw (count-is x n f counts .0) (unsigned-back binary64 64 n (may-cast n (the-count .small)) (omega (arith, the-count .small)) .0)
+      let back = unsigned-back binary64 64 n (may-cast n (the-count .small)) (omega (arith, the-count .small)) in
+      subst (λ (y : Float). T (inUnsigned binary64 64 y) × (toUnsigned 64 y ≡ n)) (sym (count-is x n f counts .0)) back
+
+  pub may-take : T (inUnsigned binary64 64 x)
+  may-take = cast-back .0
 
   pub part-counts : Whole (toUnsigned 64 x) ≡ countOf x
-  part-counts = ap Whole (whole-part x (the-count .number) (the-count .small) (the-count .value)) ∙ sym counts
+  part-counts = ap Whole (cast-back .1) ∙ sym counts

@@ -95,11 +95,11 @@ abbrev read : ℤ → ℤ
 read x = toZ w64 (ofZ w64 x)
 
 module _ {y m d t : ℤ} (fy : SFits w64 y) (fm : SFits w64 m) (fd : SFits w64 d) (ft : SFits w64 t) where
-  pub negative-given : anyNegative (read y) (read m) (read d) (read t) ≡ true → NoEpoch ≡ countFrom y m d t
-  negative-given e = any-negative y m d t (rw (toZ-ofZ {w = w64} fy, toZ-ofZ {w = w64} fm, toZ-ofZ {w = w64} fd, toZ-ofZ {w = w64} ft) at e)
-
   pub passed : {k : Count} → k ≡ countFrom (read y) (read m) (read d) (read t) → k ≡ countFrom y m d t
   passed e = rw (toZ-ofZ {w = w64} fy, toZ-ofZ {w = w64} fm, toZ-ofZ {w = w64} fd, toZ-ofZ {w = w64} ft) at e
+
+  pub negative-given : anyNegative (read y) (read m) (read d) (read t) ≡ true → NoEpoch ≡ countFrom y m d t
+  negative-given e = passed (any-negative (read y) (read m) (read d) (read t) e)
 
   module _ (e : anyNegative (read y) (read m) (read d) (read t) ≡ false) where
     pub none-given : NoneNegative (read y) (read m) (read d) (read t)
