@@ -20,10 +20,10 @@ pub record ShownDate : Type 0 where
 abbrev pub shownDate : ℤ → ℤ → ℤ → ℤ → ℤ → ShownDate
 shownDate a y m d t = record { answer = a; year = y; month = m; day = d; milliseconds = t }
 
--- the date of the whole days, and what is left of milliseconds
 abbrev pub shownAt : Date → ℕ → ShownDate
 shownAt d t = shownDate (pos 0) (pos (d .year)) (pos (d .month)) (pos (d .day)) (pos t)
 
+-- the date of the whole days, and what is left of milliseconds
 unfoldable pub dateShown : Count → ℤ → ℤ → ℤ → ℤ → ShownDate
 unfolding dateOf
 dateShown (Whole n) y m d t = shownAt (dateOf (n / dayLength)) (n % dayLength)
