@@ -27,7 +27,8 @@ pub fn count_of(x: f64) -> Count
     if (x + 4503599627370496.0) - 4503599627370496.0 != x {
         return Count::NoEpoch;
     }
-    Count::Whole(x as u64)
+    let n = x as u64;
+    Count::Whole(n)
 }
 
 // A double is an epoch.

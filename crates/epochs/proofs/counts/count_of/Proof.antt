@@ -30,9 +30,9 @@ returns-4 : tie.Need-returns-4
 unfolding ofBits
 returns-4 c = let a = c .before .before .before in refused-fraction (a .args .x) (subst T (sym (a .good .0 .1)) tt) (c .if4 .taken)
 
-float-to-int-t8 : tie.Need-float-to-int-t8
+float-to-int-n : tie.Need-float-to-int-n
 unfolding ofBits
-float-to-int-t8 c =
+float-to-int-n c =
     let a = c .before .before .before .before in
     let x = a .args .x in
     may-take x (subst T (sym (a .good .0 .1)) tt) (not-false (le x last) (c .before .before .before .if1 .left)) (c .before .before .if2 .left) (c .before .if4 .left)
@@ -45,4 +45,4 @@ returns-5 c =
     part-counts x (subst T (sym (a .good .0 .1)) tt) (not-false (le x last) (c .before .before .before .if1 .left)) (c .before .before .if2 .left) (c .before .if4 .left)
 
 pub count-of-spec : {M : Type 1} → statement M
-count-of-spec = tie.close (tie.spec returns float-to-bits-if3 returns-2 returns-3 returns-4 float-to-int-t8 returns-5)
+count-of-spec = tie.close (tie.spec returns float-to-bits-if3 returns-2 returns-3 returns-4 float-to-int-n returns-5)
