@@ -7,12 +7,12 @@ use lib.IntN.{ℤ}
 use lib.ListN.{length}
 use Rattle.records.specs.Opening.{bodyOf}
 use Rattle.variables.specs.Vdr.{variableOf}
-use Rattle.ways.specs.Lists.{kindAmong, variableWay, entryWay}
-use Rattle.ways.specs.Opened.{Opened}
-use Rattle.ways.specs.declared.lists.Wanted.{Wanted}
-use Rattle.ways.specs.declared.lists.Way.the-variants.{Found, Stopped}
-use Rattle.ways.proofs.Sought.{Finds}
-use Rattle.ways.proofs.Found.{Met, variable-finds, entry-finds, variable-inside, entry-inside}
+use Rattle.lookup.specs.Lists.{kindAmong, variableWay, entryWay}
+use Rattle.lookup.specs.Opened.{Opened}
+use Rattle.lookup.specs.declared.lists.Wanted.{Wanted}
+use Rattle.lookup.specs.declared.lists.Way.the-variants.{Found, Stopped}
+use Rattle.lookup.proofs.Sought.{Finds}
+use Rattle.lookup.proofs.Found.{Met, variable-finds, entry-finds, variable-inside, entry-inside}
 use Rattle.answers.specs.declared.Read.the-variants.{Refused}
 use Rattle.answers.specs.Answers.{elementRead, inVariable, valueRead, entryValue, padIn, padRead}
 use Rattle.answers.specs.Bounds.{Inside}

@@ -15,14 +15,14 @@ use Rattle.variables.specs.Place.{placeOf}
 use Rattle.variables.specs.declared.vdr.Variable.{Variable}
 use Rattle.variables.specs.declared.place.Place.{Place}
 use Rattle.variables.specs.declared.place.Place.the-variants.{At, Wrong}
-use Rattle.ways.specs.Lists.{kindAmong, variableWay, entryWay}
-use Rattle.ways.specs.Indexes.{recordWay}
-use Rattle.ways.specs.declared.lists.Wanted.{Wanted}
-use Rattle.ways.specs.declared.lists.Wanted.the-variants.{Number}
-use Rattle.ways.specs.declared.lists.Way.{Way}
-use Rattle.ways.specs.declared.lists.Way.the-variants.{Found, Stopped}
-use Rattle.ways.specs.declared.indexes.Values.{Values}
-use Rattle.ways.specs.declared.indexes.Values.the-variants.{Record, Refused as NoRecord}
+use Rattle.lookup.specs.Lists.{kindAmong, variableWay, entryWay}
+use Rattle.lookup.specs.Indexes.{recordWay}
+use Rattle.lookup.specs.declared.lists.Wanted.{Wanted}
+use Rattle.lookup.specs.declared.lists.Wanted.the-variants.{Number}
+use Rattle.lookup.specs.declared.lists.Way.{Way}
+use Rattle.lookup.specs.declared.lists.Way.the-variants.{Found, Stopped}
+use Rattle.lookup.specs.declared.indexes.Values.{Values}
+use Rattle.lookup.specs.declared.indexes.Values.the-variants.{Record, Refused as NoRecord}
 use Rattle.answers.specs.declared.Read.{Read}
 use Rattle.answers.specs.declared.Read.the-variants.{Value, Refused}
 

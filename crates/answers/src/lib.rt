@@ -9,6 +9,11 @@ ghost use Rattle.answers.specs.Answers.{answered, elementThere, elementR
 ghost use Rattle.answers.specs.Bounds.{Inside, Fits};
 use format::fields;
 use format::types;
+use lookup::indexes;
+use lookup::indexes::Values;
+use lookup::lists;
+use lookup::lists::Wanted;
+use lookup::lists::Way;
 use records::opening;
 use values::value;
 use values::value::Answer;
@@ -17,11 +22,6 @@ use variables::place;
 use variables::place::Place;
 use variables::vdr;
 use variables::vdr::Variable;
-use ways::indexes;
-use ways::indexes::Values;
-use ways::lists;
-use ways::lists::Wanted;
-use ways::lists::Way;
 
 // A value, or the number of a refusal.
 pub enum Read {

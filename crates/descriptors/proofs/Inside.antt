@@ -11,12 +11,12 @@ use Rattle.records.specs.Opening.{bodyOf}
 use Rattle.variables.specs.Vdr.{countPlace, layoutAt, layoutOf, variableOf}
 use Rattle.variables.proofs.Right.{right}
 use Rattle.variables.proofs.Dimensions.{Dimensions, of-variable}
-use Rattle.ways.specs.Lists.{kindAmong, meets, variableWay, attributeWay, entryWay}
-use Rattle.ways.specs.declared.lists.Wanted.{Wanted}
-use Rattle.ways.specs.declared.lists.Way.{Way}
-use Rattle.ways.specs.declared.lists.Way.the-variants.{Found, Stopped}
-use Rattle.ways.proofs.Sought.{Finds}
-use Rattle.ways.proofs.Found.{Met, variable-finds, attribute-finds, entry-finds, attribute-inside, entry-inside, variable-right, variable-inside}
+use Rattle.lookup.specs.Lists.{kindAmong, meets, variableWay, attributeWay, entryWay}
+use Rattle.lookup.specs.declared.lists.Wanted.{Wanted}
+use Rattle.lookup.specs.declared.lists.Way.{Way}
+use Rattle.lookup.specs.declared.lists.Way.the-variants.{Found, Stopped}
+use Rattle.lookup.proofs.Sought.{Finds}
+use Rattle.lookup.proofs.Found.{Met, variable-finds, attribute-finds, entry-finds, attribute-inside, entry-inside, variable-right, variable-inside}
 use Rattle.descriptors.specs.declared.Dimensions.the-variants.{Are, Unknown}
 use Rattle.descriptors.specs.Descriptors.{variableDimensions}
 use Rattle.descriptors.specs.Bounds.{fieldBytes, Holds, Lie}

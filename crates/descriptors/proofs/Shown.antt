@@ -8,7 +8,7 @@ use lib.Dec.{leb, ltb, eqb}
 use lib.IntN.{ℤ, pos, negsuc}
 use borrow.Author.Tests.{leb-true, eqb-true, ltb-true}
 use Rattle.format.specs.Fields.{natOr}
-use Rattle.ways.specs.Lists.{isEntryKind}
+use Rattle.lookup.specs.Lists.{isEntryKind}
 use Rattle.variables.specs.Place.{indexRight}
 use Rattle.format.proofs.Tests.{both}
 use Rattle.descriptors.specs.Descriptors.{among, attributeFields, entryFields, variableFields, isShown}

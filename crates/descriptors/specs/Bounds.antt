@@ -4,10 +4,10 @@ use mathlib.Core.Bool.{cond}
 use mathlib.Core.List.{List}
 use lib.ListN.{length}
 use lib.Dec.{eqb}
-use Rattle.ways.specs.Lists.{isEntryKind}
+use Rattle.lookup.specs.Lists.{isEntryKind}
 use Rattle.variables.specs.declared.vdr.Layout.{Layout}
-use Rattle.ways.specs.declared.lists.Way.{Way}
-use Rattle.ways.specs.declared.lists.Way.the-variants.{Found, Stopped}
+use Rattle.lookup.specs.declared.lists.Way.{Way}
+use Rattle.lookup.specs.declared.lists.Way.the-variants.{Found, Stopped}
 use Rattle.descriptors.specs.declared.Dimensions.{Dimensions}
 use Rattle.descriptors.specs.declared.Dimensions.the-variants.{Are, Unknown}
 

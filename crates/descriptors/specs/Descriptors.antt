@@ -11,13 +11,13 @@ use Rattle.variables.specs.Vdr.{variableOf}
 use Rattle.variables.specs.Place.{indexRight}
 use Rattle.variables.specs.declared.vdr.Variable.{Variable}
 use Rattle.variables.specs.declared.vdr.Layout.{Layout}
-use Rattle.ways.specs.Lists.{opened, isEntryKind, kindAmong, variableWay, attributeWay, entryWay}
-use Rattle.ways.specs.declared.lists.Wanted.{Wanted}
-use Rattle.ways.specs.declared.lists.Way.{Way}
-use Rattle.ways.specs.declared.lists.Way.the-variants.{Found, Stopped}
-use Rattle.ways.specs.Indexes.{levelsWay}
-use Rattle.ways.specs.declared.indexes.Levels.{Levels}
-use Rattle.ways.specs.declared.indexes.Levels.the-variants.{Are as LevelsAre, Unknown as NoLevels}
+use Rattle.lookup.specs.Lists.{opened, isEntryKind, kindAmong, variableWay, attributeWay, entryWay}
+use Rattle.lookup.specs.declared.lists.Wanted.{Wanted}
+use Rattle.lookup.specs.declared.lists.Way.{Way}
+use Rattle.lookup.specs.declared.lists.Way.the-variants.{Found, Stopped}
+use Rattle.lookup.specs.Indexes.{levelsWay}
+use Rattle.lookup.specs.declared.indexes.Levels.{Levels}
+use Rattle.lookup.specs.declared.indexes.Levels.the-variants.{Are as LevelsAre, Unknown as NoLevels}
 use Rattle.descriptors.specs.declared.Field.{Field}
 use Rattle.descriptors.specs.declared.Field.the-variants.{Is, Refused}
 use Rattle.descriptors.specs.declared.Dimensions.{Dimensions}

@@ -3,19 +3,19 @@ ghost use mathlib.Core.Path.{_≡_};
 ghost use Prim.Native.Nat.{_+_, _*_, _≤_, _<_};
 ghost use lib.ListN.{length};
 ghost use Rattle.records.specs.Opening.{gdrAt, bodyOf};
-ghost use Rattle.ways.specs.Indexes.{LevelsFit};
+ghost use Rattle.lookup.specs.Indexes.{LevelsFit};
 ghost use Rattle.descriptors.specs.Descriptors.{isShown, fieldOn, variableField, attributeField, entryField, rowField, dimensionSize, variableDimensions, variableSize, variableVariance, levelsField, variableLevels, untilNul, nameOn, variableName, attributeName, majority, saidPlace, said, fileField};
 ghost use Rattle.descriptors.specs.Bounds.{fieldBytes, Holds, Lie};
 use format::fields;
+use lookup::indexes;
+use lookup::indexes::Levels;
+use lookup::lists;
+use lookup::lists::Wanted;
+use lookup::lists::Way;
 use records::opening;
 use variables::place;
 use variables::vdr;
 use variables::vdr::Layout;
-use ways::indexes;
-use ways::indexes::Levels;
-use ways::lists;
-use ways::lists::Wanted;
-use ways::lists::Way;
 
 // A control field, or the number of a refusal.
 pub enum Field {

@@ -1,15 +1,15 @@
 // The reader's calls for C. A call answers 0 and sets the caller's numbers, or answers the number of a refusal and leaves them alone.
 ghost use mathlib.Core.Path.{_≡_};
 ghost use Rattle.values.specs.Values.{kindOf};
-ghost use Rattle.ways.specs.declared.lists.Wanted.the-variants.{Place, Number};
+ghost use Rattle.lookup.specs.declared.lists.Wanted.the-variants.{Place, Number};
 ghost use Rattle.answers.specs.Answers.{valueRead, entryValue, entryRead, padRead};
 ghost use Rattle.descriptors.specs.Descriptors.{variableField, attributeField, entryField, dimensionSize, variableSize, variableVariance, variableLevels, variableName, attributeName, fileField};
 ghost use Rattle.reader.specs.Shown.{shownValue, valueShown, shownField, fieldShown, shownName, nameShown};
 use answers::Read;
 use descriptors::Field;
 use descriptors::Name;
+use lookup::lists::Wanted;
 use values::value::Value;
-use ways::lists::Wanted;
 
 // The number of a value's kind: 0 signed, 1 unsigned, 2 single, 3 double, 4 character code.
 fn kind_number(v: Value) -> u64

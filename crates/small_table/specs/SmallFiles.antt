@@ -24,8 +24,8 @@ use Rattle.variables.specs.Place.{placeAfter, elementPlace, indicesRight, rowFi
 use Rattle.values.specs.Values.{rawAt, valueOf, bitsOf, isVax, isNothing, decodedOf}
 use Rattle.values.specs.declared.value.Value.{Value}
 use Rattle.values.specs.declared.value.Value.the-variants.{Signed, Unsigned, Single, Double, Code}
-use Rattle.ways.specs.Lists.{opened, allowance, landsOn, vdrKept, ruleKept, meets, lastLink, sought, placeWay, variableWay}
-use Rattle.ways.specs.Indexes.{recordThere, recordRead, lookedUp, scanned, indexMet, lastIndex, indexed, lowerMet, lowered, valuesMet, recordWay}
+use Rattle.lookup.specs.Lists.{opened, allowance, landsOn, vdrKept, ruleKept, meets, lastLink, sought, placeWay, variableWay}
+use Rattle.lookup.specs.Indexes.{recordThere, recordRead, lookedUp, scanned, indexMet, lastIndex, indexed, lowerMet, lowered, valuesMet, recordWay}
 use Rattle.answers.specs.declared.Read.{Read}
 use Rattle.answers.specs.declared.Read.the-variants.{Value as Given, Refused}
 use Rattle.answers.specs.Answers.{elementThere, elementRead, inRecord, inVariable, valueRead}

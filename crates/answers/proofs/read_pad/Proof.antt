@@ -1,4 +1,4 @@
-use Rattle.ways.proofs.Found.{found-right}
+use Rattle.lookup.proofs.Found.{found-right}
 use Rattle.answers.proofs.Asked.{in-variable, pad-found, pad-stopped}
 use Rattle.answers.proofs.Fitting.{variable-fits}
 use Rattle.answers.specs.Bounds.{Fits}

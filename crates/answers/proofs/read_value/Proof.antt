@@ -1,4 +1,4 @@
-use Rattle.ways.proofs.Found.{found-right}
+use Rattle.lookup.proofs.Found.{found-right}
 use Rattle.answers.proofs.Asked.{in-variable, value-found, value-stopped}
 use Rattle.answers.proofs.Fitting.{variable-fits}
 use Rattle.answers.specs.Bounds.{Fits}

@@ -1,4 +1,4 @@
-use Rattle.ways.proofs.Opening.{opened-part}
+use Rattle.lookup.proofs.Opening.{opened-part}
 use Rattle.descriptors.specs.Descriptors.{dimensionSize}
 use Rattle.records.specs.Opening.{gdrAt}
 use borrow.Author.Tests.{not-true, not-false}

@@ -1,4 +1,4 @@
-use Rattle.ways.proofs.Found.{found-right}
+use Rattle.lookup.proofs.Found.{found-right}
 use Rattle.descriptors.proofs.Inside.{dimensions-are, dimensions-lie, dimensions-unknown}
 use mir.Facts.{toZ-ofZ}
 use mir.Syntax.{w64}

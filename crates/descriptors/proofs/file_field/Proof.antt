@@ -1,5 +1,5 @@
 use Rattle.descriptors.specs.Descriptors.{fileField}
-use Rattle.ways.proofs.Opening.{opened-part}
+use Rattle.lookup.proofs.Opening.{opened-part}
 use native.Mathlib.Omega.{arith}
 use borrow.Author.Tests.{eq-eqb, ne-eqb, not-true, not-false}
 use mir.Facts.{toZ-pos}

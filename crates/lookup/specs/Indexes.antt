@@ -1,0 +1,178 @@
+-- The way through the index of a variable to the values of a record. Document 01, "Values". Assumes nothing.
+use Prim.Native.Nat.{ℕ, zero, suc, _+_, _-_, _*_, _≤_, _<_}
+use mathlib.Core.Bool.{Bool, cond, _&&_}
+use mathlib.Core.List.{List}
+use lib.Dec.{leb, eqb}
+use lib.IntN.{ℤ, pos}
+use lib.Signed.{leZ}
+use Rattle.format.specs.Fields.{fieldAt, atLeast, linkAt, natOr, bitAt}
+use Rattle.records.specs.Index.{usedAt, vxrRule, indexAt, noLimit, entryOf, vvrRule}
+use Rattle.records.specs.Tree.{levelsBelow}
+use Rattle.records.specs.declared.index.Entry.{Entry}
+use Rattle.lookup.specs.Lists.{landsOn}
+use Rattle.lookup.specs.declared.indexes.Looked.{Looked}
+use Rattle.lookup.specs.declared.indexes.Looked.the-variants.{At, Missing}
+use Rattle.lookup.specs.declared.indexes.Scan.{Scan}
+use Rattle.lookup.specs.declared.indexes.Scan.the-variants.{Covering, Passed, Broken}
+use Rattle.lookup.specs.declared.indexes.Index.{Index}
+use Rattle.lookup.specs.declared.indexes.Index.the-variants.{Covered, Halted}
+use Rattle.lookup.specs.declared.indexes.Values.{Values}
+use Rattle.lookup.specs.declared.indexes.Values.the-variants.{Record, Refused}
+use Rattle.lookup.specs.declared.indexes.Levels.{Levels}
+use Rattle.lookup.specs.declared.indexes.Levels.the-variants.{Are, Unknown}
+
+-- "bit 0 record variance" of the VDR at v
+abbrev pub recordVaries : List ℕ → ℕ → Bool
+recordVaries f v = bitAt f (v + 28) 1
+
+-- VDR: "MaxRec 16"
+abbrev pub maxRecPlace : ℕ → ℕ
+maxRecPlace v = v + 16
+
+-- "A record number from 0 to MaxRec is looked up; with record variance clear any number from 0 reads record 0, and 16 is given if MaxRec is -1"
+unfoldable pub recordThere : List ℕ → ℕ → ℤ → Bool
+recordThere f v r = leZ (pos 0) r && cond (recordVaries f v) (leZ r (fieldAt f (maxRecPlace v))) (atLeast f (maxRecPlace v) (pos 0))
+
+unfoldable pub recordRead : List ℕ → ℕ → ℤ → ℕ
+recordRead f v r = cond (recordVaries f v) (natOr 0 r) 0
+
+unfoldable pub lookedUp : List ℕ → ℕ → ℤ → Looked
+lookedUp f v r = cond (recordThere f v r) (At (recordRead f v r)) Missing
+
+-- "The index entry whose First..Last covers it"
+abbrev pub entryCovers : Entry → ℕ → Bool
+entryCovers e r = leb (e .first) r && leb r (e .last)
+
+pub record EntryFits (r : ℕ) (e : Entry) : Type 0 where
+  pub first : e .first ≤ r
+  pub last : r ≤ e .last
+  pub small : e .last < 2147483648
+  pub link : e .link < 2147483648
+
+-- n used entries of the VXR x from entry i on, to the one that covers r; "index entries rise as in the check, offsets passed over
+-- unjudged"; none ends above most
+unfoldable pub scanned : List ℕ → ℕ → ℕ → ℕ → ℕ → ℕ → ℕ → Scan
+scanned f x r most zero i floor = Passed floor
+scanned f x r most (suc n) i floor =
+    let e = entryOf f x i floor most in
+    cond (eqb (e .fault) 0) (cond (entryCovers e r) (Covering e) (scanned f x r most n (suc i) (suc (e .last)))) Broken
+
+-- the VXR at x can be met
+unfoldable pub indexMet : List ℕ → ℕ → Bool
+indexMet f x = landsOn f 6 x && eqb (vxrRule f x) 0
+
+-- what comes after the entries of a VXR: nothing, or the next VXR
+abbrev pub afterScan : Scan → ℕ → (ℕ → Index) → Index
+afterScan (Covering e) left next = Covered e left
+afterScan (Passed floor) left next = next floor
+afterScan Broken left next = Halted 20
+
+-- the link at p where no more records may be met
+unfoldable pub lastIndex : List ℕ → ℕ → Index
+lastIndex f p = cond (eqb (linkAt f p) 0) (Halted 17) (Halted 20)
+
+-- "the index chain to the covering entry or its end": from the link at p; 17 at its end
+unfoldable pub indexed : List ℕ → ℕ → ℕ → ℕ → ℕ → Index
+indexed f r p floor zero = lastIndex f p
+indexed f r p floor (suc left) =
+    let x = linkAt f p in
+    cond (eqb x 0) (Halted 17)
+    (cond (indexMet f x) (afterScan (scanned f x r noLimit (usedAt f x) 0 floor) left (λ upper. indexed f r (x + 8) upper left)) (Halted 20))
+
+-- ---- request #104: a lower record can be met; "a lower record has next 0"
+unfoldable pub lowerMet : List ℕ → ℕ → Bool
+lowerMet f x = indexMet f x && eqb (linkAt f (x + 8)) 0
+
+-- the used entries of the lower record that the entry e names, to the one that covers r: "its ranges rise within the naming entry's"
+abbrev pub lowerScan : List ℕ → ℕ → Entry → Scan
+lowerScan f r e = scanned f (e .link) r (e .last) (usedAt f (e .link)) 0 (e .first)
+
+-- "a lower record that ends without covering is 17"
+abbrev pub afterLower : Scan → (Entry → Index) → Index
+afterLower (Covering d) next = next d
+afterLower (Passed floor) next = Halted 17
+afterLower Broken next = Halted 20
+
+-- "A lookup goes down level by level, each with one level fewer left": from the covering entry e to the lowest one, where left more
+-- records may be met; "On the reader's way a breach of these, or a ninth level, is 20"
+unfoldable pub lowered : ℕ → List ℕ → ℕ → Entry → ℕ → Index
+lowered zero f r e left = cond (indexAt f (e .link)) (Halted 20) (Covered e left)
+lowered (suc n) f r e left =
+    cond (indexAt f (e .link))
+    (cond (leb 1 left && lowerMet f (e .link)) (afterLower (lowerScan f r e) (λ d. lowered n f r d (left - 1))) (Halted 20))
+    (Covered e left)
+
+abbrev pub lowestOf : List ℕ → ℕ → Index → Index
+lowestOf f r (Covered e left) = lowered levelsBelow f r e left
+lowestOf f r (Halted v) = Halted v
+
+-- "then the VVR", one more record met
+unfoldable pub valuesMet : List ℕ → Entry → ℕ → ℕ → Bool
+valuesMet f e bytes left = leb 1 left && (landsOn f 7 (e .link) && eqb (vvrRule f (e .link) (e .last - e .first + 1) bytes) 0)
+
+-- where record r begins in the values that an entry names
+abbrev pub recordPlace : Entry → ℕ → ℕ → ℕ
+recordPlace e r bytes = e .link + 8 + (r - e .first) * bytes
+
+-- the values of record r that an entry names
+abbrev pub valuesNamed : List ℕ → ℕ → ℕ → Entry → ℕ → Values
+valuesNamed f r bytes e left = cond (valuesMet f e bytes left) (Record (recordPlace e r bytes)) (Refused 20)
+
+-- and those where its index ends
+abbrev pub valuesOf : List ℕ → ℕ → ℕ → Index → Values
+valuesOf f r bytes (Covered e left) = valuesNamed f r bytes e left
+valuesOf f r bytes (Halted v) = Refused v
+
+abbrev pub looked : List ℕ → ℕ → ℕ → ℕ → Looked → Values
+looked f v bytes left (At r) = valuesOf f r bytes (lowestOf f r (indexed f r (v + 20) 0 left))
+looked f v bytes left Missing = Refused 16
+
+-- THE WAY TO A RECORD of the variable whose VDR is at v, where left more records may be met
+unfoldable pub recordWay : List ℕ → ℕ → ℕ → ℤ → ℕ → Values
+recordWay f v bytes r left = looked f v bytes left (lookedUp f v r)
+
+-- ---- the levels of an index on the way to r, from the covering entry e down to the lowest one, where at most n lie below e's. One where
+-- e names no lower record, whatever else it names; else one more than from the entry that covers r there
+abbrev pub levelsThere : Scan → (Entry → ℕ) → ℕ
+levelsThere (Covering d) from = from d
+levelsThere (Passed floor) from = 0
+levelsThere Broken from = 0
+
+unfoldable pub levelsFrom : ℕ → List ℕ → ℕ → Entry → ℕ
+levelsFrom zero f r e = 1
+levelsFrom (suc n) f r e = cond (indexAt f (e .link)) (1 + levelsThere (lowerScan f r e) (λ d. levelsFrom n f r d)) 1
+
+-- they are told where the way down from e, the entry of the top chain, comes to a lowest entry; what that names is not met
+abbrev pub levelsTold : List ℕ → ℕ → Entry → Index → Levels
+levelsTold f r e (Covered d left) = Are (levelsFrom levelsBelow f r e)
+levelsTold f r e (Halted v) = Unknown v
+
+abbrev pub levelsOf : List ℕ → ℕ → Index → Levels
+levelsOf f r (Covered e left) = levelsTold f r e (lowered levelsBelow f r e left)
+levelsOf f r (Halted v) = Unknown v
+
+abbrev pub levelsLooked : List ℕ → ℕ → ℕ → Looked → Levels
+levelsLooked f v left (At r) = levelsOf f r (indexed f r (v + 20) 0 left)
+levelsLooked f v left Missing = Unknown 16
+
+-- HOW MANY LEVELS the index of the variable whose VDR is at v has on the way to a record, where left more records may be met
+unfoldable pub levelsWay : List ℕ → ℕ → ℤ → ℕ → Levels
+levelsWay f v r left = levelsLooked f v left (lookedUp f v r)
+
+-- the bounds of what the code finds
+abbrev pub ScanFits : ℕ → Scan → Type 0
+ScanFits r (Covering e) = EntryFits r e
+ScanFits r (Passed floor) = floor ≤ 2147483648
+ScanFits r Broken = Unit {0}
+
+abbrev pub IndexFits : ℕ → Index → Type 0
+IndexFits r (Covered e left) = EntryFits r e
+IndexFits r (Halted v) = Unit {0}
+
+abbrev pub ValuesFits : Values → Type 0
+ValuesFits (Record at) = at < 9223372036854775808
+ValuesFits (Refused v) = Unit {0}
+
+abbrev pub LevelsFit : Levels → Type 0
+LevelsFit (Are n) = n ≤ 8
+LevelsFit (Unknown v) = Unit {0}

@@ -1,0 +1,3 @@
+// Lookup: the ways of the reader, along the lists to a record, and through an index to values.
+pub mod indexes;
+pub mod lists;
