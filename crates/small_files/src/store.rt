@@ -8,7 +8,7 @@ pub(crate) fn put_all(f: &mut [u8], at: usize, fields: &[u32]) {
         if f.len() < to {
             return;
         }
-        making::put(f, to, fields[i]);
+        stored_fields::put(f, to, fields[i]);
         to += 4;
         i += 1;
     }

@@ -7,12 +7,12 @@ use variables::vdr::Variable;
 
 // The fields of a zVDR at the file's start, of a size, for values of a data type in n dimensions.
 fn describe(f: &mut [u8], size: u32, data: u32, elements: u32, n: u32) {
-    making::put(f, 0, size);
-    making::put(f, 4, 8);
-    making::put(f, 12, data);
-    making::put(f, 28, 1);
-    making::put(f, 48, elements);
-    making::put(f, 128, n);
+    stored_fields::put(f, 0, size);
+    stored_fields::put(f, 4, 8);
+    stored_fields::put(f, 12, data);
+    stored_fields::put(f, 28, 1);
+    stored_fields::put(f, 48, elements);
+    stored_fields::put(f, 128, n);
 }
 
 // A variance: -1 for true, 0 for false.
@@ -95,10 +95,10 @@ fn plane_line(f: &[u8], v: Variable, first: bool, second: bool, row: bool) {
 pub(crate) fn plane(first: bool, second: bool) {
     let mut f = [0u8; 148];
     describe(&mut f, 148, 21, 1, 2);
-    making::put(&mut f, 132, 3);
-    making::put(&mut f, 136, 5);
-    making::put(&mut f, 140, variance(first));
-    making::put(&mut f, 144, variance(second));
+    stored_fields::put(&mut f, 132, 3);
+    stored_fields::put(&mut f, 136, 5);
+    stored_fields::put(&mut f, 140, variance(first));
+    stored_fields::put(&mut f, 144, variance(second));
     let v = vdr::variable_at(&f, 8, 0);
     plane_line(&f, v, first, second, true);
     plane_line(&f, v, first, second, false);
@@ -114,12 +114,12 @@ fn solid_line(f: &[u8], v: Variable, row: bool) {
 pub(crate) fn solid() {
     let mut f = [0u8; 156];
     describe(&mut f, 156, 51, 5, 3);
-    making::put(&mut f, 132, 2);
-    making::put(&mut f, 136, 3);
-    making::put(&mut f, 140, 4);
-    making::put(&mut f, 144, variance(true));
-    making::put(&mut f, 148, variance(false));
-    making::put(&mut f, 152, variance(true));
+    stored_fields::put(&mut f, 132, 2);
+    stored_fields::put(&mut f, 136, 3);
+    stored_fields::put(&mut f, 140, 4);
+    stored_fields::put(&mut f, 144, variance(true));
+    stored_fields::put(&mut f, 148, variance(false));
+    stored_fields::put(&mut f, 152, variance(true));
     let v = vdr::variable_at(&f, 8, 0);
     solid_line(&f, v, true);
     solid_line(&f, v, false);

@@ -6,26 +6,26 @@ use records::index;
 fn unused(f: &mut [u8]) {
     let mut i = 0;
     while i < 30 {
-        making::put(f, 20 + 4 * i, 0xffff_ffff);
+        stored_fields::put(f, 20 + 4 * i, 0xffff_ffff);
         i += 1;
     }
 }
 
 fn header(f: &mut [u8]) {
-    making::put(f, 0, 140);
-    making::put(f, 4, 6);
-    making::put(f, 12, 10);
-    making::put(f, 16, 2);
+    stored_fields::put(f, 0, 140);
+    stored_fields::put(f, 4, 6);
+    stored_fields::put(f, 12, 10);
+    stored_fields::put(f, 16, 2);
     unused(f);
 }
 
 fn used_entries(f: &mut [u8]) {
-    making::put(f, 20, 0);
-    making::put(f, 24, 100);
-    making::put(f, 60, 99);
-    making::put(f, 64, 149);
-    making::put(f, 100, 0xa400);
-    making::put(f, 104, 0xb554);
+    stored_fields::put(f, 20, 0);
+    stored_fields::put(f, 24, 100);
+    stored_fields::put(f, 60, 99);
+    stored_fields::put(f, 64, 149);
+    stored_fields::put(f, 100, 0xa400);
+    stored_fields::put(f, 104, 0xb554);
 }
 
 // Entry i, counted from 0, whose range begins at floor or above; answers where the next may begin.

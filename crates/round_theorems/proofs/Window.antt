@@ -20,7 +20,7 @@ use Rattle.format.proofs.Tests.{neither}
 use Rattle.jobs.proofs.Tests.{outside-not, none-at, runs-inside, runs-apart, overlap-swap}
 use Rattle.jobs.proofs.Turning.{set-keeps}
 use Rattle.jobs.proofs.Areas.{part-length, withPart-length, part-same, part-other, withPart-else}
-use Rattle.promised_rounds.specs.Rounds.{In, Own, ownOf, grantAlone}
+use Rattle.round_theorems.specs.Rounds.{In, Own, ownOf, grantAlone}
 
 -- ---- windows of the same shape
 pub record Same (w v : Window) : Type 0 where

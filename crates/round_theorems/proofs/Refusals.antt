@@ -16,7 +16,7 @@ use Rattle.jobs.specs.Parts.{inside, outside, overlap, clash, clashBefore, anyT
 use Rattle.jobs.specs.Turns.{Window, partsAt, turnsTo, Rounded, rounded}
 use Rattle.jobs.proofs.Tests.{found}
 use Rattle.jobs.proofs.Turning.{round-stops, round-goes}
-use Rattle.promised_rounds.specs.Rounds.{Share, roundFrom, SomeOutside, SomeOverlap, NotRefused, Refusals}
+use Rattle.round_theorems.specs.Rounds.{Share, roundFrom, SomeOutside, SomeOverlap, NotRefused, Refusals}
 
 -- ---- tests
 or-right : (x y : Bool) → y ≡ true → x || y ≡ true

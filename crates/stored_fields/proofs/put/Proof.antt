@@ -5,9 +5,9 @@ use lib.ListN.{length, set, length-set}
 use native.Mathlib.Omega.{arith}
 use borrow.Author.Needs.{needs}
 use borrow.Author.Tests.{lt-leb, le-leb}
-use Rattle.making.specs.Stored.{stored}
-use Rattle.making.proofs.put.Statement.{statement}
-use Rattle.making.proofs.put.Tie as tie
+use Rattle.stored_fields.specs.Stored.{stored}
+use Rattle.stored_fields.proofs.put.Statement.{statement}
+use Rattle.stored_fields.proofs.put.Tie as tie
 
 -- a field that ends past the file's end, and one that does not
 stored-past : (f : List ℕ) (at n : ℕ) → length f < at + 4 → stored f at n ≡ f

@@ -23,11 +23,11 @@ use Rattle.demands.proofs.Demand2.{demand-2}
 use Rattle.jobs.specs.Turns.{Window, rowAt, partsAt}
 use Rattle.jobs.proofs.Tests.{outside-not, runs-some}
 use Rattle.jobs.proofs.Areas.{part-length}
-use Rattle.promised_rounds.specs.Rounds.{Own, ownOf, grantsAlone, roundsOf, NotRefused, roundsWithin, RoundedUp, plainAt, FreshJobs}
-use Rattle.promised_rounds.proofs.Window.{fit-of}
-use Rattle.promised_rounds.proofs.Refusals.{not-tested}
-use Rattle.promised_rounds.proofs.Rounds.{alone-is}
-use Rattle.promised_rounds.proofs.Jobs.{not-running}
+use Rattle.round_theorems.specs.Rounds.{Own, ownOf, grantsAlone, roundsOf, NotRefused, roundsWithin, RoundedUp, plainAt, FreshJobs}
+use Rattle.round_theorems.proofs.Window.{fit-of}
+use Rattle.round_theorems.proofs.Refusals.{not-tested}
+use Rattle.round_theorems.proofs.Rounds.{alone-is}
+use Rattle.round_theorems.proofs.Jobs.{not-running}
 
 -- ---- rounded up
 pub rounded-up : RoundedUp

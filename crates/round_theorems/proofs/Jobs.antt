@@ -21,8 +21,8 @@ use Rattle.checker.proofs.Cases.{Case, idles, refuses, works, case-of, right-le
 use Rattle.checker.proofs.Sound.{Own as OwnFile, loaded-sound, sound-run, sound-loaded}
 use Rattle.grants.specs.Promises.{comesBack}
 use Rattle.grants.proofs.Any.{every-grant}
-use Rattle.promised_rounds.specs.Rounds.{roundsOf, Own, ownOf, grantAlone, grantsAlone, AnyJobs}
-use Rattle.promised_rounds.proofs.Rounds.{alone-is}
+use Rattle.round_theorems.specs.Rounds.{roundsOf, Own, ownOf, grantAlone, grantsAlone, AnyJobs}
+use Rattle.round_theorems.proofs.Rounds.{alone-is}
 
 has-verdict : (g : Stage) → answerOf g ≢ negsuc 0 → finished g ≡ true
 has-verdict Fresh e = absurd (e refl)

@@ -10,9 +10,9 @@ use Rattle.jobs.specs.declared.parts.Parts.{Parts}
 use Rattle.jobs.specs.Parts.{refusedOf}
 use Rattle.jobs.specs.Turns.{Window, partsAt, turnsTo, Rounded}
 use Rattle.jobs.proofs.Gathers.{refused-by-parts}
-use Rattle.promised_rounds.specs.Rounds.{In, roundsOf, NotRefused, Own, ownOf, grantAlone, grantsAlone, Rounds, Isolated}
-use Rattle.promised_rounds.proofs.Window.{Same, same-refl, same-trans, Fit, fit-of, to-same, to-own, to-else}
-use Rattle.promised_rounds.proofs.Refusals.{tested, goes, not-tested}
+use Rattle.round_theorems.specs.Rounds.{In, roundsOf, NotRefused, Own, ownOf, grantAlone, grantsAlone, Rounds, Isolated}
+use Rattle.round_theorems.proofs.Window.{Same, same-refl, same-trans, Fit, fit-of, to-same, to-own, to-else}
+use Rattle.round_theorems.proofs.Refusals.{tested, goes, not-tested}
 
 -- ---- one round
 module _ (f : List ℕ) (q : ℕ) where

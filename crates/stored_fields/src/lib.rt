@@ -1,6 +1,6 @@
 // Control fields stored, for the programs that make their own files.
 ghost use mathlib.Core.Path.{_≡_};
-ghost use Rattle.making.specs.Stored.{stored};
+ghost use Rattle.stored_fields.specs.Stored.{stored};
 
 // Stores a control field; nothing is stored if the file ends before it does.
 pub fn put(f: &mut [u8], at: usize, n: u32)
