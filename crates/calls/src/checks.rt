@@ -11,7 +11,7 @@ pub extern "C" fn tlz_check_begin(state: &mut [u32]) -> i32
     grants::begin(state)
 }
 
-// A grant of steps on a saved state: what it answers, in steps how many it made, and in place where the record at fault is.
+// A grant of steps on a saved state: what it answers, in steps how many it made, and in location the offset of the record at fault.
 #[no_mangle]
 pub extern "C" fn tlz_check_grant(
     file: &[u8],
@@ -19,10 +19,10 @@ pub extern "C" fn tlz_check_grant(
     state: &mut [u32],
     grant: u64,
     steps: &mut u64,
-    place: &mut u64,
+    location: &mut u64,
 ) -> i32
-    ensures { λ r. ⌜ granted r (now (place .exit)) (now (steps .exit)) (now (state .exit)) (now (marks .exit))
+    ensures { λ r. ⌜ granted r (now (location .exit)) (now (steps .exit)) (now (state .exit)) (now (marks .exit))
         ≡ grantOf (now (file .entry)) (now (marks .entry)) (now (state .entry)) grant ⌝ }
 {
-    grants::grant(file, marks, state, grant, steps, place)
+    grants::grant(file, marks, state, grant, steps, location)
 }

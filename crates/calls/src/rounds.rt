@@ -7,24 +7,24 @@ ghost use Rattle.jobs.specs.Parts.{anyOutside};
 ghost use Rattle.jobs.specs.Turns.{partsAt, window, turnsTo, rounded, roundOf};
 ghost use Rattle.jobs.specs.Gathered.{gathered};
 use jobs::parts;
-use jobs::parts::Places;
+use jobs::parts::Gathered;
 use jobs::rows;
 use jobs::turns;
 use jobs::turns::Job;
 
 // The parts of the first n rows.
-fn places_in(list: &[Job], n: usize) -> Places
+fn gathered_in(list: &[Job], n: usize) -> Gathered
     requires { ⌜ (n ≤ length (now list)) × (n ≤ 8) ⌝ }
     ensures { λ r. ⌜ r ≡ gathered (partsAt (now (list .entry))) n ⌝ }
 {
-    let mut places = parts::no_places();
+    let mut all = parts::none_gathered();
     let mut i = 0;
     while i < n {
         let j = list[i];
-        places = rows::with_row(places, i, j);
+        all = rows::with_row(all, i, j);
         i += 1;
     }
-    places
+    all
 }
 
 // The turns of all rows, in order.
@@ -48,8 +48,8 @@ pub extern "C" fn tlz_round(files: &[u8], marks: &mut [u8], jobs: &mut [Job], q:
         ≡ roundOf (now (files .entry)) (window (now (jobs .entry)) (now (marks .entry))) (length (now (jobs .entry))) q ⌝ }
 {
     let n = jobs.len();
-    let places = places_in(jobs, parts::few(n));
-    if parts::is_refused(places, n, files.len(), marks.len(), q) {
+    let all = gathered_in(jobs, parts::few(n));
+    if parts::is_refused(all, n, files.len(), marks.len(), q) {
         return 24;
     }
     turns_in(files, marks, jobs, q);

@@ -9,9 +9,9 @@ use lib.Dec.{ltb, eqb}
 use lib.Seq.{getD-set-same, getD-set-other}
 use borrow.Author.Tests.{eqb-true, eqb-false, ltb-false}
 use Rattle.jobs.specs.declared.parts.Parts.{Parts}
-use Rattle.jobs.specs.declared.parts.Places.{Places}
+use Rattle.jobs.specs.declared.parts.Gathered.{Gathered}
 use Rattle.jobs.specs.Parts.{noParts, outside, clash, anyOutside, anyClash, refusedOf}
-use Rattle.jobs.specs.Gathered.{partsIn, noPlaces, withParts, gathered, fewOf}
+use Rattle.jobs.specs.Gathered.{partsIn, noneGathered, withParts, gathered, fewOf}
 use Rattle.jobs.proofs.Tests.{any-same}
 
 pub gather-more : (p : ℕ → Parts) (i : ℕ) → withParts (gathered p i) i (p i) ≡ gathered p (i + 1)
@@ -19,7 +19,7 @@ unfolding gathered
 gather-more p i = rw add-one
 
 gathered-length : (p : ℕ → Parts) (n : ℕ) → length (gathered p n .row) ≡ 8
-unfolding gathered noPlaces
+unfolding gathered noneGathered
 gathered-length p zero = refl
 gathered-length p (suc n) = length-set (gathered p n .row) n (p n) ∙ gathered-length p n
 
@@ -73,7 +73,7 @@ refused-gathered p n files marks q = by (ltb 8 n) refl
     by false e = refused-by-parts (partsIn (gathered p n .row)) p n files marks q (λ k l. at-gathered p n k (ltb-false 8 n e) l)
 
 -- what the test answers of the parts that the code has gathered
-pub tested : (p : ℕ → Parts) (n files marks q k : ℕ) (ps : Places) (y : Bool) → k ≡ fewOf n → ps ≡ gathered p k → y ≡ refusedOf (partsIn (ps .row)) n files marks q
+pub tested : (p : ℕ → Parts) (n files marks q k : ℕ) (ps : Gathered) (y : Bool) → k ≡ fewOf n → ps ≡ gathered p k → y ≡ refusedOf (partsIn (ps .row)) n files marks q
     → y ≡ refusedOf p n files marks q
 tested p n files marks q k ps y e g h =
-    h ∙ ap (λ (z : Places). refusedOf (partsIn (z .row)) n files marks q) (g ∙ ap (gathered p) e) ∙ refused-gathered p n files marks q
+    h ∙ ap (λ (z : Gathered). refusedOf (partsIn (z .row)) n files marks q) (g ∙ ap (gathered p) e) ∙ refused-gathered p n files marks q

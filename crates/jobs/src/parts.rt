@@ -2,7 +2,7 @@
 ghost use mathlib.Core.Path.{_≡_};
 ghost use Prim.Native.Nat.{_≤_, _<_};
 ghost use Rattle.jobs.specs.Parts.{inside, overlap, outside, clash, clashBefore, anyOutside, anyClash, refusedOf};
-ghost use Rattle.jobs.specs.Gathered.{noPlaces, partsIn, fewOf};
+ghost use Rattle.jobs.specs.Gathered.{noneGathered, partsIn, fewOf};
 
 // A part of an area: where it begins, and its length.
 #[repr(C)]
@@ -19,7 +19,7 @@ pub struct Parts {
 }
 
 // The parts of eight jobs.
-pub struct Places {
+pub struct Gathered {
     pub row: [Parts; 8],
 }
 
@@ -70,13 +70,13 @@ fn do_clash(p: Parts, r: Parts) -> bool
 }
 
 // A part of the first n jobs lies outside its area.
-fn one_outside(places: Places, n: usize, files: usize, marks: usize) -> bool
+fn one_outside(all: Gathered, n: usize, files: usize, marks: usize) -> bool
     requires { ⌜ n ≤ 8 ⌝ }
-    ensures { λ r. ⌜ r ≡ anyOutside (partsIn (places .row)) n files marks ⌝ }
+    ensures { λ r. ⌜ r ≡ anyOutside (partsIn (all .row)) n files marks ⌝ }
 {
     let mut i = 0;
     while i < n {
-        let p = places.row[i];
+        let p = all.row[i];
         if is_outside(p, files, marks) {
             return true;
         }
@@ -86,14 +86,14 @@ fn one_outside(places: Places, n: usize, files: usize, marks: usize) -> bool
 }
 
 // A job before job i shares a byte with it.
-fn clashes_before(places: Places, i: usize) -> bool
+fn clashes_before(all: Gathered, i: usize) -> bool
     requires { ⌜ i < 8 ⌝ }
-    ensures { λ r. ⌜ r ≡ clashBefore (partsIn (places .row)) i ⌝ }
+    ensures { λ r. ⌜ r ≡ clashBefore (partsIn (all .row)) i ⌝ }
 {
-    let p = places.row[i];
+    let p = all.row[i];
     let mut k = 0;
     while k < i {
-        let other = places.row[k];
+        let other = all.row[k];
         if do_clash(other, p) {
             return true;
         }
@@ -103,13 +103,13 @@ fn clashes_before(places: Places, i: usize) -> bool
 }
 
 // Two of the first n jobs share a byte.
-fn one_clashes(places: Places, n: usize) -> bool
+fn one_clashes(all: Gathered, n: usize) -> bool
     requires { ⌜ n ≤ 8 ⌝ }
-    ensures { λ r. ⌜ r ≡ anyClash (partsIn (places .row)) n ⌝ }
+    ensures { λ r. ⌜ r ≡ anyClash (partsIn (all .row)) n ⌝ }
 {
     let mut i = 0;
     while i < n {
-        if clashes_before(places, i) {
+        if clashes_before(all, i) {
             return true;
         }
         i += 1;
@@ -118,8 +118,8 @@ fn one_clashes(places: Places, n: usize) -> bool
 }
 
 // A round over n jobs is refused with 24.
-pub fn is_refused(places: Places, n: usize, files: usize, marks: usize, q: u64) -> bool
-    ensures { λ r. ⌜ r ≡ refusedOf (partsIn (places .row)) n files marks q ⌝ }
+pub fn is_refused(all: Gathered, n: usize, files: usize, marks: usize, q: u64) -> bool
+    ensures { λ r. ⌜ r ≡ refusedOf (partsIn (all .row)) n files marks q ⌝ }
 {
     if q == 0 {
         return true;
@@ -127,10 +127,10 @@ pub fn is_refused(places: Places, n: usize, files: usize, marks: usize, q: u64) 
     if 8 < n {
         return true;
     }
-    if one_outside(places, n, files, marks) {
+    if one_outside(all, n, files, marks) {
         return true;
     }
-    one_clashes(places, n)
+    one_clashes(all, n)
 }
 
 // The number of rows to gather: n, or 0 where that is more than eight.
@@ -144,13 +144,13 @@ pub fn few(n: usize) -> usize
 }
 
 // No parts yet.
-pub fn no_places() -> Places
-    ensures { λ r. ⌜ r ≡ noPlaces ⌝ }
+pub fn none_gathered() -> Gathered
+    ensures { λ r. ⌜ r ≡ noneGathered ⌝ }
 {
     let none = Part { from: 0, len: 0 };
     let p = Parts {
         file: none,
         marks: none,
     };
-    Places { row: [p; 8] }
+    Gathered { row: [p; 8] }
 }

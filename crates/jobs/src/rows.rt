@@ -7,7 +7,7 @@ ghost use Rattle.jobs.specs.Parts.{anyOutside};
 ghost use Rattle.jobs.specs.Gathered.{gathered, withParts};
 ghost use Rattle.jobs.specs.Turns.{partsAt, window, turnsTo, rounded, roundOf};
 use crate::parts;
-use crate::parts::Places;
+use crate::parts::Gathered;
 use crate::turns;
 use crate::turns::Job;
 
@@ -23,29 +23,29 @@ pub struct Round {
 }
 
 // The parts of jobs, with those of row i.
-pub fn with_row(places: Places, i: usize, j: Job) -> Places
+pub fn with_row(all: Gathered, i: usize, j: Job) -> Gathered
     requires { ⌜ i < 8 ⌝ }
-    ensures { λ r. ⌜ r ≡ withParts places i (j .parts) ⌝ }
+    ensures { λ r. ⌜ r ≡ withParts all i (j .parts) ⌝ }
 {
     let p = j.parts;
-    let mut next = places;
+    let mut next = all;
     next.row[i] = p;
     next
 }
 
 // The parts of the first n rows.
-fn places_of(rows: Rows, n: usize) -> Places
+fn gathered_of(rows: Rows, n: usize) -> Gathered
     requires { ⌜ n ≤ 8 ⌝ }
     ensures { λ r. ⌜ r ≡ gathered (partsAt (rows .row)) n ⌝ }
 {
-    let mut places = parts::no_places();
+    let mut all = parts::none_gathered();
     let mut i = 0;
     while i < n {
         let j = rows.row[i];
-        places = with_row(places, i, j);
+        all = with_row(all, i, j);
         i += 1;
     }
-    places
+    all
 }
 
 // The turns of the first n rows, in order.
@@ -68,8 +68,8 @@ fn turns_to(files: &[u8], marks: &mut [u8], rows: Rows, n: usize, q: u64) -> Row
 pub fn round_by_value(files: &[u8], marks: &mut [u8], rows: Rows, n: usize, q: u64) -> Round
     ensures { λ r. ⌜ rounded (r .answer) (window (r .rows .row) (now (marks .exit))) ≡ roundOf (now (files .entry)) (window (rows .row) (now (marks .entry))) n q ⌝ }
 {
-    let places = places_of(rows, parts::few(n));
-    if parts::is_refused(places, n, files.len(), marks.len(), q) {
+    let all = gathered_of(rows, parts::few(n));
+    if parts::is_refused(all, n, files.len(), marks.len(), q) {
         return Round {
             answer: 24,
             rows: rows,

@@ -27,14 +27,14 @@ pub fn turn(files: &[u8], marks: &mut [u8], j: Job, q: u64) -> Job
     let d = c + j.parts.marks.len;
     let mut s = j.state;
     let mut steps: u64 = 0;
-    let mut place: u64 = 0;
+    let mut location: u64 = 0;
     let r = grants::grant(
         &files[a..e],
         &mut marks[c..d],
         &mut s,
         q,
         &mut steps,
-        &mut place,
+        &mut location,
     );
     let mut next = j;
     next.answer = r;

@@ -1,4 +1,4 @@
--- `calls::rounds::tlz_round` meets its contract: a walk of its MIR, by hand. The list is lent as a `&[Job]` to `places_in`, and comes back; the test is made over the parts that were gathered; and unless it
+-- `calls::rounds::tlz_round` meets its contract: a walk of its MIR, by hand. The list is lent as a `&[Job]` to `gathered_in`, and comes back; the test is made over the parts that were gathered; and unless it
 -- refuses, the marks and the list are lent again to `turns_in`, and come back. All that the proof knows of a callee is that it meets its contract.
 -- Assumes nothing.
 use mathlib.Core.Path.{_≡_, refl, sym, _∙_, ap}
@@ -46,7 +46,7 @@ use denote.Triple.Table.{entered, cited}
 use denote.Triple.Walked.{says, Stays, stay-slice, stay-none, stay-none-slice, walkOf, goes-slice, goes-none, goes-none-slice, Walks, ends-at, walked, walk-meets}
 use denote.Exit.{yes}
 use Rattle.jobs.specs.declared.turns.Job.{Job}
-use Rattle.jobs.specs.declared.parts.Places.{Places}
+use Rattle.jobs.specs.declared.parts.Gathered.{Gathered}
 use Rattle.jobs.specs.Parts.{anyOutside, refusedOf}
 use Rattle.jobs.specs.Turns.{partsAt, window, turnsTo, rounded, roundOf}
 use Rattle.jobs.specs.Gathered.{partsIn, fewOf, gathered}
@@ -54,8 +54,8 @@ use Rattle.jobs.proofs.Gathers.{few-low, tested}
 use Rattle.jobs.proofs.Tests.{runs-inside}
 use Rattle.jobs.proofs.Turning.{round-stops, round-goes}
 use Rattle.jobs.proofs.turns.Job as T
-use Rattle.jobs.proofs.parts.Places as S
-use Rattle.jobs.proofs.parts.Places.Laws as S′
+use Rattle.jobs.proofs.parts.Gathered as S
+use Rattle.jobs.proofs.parts.Gathered.Laws as S′
 use Rattle.jobs.proofs.parts.is_refused as refused
 use Rattle.jobs.proofs.parts.is_refused.Symbol as refused-def
 use Rattle.jobs.proofs.parts.is_refused.Symbol.{name as #jobs·parts·is-refused}
@@ -64,10 +64,10 @@ use Rattle.jobs.proofs.parts.few as few
 use Rattle.jobs.proofs.parts.few.Symbol as few-def
 use Rattle.jobs.proofs.parts.few.Symbol.{name as #jobs·parts·few}
 use Rattle.jobs.proofs.parts.few.Met as few-thm
-use Rattle.calls.proofs.rounds.places_in as places-in
-use Rattle.calls.proofs.rounds.places_in.Symbol as places-in-def
-use Rattle.calls.proofs.rounds.places_in.Symbol.{name as #calls·rounds·places-in}
-use Rattle.calls.proofs.rounds.places_in.Met as places-in-thm
+use Rattle.calls.proofs.rounds.gathered_in as gathered-in
+use Rattle.calls.proofs.rounds.gathered_in.Symbol as gathered-in-def
+use Rattle.calls.proofs.rounds.gathered_in.Symbol.{name as #calls·rounds·gathered-in}
+use Rattle.calls.proofs.rounds.gathered_in.Met as gathered-in-thm
 use Rattle.calls.proofs.rounds.turns_in as turns-in
 use Rattle.calls.proofs.rounds.turns_in.Symbol as turns-in-def
 use Rattle.calls.proofs.rounds.turns_in.Symbol.{name as #calls·rounds·turns-in}
@@ -103,16 +103,16 @@ fileS = sliceTy (tyRef (named 0) imm (tyInt w8))
 abbrev listS : Lifetime → Mutability → Ty
 listS ℓ k = sliceTy (tyRef ℓ k (pointee (T.the-row .written)))
 
-abbrev placesT : Ty
-placesT = spell body.table (tyNamed (S.struct .name, []))
+abbrev gatheredT : Ty
+gatheredT = spell body.table (tyNamed (S.struct .name, []))
 
 -- the contracts that the proof cites
 module _ {M : Type 1} (𝓤 : URA M) (H : Heap 𝓤) (A : Atoms 𝓤) (mem : Memory → SProp 𝓤) (run : Routine → Fun 𝓤) where
   abbrev Few : Contract 𝓤
   Few = tripleOf 𝓤 H A few.signature (few.spec 𝓤 H A mem run)
 
-  abbrev PlacesIn : Contract 𝓤
-  PlacesIn = tripleOf 𝓤 H A places-in.signature (places-in.spec 𝓤 H A mem run)
+  abbrev GatheredIn : Contract 𝓤
+  GatheredIn = tripleOf 𝓤 H A gathered-in.signature (gathered-in.spec 𝓤 H A mem run)
 
   abbrev Refused : Contract 𝓤
   Refused = tripleOf 𝓤 H A refused.signature (refused.spec 𝓤 H A mem run)
@@ -123,10 +123,10 @@ module _ {M : Type 1} (𝓤 : URA M) (H : Heap 𝓤) (A : Atoms 𝓤) (mem : Mem
   few-says : (n r : ℕ) → ent 𝓤 (ensured 𝓤 H A few.ended (few.clauses 𝓤 H A mem run) tt (n, tt) tt r) (fact 𝓤 (r ≡ fewOf n))
   few-says n r = exE 𝓤 _ (λ ws. snd∗ 𝓤 (sem 𝓤 H A (lasts few.ended tt (n, tt) ws)) (fact 𝓤 (r ≡ fewOf n)))
 
-  places-in-says : (κ : Lft) (x : RefT (List Job)) (n : ℕ) (r : Places) → ent 𝓤 (ensured 𝓤 H A places-in.ended (places-in.clauses 𝓤 H A mem run) (κ, tt) (x, (n, tt)) tt r) (fact 𝓤 (r ≡ gathered (partsAt (x .now)) n))
-  places-in-says κ x n r = exE 𝓤 _ (λ ws. snd∗ 𝓤 (sem 𝓤 H A (lasts places-in.ended (κ, tt) (x, (n, tt)) ws)) (fact 𝓤 (r ≡ gathered (partsAt (x .now)) n)))
+  gathered-in-says : (κ : Lft) (x : RefT (List Job)) (n : ℕ) (r : Gathered) → ent 𝓤 (ensured 𝓤 H A gathered-in.ended (gathered-in.clauses 𝓤 H A mem run) (κ, tt) (x, (n, tt)) tt r) (fact 𝓤 (r ≡ gathered (partsAt (x .now)) n))
+  gathered-in-says κ x n r = exE 𝓤 _ (λ ws. snd∗ 𝓤 (sem 𝓤 H A (lasts gathered-in.ended (κ, tt) (x, (n, tt)) ws)) (fact 𝓤 (r ≡ gathered (partsAt (x .now)) n)))
 
-  refused-says : (rs : Places) (n fl ml q : ℕ) (r : Bool) → ent 𝓤 (ensured 𝓤 H A refused.ended (refused.clauses 𝓤 H A mem run) tt (rs, (n, (fl, (ml, (q, tt))))) tt r) (fact 𝓤 (r ≡ refusedOf (partsIn (rs .row)) n fl ml q))
+  refused-says : (rs : Gathered) (n fl ml q : ℕ) (r : Bool) → ent 𝓤 (ensured 𝓤 H A refused.ended (refused.clauses 𝓤 H A mem run) tt (rs, (n, (fl, (ml, (q, tt))))) tt r) (fact 𝓤 (r ≡ refusedOf (partsIn (rs .row)) n fl ml q))
   refused-says rs n fl ml q r = exE 𝓤 _ (λ ws. snd∗ 𝓤 (sem 𝓤 H A (lasts refused.ended tt (rs, (n, (fl, (ml, (q, tt))))) ws)) (fact 𝓤 (r ≡ refusedOf (partsIn (rs .row)) n fl ml q)))
 
 module _ {M : Type 1} (𝓤 : URA M) (H : Heap 𝓤) (A : Atoms 𝓤) (W : Given 𝓤 H A) (mem : Memory → SProp 𝓤) (run : Routine → Fun 𝓤)
@@ -190,18 +190,18 @@ module _ {M : Type 1} (𝓤 : URA M) (H : Heap 𝓤) (A : Atoms 𝓤) (W : Given
   goes-few : ent 𝓤 (emp 𝓤) (Few 𝓤 H A mem run .pre to-few)
   goes-few = qed W [] ∵ nothing ! $ nothing ! $ owned ! usize (Is usize) (uint-makes 𝓤 H A W w64) (length ys) _ (refl, room .0) $ fjoin ! $ move ! (1 ∷ 0 ∷ []) $ join ! $ frame ! $ done !
 
-  abbrev to-places : ℕ → ℕ → GName → PlacesIn 𝓤 H A mem run .Ghost
-  to-places k ν δ = (((ν ∷ [], tt), (fullShare, tt), tt, (xl δ ys, (k, tt)), (sl ∷ [], (vint w64 k ∷ [], tt))), tt)
+  abbrev to-gathered : ℕ → ℕ → GName → GatheredIn 𝓤 H A mem run .Ghost
+  to-gathered k ν δ = (((ν ∷ [], tt), (fullShare, tt), tt, (xl δ ys, (k, tt)), (sl ∷ [], (vint w64 k ∷ [], tt))), tt)
 
-  goes-places : (k ν : ℕ) (δ : GName) → k < 2 ^ 64 → (k ≤ length ys) × (k ≤ 8) → ent 𝓤 (sep 𝓤 (A .lft (ν ∷ []) fullShare) (sem 𝓤 H A (ShrSlice (named 0) (ν ∷ []) T.the-row .own (xl δ ys) (sl ∷ [])))) (PlacesIn 𝓤 H A mem run .pre (to-places k ν δ))
-  goes-places k ν δ k-fits low =
+  goes-gathered : (k ν : ℕ) (δ : GName) → k < 2 ^ 64 → (k ≤ length ys) × (k ≤ 8) → ent 𝓤 (sep 𝓤 (A .lft (ν ∷ []) fullShare) (sem 𝓤 H A (ShrSlice (named 0) (ν ∷ []) T.the-row .own (xl δ ys) (sl ∷ [])))) (GatheredIn 𝓤 H A mem run .pre (to-gathered k ν δ))
+  goes-gathered k ν δ k-fits low =
       qed W (‵ (flft (ν ∷ []) fullShare) ∷ ‵ (ShrSlice (named 0) (ν ∷ []) T.the-row .own (xl δ ys) (sl ∷ [])) ∷ []) ∵ says ! low $ nothing ! $ move ! (1 ∷ 0 ∷ []) $ join ! $ frame ! $
       nothing ! $ owned ! usize (Is usize) (uint-makes 𝓤 H A W w64) k _ (refl, k-fits) $ fjoin ! $ move ! (1 ∷ 0 ∷ []) $ fjoin ! $ done !
 
-  abbrev to-refused : Places → Val → Refused 𝓤 H A mem run .Ghost
+  abbrev to-refused : Gathered → Val → Refused 𝓤 H A mem run .Ghost
   to-refused r w = ((tt, tt, tt, (r, (length ys, (length fs, (length ms, (q, tt))))), (w ∷ [], (vint w64 (length ys) ∷ [], (vint w64 (length fs) ∷ [], (vint w64 (length ms) ∷ [], (vint w64 q ∷ [], tt)))))), tt)
 
-  goes-refused : (r : Places) (w : Val) → ent 𝓤 (sem 𝓤 H A (S.the-row .own r (w ∷ []))) (Refused 𝓤 H A mem run .pre (to-refused r w))
+  goes-refused : (r : Gathered) (w : Val) → ent 𝓤 (sem 𝓤 H A (S.the-row .own r (w ∷ []))) (Refused 𝓤 H A mem run .pre (to-refused r w))
   goes-refused r w =
       qed W (‵ (S.the-row .own r (w ∷ [])) ∷ []) ∵ nothing ! $ owned ! u64 (Is u64) (uint-makes 𝓤 H A W w64) q _ (refl, q-fits) $ fjoin ! $ owned ! usize (Is usize) (uint-makes 𝓤 H A W w64) (length ms) _ (refl, roomm .0) $ fjoin ! $
       owned ! usize (Is usize) (uint-makes 𝓤 H A W w64) (length fs) _ (refl, roomf .0) $ fjoin ! $ owned ! usize (Is usize) (uint-makes 𝓤 H A W w64) (length ys) _ (refl, room .0) $ fjoin ! $ move ! (1 ∷ 0 ∷ []) $ fjoin ! $
@@ -227,14 +227,14 @@ module _ {M : Type 1} (𝓤 : URA M) (H : Heap 𝓤) (A : Atoms 𝓤) (W : Given
     Λ = 𝓣 .Λ
 
     abbrev En : Env 𝓤 H
-    En = ((tyInt w32), l₀) ∷ (fileS, l₁) ∷ ((byteS (named 1)), l₂) ∷ ((listS (named 2) mut), l₃) ∷ (word, l₄) ∷ (word, l₅) ∷ (placesT, l₆) ∷ ((tyRef erased imm (pointee (T.the-row .written))), l₇) ∷ ((listS erased imm), l₈) ∷ (word, l₉) ∷ (tyBool, l₁₀) ∷ (word, l₁₁) ∷ (tyUnit, l₁₂) ∷ ((tyRef erased mut (tyInt w8)), l₁₃) ∷ ((byteS erased), l₁₄) ∷ ((tyRef erased mut (pointee (T.the-row .written))), l₁₅) ∷ ((listS erased mut), l₁₆) ∷ []
+    En = ((tyInt w32), l₀) ∷ (fileS, l₁) ∷ ((byteS (named 1)), l₂) ∷ ((listS (named 2) mut), l₃) ∷ (word, l₄) ∷ (word, l₅) ∷ (gatheredT, l₆) ∷ ((tyRef erased imm (pointee (T.the-row .written))), l₇) ∷ ((listS erased imm), l₈) ∷ (word, l₉) ∷ (tyBool, l₁₀) ∷ (word, l₁₁) ∷ (tyUnit, l₁₂) ∷ ((tyRef erased mut (tyInt w8)), l₁₃) ∷ ((byteS erased), l₁₄) ∷ ((tyRef erased mut (pointee (T.the-row .written))), l₁₅) ∷ ((listS erased mut), l₁₆) ∷ []
 
     -- the locals once the test is made
     abbrev Locals : Bool → Val → List (Item 𝓤)
     Locals y w₆ = ‵ (froom (listS erased mut) l₁₆ 0) ∷ ‵ (fdies (listS erased mut) l₁₆) ∷ ‵ (froom (tyRef erased mut (pointee (T.the-row .written))) l₁₅ 0) ∷ ‵ (fdies (tyRef erased mut (pointee (T.the-row .written))) l₁₅) ∷ ‵ (froom (byteS erased) l₁₄ 0) ∷ ‵ (fdies (byteS erased) l₁₄)
         ∷ ‵ (froom (tyRef erased mut (tyInt w8)) l₁₃ 0) ∷ ‵ (fdies (tyRef erased mut (tyInt w8)) l₁₃) ∷ ‵ (froom tyUnit l₁₂ 0) ∷ ‵ (fdies tyUnit l₁₂) ∷ ‵ (fat fullShare word l₁₁ 0 (vint w64 (length ms))) ∷ ‵ (fdies word l₁₁)
         ∷ ‵ (fat fullShare tyBool l₁₀ 0 (vbool y)) ∷ ‵ (fdies tyBool l₁₀) ∷ ‵ (fat fullShare word l₉ 0 (vint w64 (length fs))) ∷ ‵ (fdies word l₉) ∷ ‵ (fat fullShare (listS erased imm) l₈ 0 sl) ∷ ‵ (fdies (listS erased imm) l₈)
-        ∷ ‵ (fat fullShare (tyRef erased imm (pointee (T.the-row .written))) l₇ 0 (vptr b o)) ∷ ‵ (fdies (tyRef erased imm (pointee (T.the-row .written))) l₇) ∷ ‵ (fat fullShare placesT l₆ 0 w₆) ∷ ‵ (fdies placesT l₆) ∷ ‵ (fat fullShare word l₅ 0 (vint w64 (length ys))) ∷ ‵ (fdies word l₅)
+        ∷ ‵ (fat fullShare (tyRef erased imm (pointee (T.the-row .written))) l₇ 0 (vptr b o)) ∷ ‵ (fdies (tyRef erased imm (pointee (T.the-row .written))) l₇) ∷ ‵ (fat fullShare gatheredT l₆ 0 w₆) ∷ ‵ (fdies gatheredT l₆) ∷ ‵ (fat fullShare word l₅ 0 (vint w64 (length ys))) ∷ ‵ (fdies word l₅)
         ∷ ‵ (fat fullShare word l₄ 0 (vint w64 q)) ∷ ‵ (fdies word l₄) ∷ ‵ (fat fullShare (listS (named 2) mut) l₃ 0 sl) ∷ ‵ (fdies (listS (named 2) mut) l₃) ∷ ‵ (fat fullShare (byteS (named 1)) l₂ 0 (sm (length ms))) ∷ ‵ (fdies (byteS (named 1)) l₂)
         ∷ ‵ (fat fullShare fileS l₁ 0 sf) ∷ ‵ (fdies fileS l₁) ∷ ‵ (froom (tyInt w32) l₀ 0) ∷ ‵ (fdies (tyInt w32) l₀) ∷ []
 
@@ -279,7 +279,7 @@ module _ {M : Type 1} (𝓤 : URA M) (H : Heap 𝓤) (A : Atoms 𝓤) (W : Given
         move ! (38 ∷ 39 ∷ []) $ free1 ! $ move ! (36 ∷ 37 ∷ []) $ free1 ! $ move ! (34 ∷ 35 ∷ []) $ free1 ! $ move ! (32 ∷ 33 ∷ []) $ free1 ! $ move ! (30 ∷ 31 ∷ []) $ free1 ! $ move ! (28 ∷ 29 ∷ []) $ free1 ! $ move ! (26 ∷ 27 ∷ []) $ free1 ! $ move ! (24 ∷ 25 ∷ []) $ free1 ! $ move ! (22 ∷ 23 ∷ []) $ free1 ! $ move ! (20 ∷ 21 ∷ []) $ free1 ! $ move ! (18 ∷ 19 ∷ []) $ free1 ! $ move ! (16 ∷ 17 ∷ []) $ free1 ! $ move ! (14 ∷ 15 ∷ []) $ free1 ! $ move ! (12 ∷ 13 ∷ []) $ free1 ! $ move ! (10 ∷ 11 ∷ []) $ free1 ! $ move ! (8 ∷ 9 ∷ []) $ free1 ! $ move ! (6 ∷ 7 ∷ []) $ free1 ! $ free0 ! $
         by ! (exits (negsuc 0) (vint w32 4294967295) (zs .1 .1 .0) (zs .1 .0) (refl, lit< tt) lm ll (round-goes fs (window ys ms) (length ys) q (window (zs .1 .1 .0) (zs .1 .0)) (sym e ∙ is-false y h) d))))))))))))))
 
-  module _ (𝓣 : Tables 𝓤 H) (known-few : Triple 𝓤 (𝓣 .C #jobs·parts·few) (Few 𝓤 H A mem run)) (known-places : Triple 𝓤 (𝓣 .C #calls·rounds·places-in) (PlacesIn 𝓤 H A mem run)) (known-refused : Triple 𝓤 (𝓣 .C #jobs·parts·is-refused) (Refused 𝓤 H A mem run)) (known-turns : Triple 𝓤 (𝓣 .C #calls·rounds·turns-in) (TurnsIn 𝓤 H A mem run)) where
+  module _ (𝓣 : Tables 𝓤 H) (known-few : Triple 𝓤 (𝓣 .C #jobs·parts·few) (Few 𝓤 H A mem run)) (known-gathered : Triple 𝓤 (𝓣 .C #calls·rounds·gathered-in) (GatheredIn 𝓤 H A mem run)) (known-refused : Triple 𝓤 (𝓣 .C #jobs·parts·is-refused) (Refused 𝓤 H A mem run)) (known-turns : Triple 𝓤 (𝓣 .C #calls·rounds·turns-in) (TurnsIn 𝓤 H A mem run)) where
     walk : ent 𝓤 (onEntry 𝓤 H A f.signature (κf, (κm, (κl, tt))) (qf, (qm, (ql, tt))) a vals) (WpFn 𝓤 H (𝓣 .C) (𝓣 .Λ) code.function (sf ∷ sm (length ms) ∷ sl ∷ vint w64 q ∷ []) Post)
     walk =
         qed W ((‵ (flft κf qf) ⊛ ‵ (flft κm qm) ⊛ ‵ (flft κl ql) ⊛ ‵ ftrue) ∷ ‵ (owns (ShrSlice (named 0) κf u8 ∷ MutSlice (named 1) κm u8 ∷ MutSlice (named 2) κl T.the-row ∷ u64 ∷ []) a vals) ∷ []) ∵
@@ -300,13 +300,13 @@ module _ {M : Type 1} (𝓤 : URA M) (H : Heap 𝓤) (A : Atoms 𝓤) (W : Given
         split ! $ move ! (1 ∷ []) $ use1 W (raw (fact 𝓤 (k ≡ fewOf (length ys)))) (few-says 𝓤 H A mem run (length ys) k) $ heard ! (k ≡ fewOf (length ys)) (λ e₀. split ! $ move ! (1 ∷ []) $
         peeks ! usize (Is usize) (shows 𝓤 H A usize) k (w₀ ∷ []) (λ is₀.
         land ! (from ! (stop !)) (init ! 22 refl (uint-lawful 𝓤 H A W w64 .typed k _ is₀ .0)) $ rewrite ! 22 (λ (u : Val). ‵ (fat fullShare word l₉ 0 u)) (ap only (is₀ .0)) refl $ drop ! $ drop ! $
-        -- `places_in`, to which the list is lent as a `&` for a lifetime ν
+        -- `gathered_in`, to which the list is lent as a `&` for a lifetime ν
         lft-new ! tt (λ ν. move ! (3 ∷ 6 ∷ []) $
         use2 W (later (some (λ (δ : GName). ‵ (ShrSlice (named 0) (ν ∷ []) T.the-row .own (xl δ ys) (sl ∷ [])) ⊛ ‵ (KeptShared T.the-row κl (ν ∷ []) ql γ b o ys)))) (shares-again T.the-row κl (ν ∷ []) ql γ b o 𝓤 H A W (named 2) (named 0) ys) $ await ! tt $ pick ! (λ δ. split ! $
-        move ! (2 ∷ 0 ∷ []) $ use2 W (raw (PlacesIn 𝓤 H A mem run .pre (to-places k ν δ))) (goes-places k ν δ (is₀ .1) (low k e₀)) $
-        calls-at ! (fmOf 𝓤 H (W .laws) 𝓣) (PlacesIn 𝓤 H A mem run) known-places (to-places k ν δ) (and-then ! (load ! (from ! (stop !)) (look ! 22 refl)) (and-then ! (load ! (from ! (stop !)) (look ! 20 refl)) (no-more !))) (λ w₁.
-        use1 W (later (some (λ (r : Places). ((‵ (flft (ν ∷ []) fullShare) ⊛ ‵ ftrue) ⊛ ‵ (S.the-row .own r (w₁ ∷ []))) ⊛ raw (ensured 𝓤 H A places-in.ended (places-in.clauses 𝓤 H A mem run) (ν ∷ [], tt) (xl δ ys, (k, tt)) tt r)))) (id⊢ 𝓤 _) $ await ! tt $ pick ! (λ r.
-        split ! $ move ! (1 ∷ []) $ use1 W (raw (fact 𝓤 (r ≡ gathered (partsAt ys) k))) (places-in-says 𝓤 H A mem run (ν ∷ []) (xl δ ys) k r) $ heard ! (r ≡ gathered (partsAt ys) k) (λ e₁. split ! $ move ! (1 ∷ []) $
+        move ! (2 ∷ 0 ∷ []) $ use2 W (raw (GatheredIn 𝓤 H A mem run .pre (to-gathered k ν δ))) (goes-gathered k ν δ (is₀ .1) (low k e₀)) $
+        calls-at ! (fmOf 𝓤 H (W .laws) 𝓣) (GatheredIn 𝓤 H A mem run) known-gathered (to-gathered k ν δ) (and-then ! (load ! (from ! (stop !)) (look ! 22 refl)) (and-then ! (load ! (from ! (stop !)) (look ! 20 refl)) (no-more !))) (λ w₁.
+        use1 W (later (some (λ (r : Gathered). ((‵ (flft (ν ∷ []) fullShare) ⊛ ‵ ftrue) ⊛ ‵ (S.the-row .own r (w₁ ∷ []))) ⊛ raw (ensured 𝓤 H A gathered-in.ended (gathered-in.clauses 𝓤 H A mem run) (ν ∷ [], tt) (xl δ ys, (k, tt)) tt r)))) (id⊢ 𝓤 _) $ await ! tt $ pick ! (λ r.
+        split ! $ move ! (1 ∷ []) $ use1 W (raw (fact 𝓤 (r ≡ gathered (partsAt ys) k))) (gathered-in-says 𝓤 H A mem run (ν ∷ []) (xl δ ys) k r) $ heard ! (r ≡ gathered (partsAt ys) k) (λ e₁. split ! $ move ! (1 ∷ []) $
         peeks ! S.the-row (Is S.the-row) (shows 𝓤 H A S.the-row) r (w₁ ∷ []) (λ is₁.
         land ! (from ! (stop !)) (init ! 27 refl (LL.lawful S.the-type S′.the-laws 𝓤 H A W .typed r _ is₁ .0)) $
         move ! (1 ∷ []) $ split ! $ lft-end ! tt $ move ! (0 ∷ 3 ∷ []) $ use2 W (later (‵ (OwnL ys) ⊛ ‵ (flft κl ql))) (shared-back T.the-row κl (ν ∷ []) ql γ b o 𝓤 H A W (named 2) (named 0) ys) $ await ! tt $ split ! $
@@ -326,13 +326,13 @@ module _ {M : Type 1} (𝓤 : URA M) (H : Heap 𝓤) (A : Atoms 𝓤) (W : Given
         low : (k : ℕ) → k ≡ fewOf (length ys) → (k ≤ length ys) × (k ≤ 8)
         low k e = rw e (few-low (length ys))
 
-module _ {M : Type 1} (𝓤 : URA M) (H : Heap 𝓤) (A : Atoms 𝓤) (W : Given 𝓤 H A) (mem : Memory → SProp 𝓤) (run : Routine → Fun 𝓤) (𝓣 : Tables 𝓤 H) (known-few : Triple 𝓤 (𝓣 .C #jobs·parts·few) (Few 𝓤 H A mem run)) (known-places : Triple 𝓤 (𝓣 .C #calls·rounds·places-in) (PlacesIn 𝓤 H A mem run)) (known-refused : Triple 𝓤 (𝓣 .C #jobs·parts·is-refused) (Refused 𝓤 H A mem run)) (known-turns : Triple 𝓤 (𝓣 .C #calls·rounds·turns-in) (TurnsIn 𝓤 H A mem run)) where
+module _ {M : Type 1} (𝓤 : URA M) (H : Heap 𝓤) (A : Atoms 𝓤) (W : Given 𝓤 H A) (mem : Memory → SProp 𝓤) (run : Routine → Fun 𝓤) (𝓣 : Tables 𝓤 H) (known-few : Triple 𝓤 (𝓣 .C #jobs·parts·few) (Few 𝓤 H A mem run)) (known-gathered : Triple 𝓤 (𝓣 .C #calls·rounds·gathered-in) (GatheredIn 𝓤 H A mem run)) (known-refused : Triple 𝓤 (𝓣 .C #jobs·parts·is-refused) (Refused 𝓤 H A mem run)) (known-turns : Triple 𝓤 (𝓣 .C #calls·rounds·turns-in) (TurnsIn 𝓤 H A mem run)) where
   tlz-round-walks : Walks 𝓤 H A f.ended stayed (WpFn 𝓤 H (𝓣 .C) (𝓣 .Λ) code.function) (f.clauses 𝓤 H A mem run)
   tlz-round-walks = walked 𝓤 H A f.ended stayed (f.clauses 𝓤 H A mem run) (WpFn 𝓤 H (𝓣 .C) (𝓣 .Λ) code.function)
       (λ κs. (slice-vals, (slice-vals, (slice-vals, (uint-vals w64, tt))))) (λ κs. (shr-slice-tells (named 0) (κs .0) u8, (mut-slice-tells (named 1) (κs .1 .0) u8, (mut-slice-tells (named 2) (κs .1 .1 .0) T.the-row, (uint-tells w64, tt)))))
       (λ κs qs bounds a g are. via 𝓤 _ (fst∗ 𝓤 _ (emp 𝓤))
       (walk 𝓤 H A W mem run (κs .0) (κs .1 .0) (κs .1 .1 .0) (qs .0) (qs .1 .0) (qs .1 .1 .0) (a .0 .ptr .0) (a .0 .ptr .1) (a .0 .name) (a .0 .now) (a .1 .0 .ptr .0) (a .1 .0 .ptr .1) (a .1 .0 .name) (a .1 .0 .now)
-      (a .1 .1 .0 .ptr .0) (a .1 .1 .0 .ptr .1) (a .1 .1 .0 .name) (a .1 .1 .0 .now) (a .1 .1 .1 .0) (are .0 .0 .1) (are .1 .0 .0 .1) (are .1 .1 .0 .0 .1) (are .1 .1 .1 .0 .1) 𝓣 known-few known-places known-refused known-turns))
+      (a .1 .1 .0 .ptr .0) (a .1 .1 .0 .ptr .1) (a .1 .1 .0 .name) (a .1 .1 .0 .now) (a .1 .1 .1 .0) (are .0 .0 .1) (are .1 .0 .0 .1) (are .1 .1 .0 .0 .1) (are .1 .1 .1 .0 .1) 𝓣 known-few known-gathered known-refused known-turns))
 
   tlz-round-meets : Meets 𝓤 H A f.signature (WpFn 𝓤 H (𝓣 .C) (𝓣 .Λ) code.function) (f.spec 𝓤 H A mem run)
   tlz-round-meets =
@@ -347,6 +347,6 @@ tlz-round-spec 𝓤 H 𝓜 𝓖 𝓡 =
     (tables 𝓤 H 𝓜 𝓡 code.env .C) (tables 𝓤 H 𝓜 𝓡 code.env .Λ) #calls·rounds·tlz-round code.function (code.unfolded 𝓤 H 𝓜 𝓡)
     (tlz-round-meets 𝓤 H (𝓖 .A) (givenOf 𝓤 H 𝓜 𝓖) (𝓜 .mem) (𝓡 .run) (tablesOf 𝓤 H 𝓜 (tables 𝓤 H 𝓜 𝓡 code.env))
     (cited 𝓤 H (Few 𝓤 H (𝓖 .A) (𝓜 .mem) (𝓡 .run)) 𝓜 𝓡 code.env #jobs·parts·few few-def.routine code.calls-jobs·parts·few (few-thm.met 𝓤 H 𝓜 𝓖 𝓡))
-    (cited 𝓤 H (PlacesIn 𝓤 H (𝓖 .A) (𝓜 .mem) (𝓡 .run)) 𝓜 𝓡 code.env #calls·rounds·places-in places-in-def.routine code.calls-calls·rounds·places-in (places-in-thm.met 𝓤 H 𝓜 𝓖 𝓡))
+    (cited 𝓤 H (GatheredIn 𝓤 H (𝓖 .A) (𝓜 .mem) (𝓡 .run)) 𝓜 𝓡 code.env #calls·rounds·gathered-in gathered-in-def.routine code.calls-calls·rounds·gathered-in (gathered-in-thm.met 𝓤 H 𝓜 𝓖 𝓡))
     (cited 𝓤 H (Refused 𝓤 H (𝓖 .A) (𝓜 .mem) (𝓡 .run)) 𝓜 𝓡 code.env #jobs·parts·is-refused refused-def.routine code.calls-jobs·parts·is-refused (refused-thm.met 𝓤 H 𝓜 𝓖 𝓡))
     (cited 𝓤 H (TurnsIn 𝓤 H (𝓖 .A) (𝓜 .mem) (𝓡 .run)) 𝓜 𝓡 code.env #calls·rounds·turns-in turns-in-def.routine code.calls-calls·rounds·turns-in (turns-in-thm.met 𝓤 H 𝓜 𝓖 𝓡)))

@@ -1,7 +1,7 @@
 use borrow.Author.Needs.{needs}
 use mathlib.Core.Path.{_≡_, refl, sym, _∙_}
-use mathlib.Core.Bool.{false}
-use Prim.Native.Nat.{_≤_, _-_}
+use mathlib.Core.Bool.{Bool, false}
+use Prim.Native.Nat.{ℕ, _≤_, _-_}
 use native.Mathlib.Omega.{arith}
 use Rattle.jobs.specs.Parts.{clash, anyTo}
 use Rattle.jobs.specs.Gathered.{partsIn}
@@ -9,11 +9,12 @@ use Rattle.jobs.proofs.Tests.{none-more, found}
 use Rattle.jobs.proofs.parts.clashes_before.Statement.{statement}
 use Rattle.jobs.proofs.parts.clashes_before.Tie as tie
 
+-- The rows before row i, up to the first that overlaps it. The invariant: p is row i, and none of the first k overlaps it.
 abbrev Inv-loop : tie.InvT-loop
-Inv-loop i places p k₀ k = (k ≤ i) × ((p ≡ partsIn (places .row) i) × (anyTo (λ n. clash (partsIn (places .row) n) p) k ≡ false))
+Inv-loop i all p k₀ k = (k ≤ i) × (p ≡ partsIn (all .row) i) × (anyTo (λ n. clash (partsIn (all .row) n) p) k ≡ false)
 
 abbrev μ-loop : tie.MeasureT-loop
-μ-loop i places p k₀ k = i - k
+μ-loop i all p k₀ k = i - k
 
 mul-p : tie.Need-mul-p Inv-loop μ-loop
 mul-p c = search needs
@@ -23,7 +24,7 @@ element-copy-out-p c = search needs
 
 loop-holds : tie.Need-loop-holds Inv-loop μ-loop
 unfolding anyTo
-loop-holds c = (search needs, (refl, refl))
+loop-holds c = (search needs, refl, refl)
 
 mul-other : tie.Need-mul-other Inv-loop μ-loop
 mul-other c = search needs
@@ -35,7 +36,11 @@ do-clash-requires : tie.Need-do-clash-requires Inv-loop μ-loop
 do-clash-requires c κs = search needs
 
 returns : tie.Need-returns Inv-loop μ-loop
-returns c = let s = c .before .before .before .before .before .before .args in sym (found (λ k. clash (partsIn (s .t1 .row) k) (partsIn (s .t1 .row) (s .i))) (c .before .before .before .before .loop .k) (s .i) (sym (c .before .do-clash .ensures) ∙ c .if1 .taken) (c .before .before .before .loop-test .taken))
+returns c =
+    let at-loop = c .before .before .before .before in
+    let a = at-loop .before .before .args in
+    let test : ℕ → Bool = λ k. clash (partsIn (a .t1 .row) k) (partsIn (a .t1 .row) (a .i)) in
+    sym (found test (at-loop .loop .k) (a .i) (sym (c .before .do-clash .ensures) ∙ c .if1 .taken) (c .before .before .before .loop-test .taken))
 
 add-k : tie.Need-add-k Inv-loop μ-loop
 add-k c = search needs
@@ -44,10 +49,20 @@ loop-less : tie.Need-loop-less Inv-loop μ-loop
 loop-less c = search needs
 
 loop-again : tie.Need-loop-again Inv-loop μ-loop
-loop-again c = let s = c .before .before .before .before .before .before .args in let l = c .before .before .before .before .loop in (search needs, (refl, none-more (λ k. clash (partsIn (s .t1 .row) k) (partsIn (s .t1 .row) (s .i))) (l .k) (l .inv .1 .1) (sym (c .before .do-clash .ensures) ∙ c .if1 .left)))
+loop-again c = (
+  search needs,
+  refl,
+  let at-loop = c .before .before .before .before in
+      let a = at-loop .before .before .args in
+      let test : ℕ → Bool = λ k. clash (partsIn (a .t1 .row) k) (partsIn (a .t1 .row) (a .i)) in
+      none-more test (at-loop .loop .k) (at-loop .loop .inv .2) (sym (c .before .do-clash .ensures) ∙ c .if1 .left),
+)
 
 returns-2 : tie.Need-returns-2 Inv-loop μ-loop
-returns-2 c = let done : c .before .loop .k ≡ c .before .before .before .args .i = omega arith in sym (rw done at (c .before .loop .inv .1 .1))
+returns-2 c =
+    let at-loop = c .before in
+    let done : at-loop .loop .k ≡ at-loop .before .before .args .i = omega arith in
+    sym (rw done at (at-loop .loop .inv .2))
 
 pub clashes-before-spec : {M : Type 1} → statement M
 clashes-before-spec =

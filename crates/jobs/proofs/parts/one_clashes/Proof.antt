@@ -9,11 +9,12 @@ use Rattle.jobs.proofs.Tests.{none-more, found}
 use Rattle.jobs.proofs.parts.one_clashes.Statement.{statement}
 use Rattle.jobs.proofs.parts.one_clashes.Tie as tie
 
+-- Row by row, up to the first that overlaps an earlier one. The invariant: of the first i rows none does.
 abbrev Inv-loop : tie.InvT-loop
-Inv-loop places n i₀ i = (i ≤ n) × (anyClash (partsIn (places .row)) i ≡ false)
+Inv-loop all n i₀ i = (i ≤ n) × (anyClash (partsIn (all .row)) i ≡ false)
 
 abbrev μ-loop : tie.MeasureT-loop
-μ-loop places n i₀ i = n - i
+μ-loop all n i₀ i = n - i
 
 loop-holds : tie.Need-loop-holds Inv-loop μ-loop
 unfolding anyTo
@@ -23,7 +24,11 @@ clashes-before-requires : tie.Need-clashes-before-requires Inv-loop μ-loop
 clashes-before-requires c κs = search needs
 
 returns : tie.Need-returns Inv-loop μ-loop
-returns c = let s = c .before .before .before .before .args in sym (found (clashBefore (partsIn (s .places .row))) (c .before .before .before .loop .i) (s .n) (sym (c .before .clashes-before .ensures) ∙ c .if1 .taken) (c .before .before .loop-test .taken))
+returns c =
+    let at-loop = c .before .before .before in
+    let a = at-loop .before .args in
+    let test = clashBefore (partsIn (a .all .row)) in
+    sym (found test (at-loop .loop .i) (a .n) (sym (c .before .clashes-before .ensures) ∙ c .if1 .taken) (c .before .before .loop-test .taken))
 
 add-i : tie.Need-add-i Inv-loop μ-loop
 add-i c = search needs
@@ -32,10 +37,18 @@ loop-less : tie.Need-loop-less Inv-loop μ-loop
 loop-less c = search needs
 
 loop-again : tie.Need-loop-again Inv-loop μ-loop
-loop-again c = let s = c .before .before .before .before .args in let l = c .before .before .before .loop in (search needs, none-more (clashBefore (partsIn (s .places .row))) (l .i) (l .inv .1) (sym (c .before .clashes-before .ensures) ∙ c .if1 .left))
+loop-again c = (
+  search needs,
+  let at-loop = c .before .before .before in
+      let test = clashBefore (partsIn (at-loop .before .args .all .row)) in
+      none-more test (at-loop .loop .i) (at-loop .loop .inv .1) (sym (c .before .clashes-before .ensures) ∙ c .if1 .left),
+)
 
 returns-2 : tie.Need-returns-2 Inv-loop μ-loop
-returns-2 c = let done : c .before .loop .i ≡ c .before .before .args .n = omega arith in sym (rw done at (c .before .loop .inv .1))
+returns-2 c =
+    let at-loop = c .before in
+    let done : at-loop .loop .i ≡ at-loop .before .args .n = omega arith in
+    sym (rw done at (at-loop .loop .inv .1))
 
 pub one-clashes-spec : {M : Type 1} → statement M
 one-clashes-spec =

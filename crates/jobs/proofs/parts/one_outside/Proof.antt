@@ -1,7 +1,7 @@
 use borrow.Author.Needs.{needs}
 use mathlib.Core.Path.{_≡_, refl, sym, _∙_}
-use mathlib.Core.Bool.{false}
-use Prim.Native.Nat.{_≤_, _-_}
+use mathlib.Core.Bool.{Bool, false}
+use Prim.Native.Nat.{ℕ, _≤_, _-_}
 use native.Mathlib.Omega.{arith}
 use Rattle.jobs.specs.Parts.{outside, anyTo, anyOutside}
 use Rattle.jobs.specs.Gathered.{partsIn}
@@ -9,11 +9,12 @@ use Rattle.jobs.proofs.Tests.{none-more, found}
 use Rattle.jobs.proofs.parts.one_outside.Statement.{statement}
 use Rattle.jobs.proofs.parts.one_outside.Tie as tie
 
+-- Row by row, up to the first with a part outside its area. The invariant: of the first i rows none has one.
 abbrev Inv-loop : tie.InvT-loop
-Inv-loop n files marks places i₀ i = (i ≤ n) × (anyOutside (partsIn (places .row)) i files marks ≡ false)
+Inv-loop n files marks all i₀ i = (i ≤ n) × (anyOutside (partsIn (all .row)) i files marks ≡ false)
 
 abbrev μ-loop : tie.MeasureT-loop
-μ-loop n files marks places i₀ i = n - i
+μ-loop n files marks all i₀ i = n - i
 
 loop-holds : tie.Need-loop-holds Inv-loop μ-loop
 unfolding anyTo
@@ -29,7 +30,11 @@ is-outside-requires : tie.Need-is-outside-requires Inv-loop μ-loop
 is-outside-requires c κs = search needs
 
 returns : tie.Need-returns Inv-loop μ-loop
-returns c = let s = c .before .before .before .before .before .args in sym (found (λ i. outside (partsIn (s .t1 .row) i) (s .files) (s .marks)) (c .before .before .before .before .loop .i) (s .n) (sym (c .before .is-outside .ensures) ∙ c .if1 .taken) (c .before .before .before .loop-test .taken))
+returns c =
+    let at-loop = c .before .before .before .before in
+    let a = at-loop .before .args in
+    let test : ℕ → Bool = λ i. outside (partsIn (a .t1 .row) i) (a .files) (a .marks) in
+    sym (found test (at-loop .loop .i) (a .n) (sym (c .before .is-outside .ensures) ∙ c .if1 .taken) (c .before .before .before .loop-test .taken))
 
 add-i : tie.Need-add-i Inv-loop μ-loop
 add-i c = search needs
@@ -38,10 +43,19 @@ loop-less : tie.Need-loop-less Inv-loop μ-loop
 loop-less c = search needs
 
 loop-again : tie.Need-loop-again Inv-loop μ-loop
-loop-again c = let s = c .before .before .before .before .before .args in (search needs, none-more (λ i. outside (partsIn (s .t1 .row) i) (s .files) (s .marks)) (c .before .before .before .before .loop .i) (c .before .before .before .before .loop .inv .1) (sym (c .before .is-outside .ensures) ∙ c .if1 .left))
+loop-again c = (
+  search needs,
+  let at-loop = c .before .before .before .before in
+      let a = at-loop .before .args in
+      let test : ℕ → Bool = λ i. outside (partsIn (a .t1 .row) i) (a .files) (a .marks) in
+      none-more test (at-loop .loop .i) (at-loop .loop .inv .1) (sym (c .before .is-outside .ensures) ∙ c .if1 .left),
+)
 
 returns-2 : tie.Need-returns-2 Inv-loop μ-loop
-returns-2 c = let done : c .before .loop .i ≡ c .before .before .args .n = omega arith in sym (rw done at (c .before .loop .inv .1))
+returns-2 c =
+    let at-loop = c .before in
+    let done : at-loop .loop .i ≡ at-loop .before .args .n = omega arith in
+    sym (rw done at (at-loop .loop .inv .1))
 
 pub one-outside-spec : {M : Type 1} → statement M
 one-outside-spec =

@@ -8,15 +8,17 @@ use Rattle.jobs.proofs.Turning.{turns-more, turn-fits}
 use Rattle.jobs.proofs.rows.turns_to.Statement.{statement}
 use Rattle.jobs.proofs.rows.turns_to.Tie as tie
 
+-- Turn by turn. The invariant: rows and marks are those after the first i turns, and there are as many marks as at first; so row i, whose parts no turn
+-- changes, still lies in its areas.
 abbrev Inv-loop : tie.InvT-loop
-Inv-loop files marks₀ n q next₀ i₀ marks next i = (i ≤ n) × ((length marks ≡ length marks₀) × (window (next .row) marks ≡ turnsTo files q (window (next₀ .row) marks₀) i))
+Inv-loop files marks₀ n q next₀ i₀ marks next i = (i ≤ n) × (length marks ≡ length marks₀) × (window (next .row) marks ≡ turnsTo files q (window (next₀ .row) marks₀) i)
 
 abbrev μ-loop : tie.MeasureT-loop
 μ-loop files marks₀ n q next₀ i₀ marks next i = n - i
 
 loop-holds : tie.Need-loop-holds Inv-loop μ-loop
 unfolding turnsTo
-loop-holds c = (search needs, (refl, refl))
+loop-holds c = (search needs, refl, refl)
 
 mul-j : tie.Need-mul-j Inv-loop μ-loop
 mul-j c = search needs
@@ -26,9 +28,12 @@ element-copy-out-j c = search needs
 
 turn-requires : tie.Need-turn-requires Inv-loop μ-loop
 turn-requires c κs =
-    let s = c .before .before .before .before .before .before in
-    let l = c .before .before .before .loop in
-    turn-fits (s .args .files .now) (s .args .q) (window (s .args .rows .row) (s .args .marks .now)) (s .args .n) (s .pre .1) (l .next .row) (l .marks) (l .i) (c .before .before .loop-test .taken) (l .inv .1 .1) (l .inv .1 .0)
+    let at-loop = c .before .before .before in
+    let l = at-loop .loop in
+    let s = at-loop .before .before .before in
+    let w = window (s .args .rows .row) (s .args .marks .now) in
+    let taken = c .before .before .loop-test .taken in
+    turn-fits (s .args .files .now) (s .args .q) w (s .args .n) (s .pre .1) (l .next .row) (l .marks) (l .i) taken (l .inv .2) (l .inv .1)
 
 mul-t : tie.Need-mul-t Inv-loop μ-loop
 mul-t c = search needs
@@ -43,13 +48,26 @@ loop-less : tie.Need-loop-less Inv-loop μ-loop
 loop-less c = search needs
 
 loop-again : tie.Need-loop-again Inv-loop μ-loop
-loop-again c = let t = c .before .before in let l = c .before .before .before .before .before .before in let s = l .before .before .before .args in (search needs, (search needs, turns-more (s .files .now) (s .q) (window (s .rows .row) (s .marks .now)) (l .loop .next .row) (l .loop .marks) (l .loop .i) (jobTurned (t .turn .result) (t .turn .last .1 .0)) (l .loop .inv .1 .1) (t .turn .ensures)))
+loop-again c = (
+  search needs,
+  search needs,
+  let at-turn = c .before .before in
+      let at-loop = at-turn .before .before .before .before in
+      let l = at-loop .loop in
+      let a = at-loop .before .before .before .args in
+      let w = window (a .rows .row) (a .marks .now) in
+      let turned = jobTurned (at-turn .turn .result) (at-turn .turn .last .1 .0) in
+      turns-more (a .files .now) (a .q) w (l .next .row) (l .marks) (l .i) turned (l .inv .2) (at-turn .turn .ensures),
+)
 
 same-length : tie.Need-same-length Inv-loop μ-loop
 same-length c = search needs
 
 returns : tie.Need-returns Inv-loop μ-loop
-returns c = let done : c .before .loop .i ≡ c .before .before .before .before .args .n = omega arith in rw done at (c .before .loop .inv .1 .1)
+returns c =
+    let at-loop = c .before in
+    let done : at-loop .loop .i ≡ at-loop .before .before .before .args .n = omega arith in
+    rw done at (at-loop .loop .inv .2)
 
 pub turns-to-spec : {M : Type 1} → statement M
 turns-to-spec =

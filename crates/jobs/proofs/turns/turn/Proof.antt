@@ -40,7 +40,12 @@ same-length : tie.Need-same-length
 same-length c = search needs
 
 returns : tie.Need-returns
-returns c = let k = c .before .before .before in let s = k .before .before .before .before .before .before .before .before .before .before .before in let g = k .grant in rw (toZ-ofZ {w = w32} (record { sfits = g .ok })) (turn-is (s .args .files .now) (s .args .marks .now) (s .args .j) (s .args .q) (granted (g .result) (g .last .1 .1 .1 .1 .1 .0) (g .last .1 .1 .1 .1 .0) (g .last .1 .1 .0) (g .last .1 .0)) (g .ensures))
+returns c =
+    let at-grant = c .before .before .before in
+    let g = at-grant .grant in
+    let a = at-grant .before .before .before .before .before .before .before .before .before .before .before .args in
+    let given = granted (g .result) (g .last .1 .1 .1 .1 .1 .0) (g .last .1 .1 .1 .1 .0) (g .last .1 .1 .0) (g .last .1 .0) in
+    rw (toZ-ofZ {w = w32} (record { sfits = g .ok })) (turn-is (a .files .now) (a .marks .now) (a .j) (a .q) given (g .ensures))
 
 pub turn-spec : {M : Type 1} → statement M
 turn-spec =

@@ -1,4 +1,4 @@
--- `calls::rounds::places_in` meets its contract: a walk of its MIR, by hand. In a turn the list is looked into, a row is read, and `jobs::rows::with_row` is called.
+-- `calls::rounds::gathered_in` meets its contract: a walk of its MIR, by hand. In a turn the list is looked into, a row is read, and `jobs::rows::with_row` is called.
 -- Assumes nothing.
 use mathlib.Core.Path.{_≡_, refl, sym, _∙_, ap, subst}
 use Prim.Native.Nat.{ℕ, _+_, _-_, _*_, _≤_, _<_, _^_}
@@ -47,28 +47,28 @@ use denote.Triple.Table.{entered, cited}
 use denote.Triple.Walked.{says, needs, Stays, stay-none, stay-none-slice, walkOf, goes-none, goes-none-slice, Walks, ends-at, walked, walk-meets}
 use denote.Exit.{yes}
 use Rattle.jobs.specs.declared.turns.Job.{Job}
-use Rattle.jobs.specs.declared.parts.Places.{Places}
+use Rattle.jobs.specs.declared.parts.Gathered.{Gathered}
 use Rattle.jobs.specs.Turns.{noRow, rowAt, partsAt}
-use Rattle.jobs.specs.Gathered.{noPlaces, withParts, gathered}
+use Rattle.jobs.specs.Gathered.{noneGathered, withParts, gathered}
 use Rattle.jobs.proofs.Gathers.{gather-more}
 use Rattle.calls.proofs.Numbers.{place-fits, next-fits, one-below, nearer}
 use Rattle.jobs.proofs.turns.Job as T
 use Rattle.jobs.proofs.turns.Job.Laws as T′
-use Rattle.jobs.proofs.parts.Places as S
-use Rattle.jobs.proofs.parts.Places.Laws as S′
+use Rattle.jobs.proofs.parts.Gathered as S
+use Rattle.jobs.proofs.parts.Gathered.Laws as S′
 use Rattle.jobs.proofs.rows.with_row as with-row
 use Rattle.jobs.proofs.rows.with_row.Symbol as with-row-def
 use Rattle.jobs.proofs.rows.with_row.Symbol.{name as #jobs·rows·with-row}
 use Rattle.jobs.proofs.rows.with_row.Met as with-row-thm
-use Rattle.jobs.proofs.parts.no_places as no-places
-use Rattle.jobs.proofs.parts.no_places.Symbol as no-places-def
-use Rattle.jobs.proofs.parts.no_places.Symbol.{name as #jobs·parts·no-places}
-use Rattle.jobs.proofs.parts.no_places.Met as no-places-thm
-use Rattle.calls.proofs.rounds.places_in.Key.{name as #calls·rounds·places-in}
-use Rattle.calls.proofs.rounds.places_in as f
-use Rattle.calls.proofs.rounds.places_in.Statement as stated
-use Rattle.calls.proofs.rounds.places_in.Code as code
-use Rattle.calls.proofs.rounds.places_in.Code.Mir as body
+use Rattle.jobs.proofs.parts.none_gathered as none-gathered
+use Rattle.jobs.proofs.parts.none_gathered.Symbol as none-gathered-def
+use Rattle.jobs.proofs.parts.none_gathered.Symbol.{name as #jobs·parts·none-gathered}
+use Rattle.jobs.proofs.parts.none_gathered.Met as none-gathered-thm
+use Rattle.calls.proofs.rounds.gathered_in.Key.{name as #calls·rounds·gathered-in}
+use Rattle.calls.proofs.rounds.gathered_in as f
+use Rattle.calls.proofs.rounds.gathered_in.Statement as stated
+use Rattle.calls.proofs.rounds.gathered_in.Code as code
+use Rattle.calls.proofs.rounds.gathered_in.Code.Mir as body
 
 abbrev stayed : Stays (f.ended .signature .params) (f.ended .kept)
 stayed = (stay-none-slice (0 ∷ []) tt (plain (λ _. T.the-row)) yes, (stay-none (λ _. usize) yes, tt))
@@ -77,18 +77,18 @@ stayed = (stay-none-slice (0 ∷ []) tt (plain (λ _. T.the-row)) yes, (stay-non
 abbrev mv : Job → Val
 mv j = LL.val T.the-type T′.the-laws j
 
-abbrev sv : Places → Val
+abbrev sv : Gathered → Val
 sv r = LL.val S.the-type S′.the-laws r
 
 abbrev word : Ty
 word = tyInt w64
 
--- the types of the locals that hold a row and the places, spelled as the function's code spells them
+-- the types of the locals that hold a row and the parts, spelled as the function's code spells them
 abbrev jobT : Ty
 jobT = spell body.table (tyNamed (T.struct .name, []))
 
-abbrev placesT : Ty
-placesT = spell body.table (tyNamed (S.struct .name, []))
+abbrev gatheredT : Ty
+gatheredT = spell body.table (tyNamed (S.struct .name, []))
 
 abbrev listS : Ty
 listS = sliceTy (tyRef (named 0) imm (pointee (T.the-row .written)))
@@ -101,23 +101,23 @@ record Point (ys : List Job) (n : ℕ) : Type 0 where
 
 -- the contracts that the proof cites
 module _ {M : Type 1} (𝓤 : URA M) (H : Heap 𝓤) (A : Atoms 𝓤) (mem : Memory → SProp 𝓤) (run : Routine → Fun 𝓤) where
-  abbrev NoPlaces : Contract 𝓤
-  NoPlaces = tripleOf 𝓤 H A no-places.signature (no-places.spec 𝓤 H A mem run)
+  abbrev NoneGathered : Contract 𝓤
+  NoneGathered = tripleOf 𝓤 H A none-gathered.signature (none-gathered.spec 𝓤 H A mem run)
 
   abbrev WithRow : Contract 𝓤
   WithRow = tripleOf 𝓤 H A with-row.signature (with-row.spec 𝓤 H A mem run)
 
-  no-places-says : (r : Places) → ent 𝓤 (ensured 𝓤 H A no-places.ended (no-places.clauses 𝓤 H A mem run) tt tt tt r) (fact 𝓤 (r ≡ noPlaces))
-  no-places-says r = exE 𝓤 _ (λ ws. snd∗ 𝓤 (sem 𝓤 H A (lasts no-places.ended tt tt ws)) (fact 𝓤 (r ≡ noPlaces)))
+  none-gathered-says : (r : Gathered) → ent 𝓤 (ensured 𝓤 H A none-gathered.ended (none-gathered.clauses 𝓤 H A mem run) tt tt tt r) (fact 𝓤 (r ≡ noneGathered))
+  none-gathered-says r = exE 𝓤 _ (λ ws. snd∗ 𝓤 (sem 𝓤 H A (lasts none-gathered.ended tt tt ws)) (fact 𝓤 (r ≡ noneGathered)))
 
-  with-row-says : (rs : Places) (i : ℕ) (j : Job) (r : Places) → ent 𝓤 (ensured 𝓤 H A with-row.ended (with-row.clauses 𝓤 H A mem run) tt (rs, (i, (j, tt))) tt r) (fact 𝓤 (r ≡ withParts rs i (j .parts)))
+  with-row-says : (rs : Gathered) (i : ℕ) (j : Job) (r : Gathered) → ent 𝓤 (ensured 𝓤 H A with-row.ended (with-row.clauses 𝓤 H A mem run) tt (rs, (i, (j, tt))) tt r) (fact 𝓤 (r ≡ withParts rs i (j .parts)))
   with-row-says rs i j r = exE 𝓤 _ (λ ws. snd∗ 𝓤 (sem 𝓤 H A (lasts with-row.ended tt (rs, (i, (j, tt))) ws)) (fact 𝓤 (r ≡ withParts rs i (j .parts))))
 
 -- what is known of a result whose value is known
-known-at : (r s : Places) (w : Val) → r ≡ s → Is S.the-row r (w ∷ []) → Is S.the-row s (sv s ∷ [])
-known-at r s w e is = subst (λ (z : Places). Is S.the-row z (sv z ∷ [])) e (subst (λ (vs : List Val). Is S.the-row r vs) (LL.tells S.the-type S′.the-laws r (w ∷ []) is) is)
+known-at : (r s : Gathered) (w : Val) → r ≡ s → Is S.the-row r (w ∷ []) → Is S.the-row s (sv s ∷ [])
+known-at r s w e is = subst (λ (z : Gathered). Is S.the-row z (sv z ∷ [])) e (subst (λ (vs : List Val). Is S.the-row r vs) (LL.tells S.the-type S′.the-laws r (w ∷ []) is) is)
 
-value-at : (r s : Places) (w : Val) → r ≡ s → Is S.the-row r (w ∷ []) → w ≡ sv s
+value-at : (r s : Gathered) (w : Val) → r ≡ s → Is S.the-row r (w ∷ []) → w ≡ sv s
 value-at r s w e is = ap only (LL.tells S.the-type S′.the-laws r (w ∷ []) is) ∙ ap sv e
 
 module _ {M : Type 1} (𝓤 : URA M) (H : Heap 𝓤) (A : Atoms 𝓤) (W : Given 𝓤 H A) (mem : Memory → SProp 𝓤) (run : Routine → Fun 𝓤)
@@ -154,10 +154,10 @@ module _ {M : Type 1} (𝓤 : URA M) (H : Heap 𝓤) (A : Atoms 𝓤) (W : Given
       nothing ! $ owned ! usize (Is usize) (uint-makes 𝓤 H A W w64) n _ (refl, n-fits) $ fjoin ! $ move ! (1 ∷ 0 ∷ []) $ fjoin ! $ frame ! $
       owned ! S.the-row (Is S.the-row) (LL.makes S.the-type S′.the-plain 𝓤 H A) (gathered (partsAt ys) (t .i)) _ (t .good) $ done !
 
-  abbrev to-no : NoPlaces 𝓤 H A mem run .Ghost
+  abbrev to-no : NoneGathered 𝓤 H A mem run .Ghost
   to-no = ((tt, tt, tt, tt, tt), tt)
 
-  goes-no : ent 𝓤 (emp 𝓤) (NoPlaces 𝓤 H A mem run .pre to-no)
+  goes-no : ent 𝓤 (emp 𝓤) (NoneGathered 𝓤 H A mem run .pre to-no)
   goes-no = qed W [] ∵ nothing ! $ nothing ! $ join ! $ frame ! $ done !
 
   abbrev to-with : ℕ → WithRow 𝓤 H A mem run .Ghost
@@ -182,12 +182,12 @@ module _ {M : Type 1} (𝓤 : URA M) (H : Heap 𝓤) (A : Atoms 𝓤) (W : Given
     Λ = 𝓣 .Λ
 
     abbrev En : Env 𝓤 H
-    En = (placesT, l₀) ∷ (listS, l₁) ∷ (word, l₂) ∷ (placesT, l₃) ∷ (word, l₄) ∷ (jobT, l₅) ∷ (tyBool, l₆) ∷ (word, l₇) ∷ (tyPtr, l₈) ∷ (jobT, l₉) ∷ []
+    En = (gatheredT, l₀) ∷ (listS, l₁) ∷ (word, l₂) ∷ (gatheredT, l₃) ∷ (word, l₄) ∷ (jobT, l₅) ∷ (tyBool, l₆) ∷ (word, l₇) ∷ (tyPtr, l₈) ∷ (jobT, l₉) ∷ []
 
     abbrev At : P → List (Item 𝓤)
     At t = ‵ OwnL ∷ ‵ (flft κ q) ∷ ‵ (froom jobT l₉ 0) ∷ ‵ (fdies jobT l₉) ∷ ‵ (froom tyPtr l₈ 0) ∷ ‵ (fdies tyPtr l₈) ∷ ‵ (froom word l₇ 0) ∷ ‵ (fdies word l₇) ∷ ‵ (froom tyBool l₆ 0) ∷ ‵ (fdies tyBool l₆)
-        ∷ ‵ (froom jobT l₅ 0) ∷ ‵ (fdies jobT l₅) ∷ ‵ (fat fullShare word l₄ 0 (vint w64 (t .i))) ∷ ‵ (fdies word l₄) ∷ ‵ (fat fullShare placesT l₃ 0 (sv (gathered (partsAt ys) (t .i)))) ∷ ‵ (fdies placesT l₃)
-        ∷ ‵ (fat fullShare word l₂ 0 (vint w64 n)) ∷ ‵ (fdies word l₂) ∷ ‵ (fat fullShare listS l₁ 0 s) ∷ ‵ (fdies listS l₁) ∷ ‵ (froom placesT l₀ 0) ∷ ‵ (fdies placesT l₀) ∷ []
+        ∷ ‵ (froom jobT l₅ 0) ∷ ‵ (fdies jobT l₅) ∷ ‵ (fat fullShare word l₄ 0 (vint w64 (t .i))) ∷ ‵ (fdies word l₄) ∷ ‵ (fat fullShare gatheredT l₃ 0 (sv (gathered (partsAt ys) (t .i)))) ∷ ‵ (fdies gatheredT l₃)
+        ∷ ‵ (fat fullShare word l₂ 0 (vint w64 n)) ∷ ‵ (fdies word l₂) ∷ ‵ (fat fullShare listS l₁ 0 s) ∷ ‵ (fdies listS l₁) ∷ ‵ (froom gatheredT l₀ 0) ∷ ‵ (fdies gatheredT l₀) ∷ []
 
     abbrev Turned : P → Out → SProp 𝓤
     Turned t = afterTurn 𝓤 H (Below 𝓤 H A Nearer At t) (afterBlock 𝓤 H (afterSeq 𝓤 H (Wp 𝓤 H C Λ En body.t-4 (atReturn 𝓤 H En Post)) (atReturn 𝓤 H En Post)))
@@ -227,11 +227,11 @@ module _ {M : Type 1} (𝓤 : URA M) (H : Heap 𝓤) (A : Atoms 𝓤) (W : Given
         -- [the list; its token; _9; …; _0; …]
         use0 W (raw (WithRow 𝓤 H A mem run .pre (to-with (t .i)))) (goes-with (t .i) few i-fits (t .good) g) $
         calls-at ! (fmOf 𝓤 H (W .laws) 𝓣) (WithRow 𝓤 H A mem run) known (to-with (t .i)) (and-then ! (load ! (from ! (stop !)) (look ! 15 refl)) (and-then ! (load ! (from ! (stop !)) (look ! 13 refl)) (and-then ! (load ! (from ! (stop !)) (look ! 11 refl)) (no-more !)))) (λ w.
-        use1 W (later (some (λ (r : Places). (‵ ftrue ⊛ ‵ (S.the-row .own r (w ∷ []))) ⊛ raw (ensured 𝓤 H A with-row.ended (with-row.clauses 𝓤 H A mem run) tt (gathered (partsAt ys) (t .i), (t .i, (j, tt))) tt r)))) (id⊢ 𝓤 _) $ await ! tt $ pick ! (λ r.
+        use1 W (later (some (λ (r : Gathered). (‵ ftrue ⊛ ‵ (S.the-row .own r (w ∷ []))) ⊛ raw (ensured 𝓤 H A with-row.ended (with-row.clauses 𝓤 H A mem run) tt (gathered (partsAt ys) (t .i), (t .i, (j, tt))) tt r)))) (id⊢ 𝓤 _) $ await ! tt $ pick ! (λ r.
         split ! $ move ! (1 ∷ []) $ use1 W (raw (fact 𝓤 (r ≡ withParts (gathered (partsAt ys) (t .i)) (t .i) (j .parts)))) (with-row-says 𝓤 H A mem run (gathered (partsAt ys) (t .i)) (t .i) j r) $ heard ! (r ≡ withParts (gathered (partsAt ys) (t .i)) (t .i) (j .parts)) (λ e. split ! $ move ! (1 ∷ []) $
         peeks ! S.the-row (Is S.the-row) (shows 𝓤 H A S.the-row) r (w ∷ []) (λ is.
         land ! (from ! (stop !)) (store ! 16 refl (LL.lawful S.the-type S′.the-laws 𝓤 H A W .typed r _ is .0)) $
-        rewrite ! 16 (λ (u : Val). ‵ (fat fullShare placesT l₃ 0 u)) (value-at r (gathered (partsAt ys) (t .i + 1)) w (e ∙ gather-more (partsAt ys) (t .i)) is) refl $ drop ! $ drop ! $
+        rewrite ! 16 (λ (u : Val). ‵ (fat fullShare gatheredT l₃ 0 u)) (value-at r (gathered (partsAt ys) (t .i + 1)) w (e ∙ gather-more (partsAt ys) (t .i)) is) refl $ drop ! $ drop ! $
         assigns-last ! (bin ! (load ! (from ! (stop !)) (look ! 12 refl)) (lit ! tt) (record { fits = nf })) (from ! (stop !)) (store ! 12 refl (tt, record { fits = nf })) $
         forget ! 2 refl $ forget ! 4 refl $ forget ! 6 refl $ forget ! 8 refl $ forget ! 10 refl $
         again ! Nearer At t (next r w (e ∙ gather-more (partsAt ys) (t .i)) is) (nearer (t .i) n small)))))))
@@ -257,7 +257,7 @@ module _ {M : Type 1} (𝓤 : URA M) (H : Heap 𝓤) (A : Atoms 𝓤) (W : Given
         nf : t .i + 1 < 2 ^ 64
         nf = next-fits (t .i) n small n-fits
 
-        next : (r : Places) (w : Val) → r ≡ gathered (partsAt ys) (t .i + 1) → Is S.the-row r (w ∷ []) → P
+        next : (r : Gathered) (w : Val) → r ≡ gathered (partsAt ys) (t .i + 1) → Is S.the-row r (w ∷ []) → P
         next r w e is = record { i = t .i + 1; low = one-below (t .i) n small; good = known-at r (gathered (partsAt ys) (t .i + 1)) w e is }
 
     turns-by : (t : P) (y : Bool) → ltb (t .i) n ≡ y → Sq W (At t) (runs C Λ En body.turn-1 (anyQ (Turned t)))
@@ -268,23 +268,23 @@ module _ {M : Type 1} (𝓤 : URA M) (H : Heap 𝓤) (A : Atoms 𝓤) (W : Given
     tail : (t : P) → ent 𝓤 (⋆ 𝓤 H A (At t)) (Wp 𝓤 H C Λ En body.t-3 (atReturn 𝓤 H En Post))
     tail t = qed W (At t) ∵ exec ! C Λ En body.t-3 (atRet En Post) $ first ! $ blocks ! $ loops ! 𝓣 Nearer Nearer-wf At (λ u. turns-by u (ltb (u .i) n) refl) t
 
-  none : noPlaces ≡ gathered (partsAt ys) 0
+  none : noneGathered ≡ gathered (partsAt ys) 0
   unfolding gathered
   none = refl
 
-  module _ (𝓣 : Tables 𝓤 H) (known-no : Triple 𝓤 (𝓣 .C #jobs·parts·no-places) (NoPlaces 𝓤 H A mem run)) (known : Triple 𝓤 (𝓣 .C #jobs·rows·with-row) (WithRow 𝓤 H A mem run)) where
+  module _ (𝓣 : Tables 𝓤 H) (known-no : Triple 𝓤 (𝓣 .C #jobs·parts·none-gathered) (NoneGathered 𝓤 H A mem run)) (known : Triple 𝓤 (𝓣 .C #jobs·rows·with-row) (WithRow 𝓤 H A mem run)) where
     walk : ent 𝓤 (onEntry 𝓤 H A f.signature (κ, tt) (q, tt) a vals) (WpFn 𝓤 H (𝓣 .C) (𝓣 .Λ) code.function (s ∷ vint w64 n ∷ []) Post)
     walk =
         qed W ((‵ (flft κ q) ⊛ ‵ ftrue) ∷ ‵ (owns (ShrSlice (named 0) κ T.the-row ∷ usize ∷ []) a vals) ∷ []) ∵ enter ! (𝓣 .C) (𝓣 .Λ) code.function (s ∷ vint w64 n ∷ []) _ $
         alloc1 ! (λ l₀. alloc1 ! (λ l₁. alloc1 ! (λ l₂. alloc1 ! (λ l₃. alloc1 ! (λ l₄. alloc1 ! (λ l₅. alloc1 ! (λ l₆. alloc1 ! (λ l₇. alloc1 ! (λ l₈. alloc1 ! (λ l₉. alloc0 ! $ params1 ! $
         pass1 ! (init ! 16 refl (tt, (tt, (record { fits = room .0 }, tt)))) $ pass1 ! (init ! 14 refl (tt, record { fits = n-fits })) $ pass0 ! $
-        use0 W (raw (NoPlaces 𝓤 H A mem run .pre to-no)) goes-no $
-        calls-at ! (fmOf 𝓤 H (W .laws) 𝓣) (NoPlaces 𝓤 H A mem run) known-no to-no (no-more !) (λ w.
-        use1 W (later (some (λ (r : Places). (‵ ftrue ⊛ ‵ (S.the-row .own r (w ∷ []))) ⊛ raw (ensured 𝓤 H A no-places.ended (no-places.clauses 𝓤 H A mem run) tt tt tt r)))) (id⊢ 𝓤 _) $ await ! tt $ pick ! (λ r.
-        split ! $ move ! (1 ∷ []) $ use1 W (raw (fact 𝓤 (r ≡ noPlaces))) (no-places-says 𝓤 H A mem run r) $ heard ! (r ≡ noPlaces) (λ e. split ! $ move ! (1 ∷ []) $
+        use0 W (raw (NoneGathered 𝓤 H A mem run .pre to-no)) goes-no $
+        calls-at ! (fmOf 𝓤 H (W .laws) 𝓣) (NoneGathered 𝓤 H A mem run) known-no to-no (no-more !) (λ w.
+        use1 W (later (some (λ (r : Gathered). (‵ ftrue ⊛ ‵ (S.the-row .own r (w ∷ []))) ⊛ raw (ensured 𝓤 H A none-gathered.ended (none-gathered.clauses 𝓤 H A mem run) tt tt tt r)))) (id⊢ 𝓤 _) $ await ! tt $ pick ! (λ r.
+        split ! $ move ! (1 ∷ []) $ use1 W (raw (fact 𝓤 (r ≡ noneGathered))) (none-gathered-says 𝓤 H A mem run r) $ heard ! (r ≡ noneGathered) (λ e. split ! $ move ! (1 ∷ []) $
         peeks ! S.the-row (Is S.the-row) (shows 𝓤 H A S.the-row) r (w ∷ []) (λ is.
         land ! (from ! (stop !)) (init ! 14 refl (LL.lawful S.the-type S′.the-laws 𝓤 H A W .typed r _ is .0)) $
-        rewrite ! 14 (λ (u : Val). ‵ (fat fullShare placesT l₃ 0 u)) (value-at r (gathered (partsAt ys) 0) w (e ∙ none) is) refl $ drop ! $ drop ! $
+        rewrite ! 14 (λ (u : Val). ‵ (fat fullShare gatheredT l₃ 0 u)) (value-at r (gathered (partsAt ys) 0) w (e ∙ none) is) refl $ drop ! $ drop ! $
         assigns ! (of-opd ! (lit ! tt)) (from ! (stop !)) (init ! 10 refl (tt, record { fits = lit< tt })) $
         -- [_9; …; _0; …; the token; what the parameters own]
         move ! (21 ∷ []) $ fsplit ! $ move ! (22 ∷ []) $ split ! $
@@ -296,23 +296,23 @@ module _ {M : Type 1} (𝓤 : URA M) (H : Heap 𝓤) (A : Atoms 𝓤) (W : Given
         zero-low : 0 ≤ n
         zero-low = omega arith
 
-module _ {M : Type 1} (𝓤 : URA M) (H : Heap 𝓤) (A : Atoms 𝓤) (W : Given 𝓤 H A) (mem : Memory → SProp 𝓤) (run : Routine → Fun 𝓤) (𝓣 : Tables 𝓤 H) (known-no : Triple 𝓤 (𝓣 .C #jobs·parts·no-places) (NoPlaces 𝓤 H A mem run)) (known : Triple 𝓤 (𝓣 .C #jobs·rows·with-row) (WithRow 𝓤 H A mem run)) where
-  places-in-walks : Walks 𝓤 H A f.ended stayed (WpFn 𝓤 H (𝓣 .C) (𝓣 .Λ) code.function) (f.clauses 𝓤 H A mem run)
-  places-in-walks = walked 𝓤 H A f.ended stayed (f.clauses 𝓤 H A mem run) (WpFn 𝓤 H (𝓣 .C) (𝓣 .Λ) code.function)
+module _ {M : Type 1} (𝓤 : URA M) (H : Heap 𝓤) (A : Atoms 𝓤) (W : Given 𝓤 H A) (mem : Memory → SProp 𝓤) (run : Routine → Fun 𝓤) (𝓣 : Tables 𝓤 H) (known-no : Triple 𝓤 (𝓣 .C #jobs·parts·none-gathered) (NoneGathered 𝓤 H A mem run)) (known : Triple 𝓤 (𝓣 .C #jobs·rows·with-row) (WithRow 𝓤 H A mem run)) where
+  gathered-in-walks : Walks 𝓤 H A f.ended stayed (WpFn 𝓤 H (𝓣 .C) (𝓣 .Λ) code.function) (f.clauses 𝓤 H A mem run)
+  gathered-in-walks = walked 𝓤 H A f.ended stayed (f.clauses 𝓤 H A mem run) (WpFn 𝓤 H (𝓣 .C) (𝓣 .Λ) code.function)
       (λ κs. (slice-vals, (uint-vals w64, tt))) (λ κs. (shr-slice-tells (named 0) (κs .0) T.the-row, (uint-tells w64, tt)))
       (λ κs qs bounds a g are. needs 𝓤 ((a .1 .0 ≤ length (a .0 .now)) × (a .1 .0 ≤ 8)) _ (λ low.
       walk 𝓤 H A W mem run (κs .0) (qs .0) (a .0 .ptr .0) (a .0 .ptr .1) (a .0 .name) (a .0 .now) (a .1 .0) (are .0 .0 .1) (are .1 .0 .1) (low .0) (low .1) 𝓣 known-no known))
 
-  places-in-meets : Meets 𝓤 H A f.signature (WpFn 𝓤 H (𝓣 .C) (𝓣 .Λ) code.function) (f.spec 𝓤 H A mem run)
-  places-in-meets =
+  gathered-in-meets : Meets 𝓤 H A f.signature (WpFn 𝓤 H (𝓣 .C) (𝓣 .Λ) code.function) (f.spec 𝓤 H A mem run)
+  gathered-in-meets =
       walk-meets 𝓤 H A f.ended stayed W (goes-none-slice 𝓤 H A W 1 (0 ∷ []) tt (plain (λ _. T.the-row)) yes, (goes-none 𝓤 H A W 1 (λ _. usize) yes (λ κs x f. refl), tt)) (f.clauses 𝓤 H A mem run)
-      (WpFn 𝓤 H (𝓣 .C) (𝓣 .Λ) code.function) (WpFn-mono 𝓤 H (W .laws) 𝓣 code.function) places-in-walks
+      (WpFn 𝓤 H (𝓣 .C) (𝓣 .Λ) code.function) (WpFn-mono 𝓤 H (W .laws) 𝓣 code.function) gathered-in-walks
 
-pub places-in-spec : {M : Type 1} → stated.statement M
+pub gathered-in-spec : {M : Type 1} → stated.statement M
 unfolding code.routine tablesOf
-places-in-spec 𝓤 H 𝓜 𝓖 𝓡 =
+gathered-in-spec 𝓤 H 𝓜 𝓖 𝓡 =
     entered 𝓤 H (tripleOf 𝓤 H (𝓖 .A) f.signature (f.spec 𝓤 H (𝓖 .A) (𝓜 .mem) (𝓡 .run)))
-    (tables 𝓤 H 𝓜 𝓡 code.env .C) (tables 𝓤 H 𝓜 𝓡 code.env .Λ) #calls·rounds·places-in code.function (code.unfolded 𝓤 H 𝓜 𝓡)
-    (places-in-meets 𝓤 H (𝓖 .A) (givenOf 𝓤 H 𝓜 𝓖) (𝓜 .mem) (𝓡 .run) (tablesOf 𝓤 H 𝓜 (tables 𝓤 H 𝓜 𝓡 code.env))
-    (cited 𝓤 H (NoPlaces 𝓤 H (𝓖 .A) (𝓜 .mem) (𝓡 .run)) 𝓜 𝓡 code.env #jobs·parts·no-places no-places-def.routine code.calls-jobs·parts·no-places (no-places-thm.met 𝓤 H 𝓜 𝓖 𝓡))
+    (tables 𝓤 H 𝓜 𝓡 code.env .C) (tables 𝓤 H 𝓜 𝓡 code.env .Λ) #calls·rounds·gathered-in code.function (code.unfolded 𝓤 H 𝓜 𝓡)
+    (gathered-in-meets 𝓤 H (𝓖 .A) (givenOf 𝓤 H 𝓜 𝓖) (𝓜 .mem) (𝓡 .run) (tablesOf 𝓤 H 𝓜 (tables 𝓤 H 𝓜 𝓡 code.env))
+    (cited 𝓤 H (NoneGathered 𝓤 H (𝓖 .A) (𝓜 .mem) (𝓡 .run)) 𝓜 𝓡 code.env #jobs·parts·none-gathered none-gathered-def.routine code.calls-jobs·parts·none-gathered (none-gathered-thm.met 𝓤 H 𝓜 𝓖 𝓡))
     (cited 𝓤 H (WithRow 𝓤 H (𝓖 .A) (𝓜 .mem) (𝓡 .run)) 𝓜 𝓡 code.env #jobs·rows·with-row with-row-def.routine code.calls-jobs·rows·with-row (with-row-thm.met 𝓤 H 𝓜 𝓖 𝓡)))
