@@ -29,10 +29,10 @@ cleared-on m at a p b n adjoin sum h =
     let front : length (take at m) ≡ at = length-take-le at m (omega arith) in
     let long : length head ≡ p = length-append (take at m) zeros ∙ rw (front, length-replicate {A = ℕ} a 0) adjoin in
     let whole : take at m ++ (zeros ++ tail) ≡ head ++ tail = sym (append-assoc (take at m) zeros tail) in
-    let place : p + b ≡ length head + b = omega arith in
+    let start : p + b ≡ length head + b = omega arith in
     let end : at + a + b ≡ at + n = omega arith in
     let after : drop (p + b) (head ++ tail) ≡ drop (at + n) m =
-    ap (λ (k : ℕ). drop k (head ++ tail)) place ∙ drop-append-add head tail b ∙ drop-drop b (at + a) m ∙ ap (λ (k : ℕ). drop k m) end in
+    ap (λ (k : ℕ). drop k (head ++ tail)) start ∙ drop-append-add head tail b ∙ drop-drop b (at + a) m ∙ ap (λ (k : ℕ). drop k m) end in
     let zeros-on : zeros ++ more ≡ replicate n 0 = replicate-append-replicate {A = ℕ} a b 0 ∙ rw sum in
     rw (whole, take-at head tail p long, after) (append-assoc (take at m) zeros (more ++ drop (at + n) m) ∙ rw (← append-assoc zeros more (drop (at + n) m), zeros-on))
 

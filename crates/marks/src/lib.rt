@@ -6,6 +6,7 @@ ghost use mathlib.Core.Bool.{true};
 ghost use Rattle.marks.specs.Marks.{cleared, marked, startAt, unclaimedAt, followedAt, found, leftOf};
 ghost use Rattle.records.specs.Rules.{sizeAt};
 use format::fields;
+use records::layout;
 
 // The four marks from an offset on become 0.
 fn clear_four(m: &mut [u8], at: usize)
@@ -103,7 +104,7 @@ fn is_unclaimed(f: &[u8], m: &[u8], o: usize) -> bool
     requires { ⌜ (length (now f) ≤ length (now m)) × (o + 8 ≤ length (now f)) ⌝ }
     ensures { λ r. ⌜ r ≡ unclaimedAt (now (f .entry)) (now (m .entry)) o ⌝ }
 {
-    (m[o] != 2) & (o != 8) & !fields::is(f, o + 4, -1)
+    (m[o] != 2) & (o != 8) & !fields::is(f, o + layout::TYPE, -1)
 }
 
 // The record at an offset has 8 bytes or more and ends at the file's end at the latest.

@@ -31,9 +31,11 @@ same-length c = search needs
 
 returns : tie.Need-returns
 returns c =
-    let runs = c .before .before .before .before .before .before .clear-runs .ensures in
-    let a = c .before .before .before .before .before .before .before .before .before .before in
-    c .before .before .clear-singly .ensures ∙ rw runs (cleared-on (a .args .m .now) (a .args .at) _ _ _ (a .args .n) (omega arith) (omega arith) (a .pre))
+    let at-rest = c .before .before in
+    let at-runs = at-rest .before .before .before .before in
+    let s = at-runs .before .before .before .before in
+    at-rest .clear-singly .ensures
+    ∙ rw (at-runs .clear-runs .ensures) (cleared-on (s .args .m .now) (s .args .at) _ _ _ (s .args .n) (omega arith) (omega arith) (s .pre))
 
 pub clear-spec : {M : Type 1} → statement M
 clear-spec =

@@ -32,11 +32,16 @@ same-length c = search needs
 
 returns : tie.Need-returns
 returns c =
-    let s = c .before .before .before .before .before .before .before .before .before .before .before .before .before .before .before .before .before in
+    let at-fourth = c .before .before in
+    let at-third = at-fourth .before .before .before .before in
+    let at-second = at-third .before .before .before .before in
+    let at-first = at-second .before .before .before .before in
+    let s = at-first .before .before .before in
     let m = s .args .m .now in
     let at = s .args .at in
-    c .before .before .clear-four4 .ensures
-    ∙ rw (c .before .before .before .before .before .before .clear-four3 .ensures, c .before .before .before .before .before .before .before .before .before .before .clear-four2 .ensures, c .before .before .before .before .before .before .before .before .before .before .before .before .before .before .clear-four .ensures, cleared-on m at 4 (at + 4) 4 8 refl refl (omega arith), cleared-on m at 8 (at + 8) 4 12 refl refl (omega arith)) (cleared-on m at 12 _ 4 16 (omega arith) refl (s .pre))
+    at-fourth .clear-four4 .ensures
+    ∙ rw (at-third .clear-four3 .ensures, at-second .clear-four2 .ensures, at-first .clear-four .ensures)
+    (rw (cleared-on m at 4 (at + 4) 4 8 refl refl (omega arith), cleared-on m at 8 (at + 8) 4 12 refl refl (omega arith)) (cleared-on m at 12 _ 4 16 (omega arith) refl (s .pre)))
 
 pub clear-run-spec : {M : Type 1} → statement M
 clear-run-spec =

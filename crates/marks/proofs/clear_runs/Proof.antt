@@ -8,6 +8,7 @@ use borrow.Author.Needs.{needs}
 use Rattle.marks.proofs.clear_runs.Statement.{statement}
 use Rattle.marks.proofs.clear_runs.Tie as tie
 
+-- Run by run. The invariant: the marks of the first i runs are 0, all others as they were.
 abbrev Inv-loop : tie.InvT-loop
 Inv-loop m₀ at runs i₀ m i = (i ≤ runs) × (length m ≡ length m₀) × (m ≡ cleared m₀ at (16 * i))
 
@@ -34,11 +35,13 @@ loop-less c = search needs
 
 loop-again : tie.Need-loop-again Inv-loop μ-loop
 loop-again c =
-    let l = c .before .before .before .before .before .loop in
-    let a = c .before .before .before .before .before .before .before .args in
+    let at-run = c .before .before in
+    let at-loop = at-run .before .before .before in
+    let l = at-loop .loop in
+    let a = at-loop .before .before .args in
     let n = 16 * (l .i + 1) in
-    let run : c .before .before .clear-run .last .0 ≡ cleared (a .m .now) (a .at) n =
-    c .before .before .clear-run .ensures ∙ rw (l .inv .2) (cleared-on (a .m .now) (a .at) (16 * l .i) _ 16 n refl (omega arith) (omega arith)) in
+    let run : at-run .clear-run .last .0 ≡ cleared (a .m .now) (a .at) n =
+    at-run .clear-run .ensures ∙ rw (l .inv .2) (cleared-on (a .m .now) (a .at) (16 * l .i) _ 16 n refl (omega arith) (omega arith)) in
     (search needs, rw run (cleared-length (a .m .now) (a .at) n (omega arith)), run)
 
 same-length : tie.Need-same-length Inv-loop μ-loop

@@ -8,6 +8,7 @@ use borrow.Author.Needs.{needs}
 use Rattle.marks.proofs.clear_singly.Statement.{statement}
 use Rattle.marks.proofs.clear_singly.Tie as tie
 
+-- Mark by mark. The invariant: the first i of them are 0, all others as they were.
 abbrev Inv-loop : tie.InvT-loop
 Inv-loop m₀ at n i₀ m i = (i ≤ n) × (length m ≡ length m₀) × (m ≡ cleared m₀ at i)
 
@@ -31,8 +32,10 @@ loop-less c = search needs
 
 loop-again : tie.Need-loop-again Inv-loop μ-loop
 loop-again c =
-    let a = c .before .before .args in
-    (search needs, simp length-set (c .before .loop .inv .1), rw (c .before .loop .inv .2) (cleared-more (a .m .now) (a .at) (c .before .loop .i) (omega arith)))
+    let at-loop = c .before in
+    let l = at-loop .loop in
+    let a = at-loop .before .args in
+    (search needs, simp length-set (l .inv .1), rw (l .inv .2) (cleared-more (a .m .now) (a .at) (l .i) (omega arith)))
 
 same-length : tie.Need-same-length Inv-loop μ-loop
 same-length c = c .before .loop .inv .1

@@ -9,6 +9,7 @@ use native.Mathlib.Omega.{arith}
 use Rattle.marks.proofs.left.Statement.{statement}
 use Rattle.marks.proofs.left.Tie as tie
 
+-- From record to record, with as many records left as bytes at first. The invariant: what is found from o on in n records is what is found from 8 on.
 abbrev Inv-loop : tie.InvT-loop
 Inv-loop f m end o₀ n₀ o n = (o ≤ length f + 8) × (leftOf f m ≡ leftFrom f m n o)
 
@@ -27,10 +28,11 @@ found-at-requires c κs = omega arith
 
 returns : tie.Need-returns Inv-loop μ-loop
 returns c =
-    let d = c .before in
-    let l = d .before .before .loop in
-    let a = d .before .before .before .before .before .before .args in
-    c .found-at .ensures ∙ at-end (a .f .now) (a .m .now) (l .n) (l .o) (d .before .loop-test .taken) (d .if1 .taken ∙ d .before .before .before .end .ensures .0) ∙ sym (l .inv .1)
+    let at-loop = c .before .before .before in
+    let l = at-loop .loop in
+    let a = at-loop .before .before .before .before .args in
+    let end = at-loop .before .end .ensures .0 in
+    c .found-at .ensures ∙ at-end (a .f .now) (a .m .now) (l .n) (l .o) (c .before .before .loop-test .taken) (c .before .if1 .taken ∙ end) ∙ sym (l .inv .1)
 
 add-if2 : tie.Need-add-if2 Inv-loop μ-loop
 add-if2 c = omega arith
@@ -40,11 +42,13 @@ found-at-requires-2 c κs = omega arith
 
 returns-2 : tie.Need-returns-2 Inv-loop μ-loop
 returns-2 c =
-    let d = c .before in
-    let l = d .before .before .before .loop in
-    let a = d .before .before .before .before .before .before .before .args in
-    let end = d .before .before .before .before .end .ensures .0 in
-    c .found-at2 .ensures ∙ past-end (a .f .now) (a .m .now) (l .n) (l .o) (d .before .before .loop-test .taken) (λ e. d .before .if1 .left (e ∙ sym end)) (rw end at (d .if2 .taken)) ∙ sym (l .inv .1)
+    let at-size = c .before in
+    let at-loop = at-size .before .before .before in
+    let l = at-loop .loop in
+    let a = at-loop .before .before .before .before .args in
+    let end = at-loop .before .end .ensures .0 in
+    let more = at-size .before .before .loop-test .taken in
+    c .found-at2 .ensures ∙ past-end (a .f .now) (a .m .now) (l .n) (l .o) more (λ e. at-size .before .if1 .left (e ∙ sym end)) (rw end at (at-size .if2 .taken)) ∙ sym (l .inv .1)
 
 is-unclaimed-requires : tie.Need-is-unclaimed-requires Inv-loop μ-loop
 is-unclaimed-requires c κs = (search needs, omega (arith, c .if2 .left, c .before .before .before .before .end .ensures .1))
@@ -54,12 +58,17 @@ found-at-requires-3 c κs = omega arith
 
 returns-3 : tie.Need-returns-3 Inv-loop μ-loop
 returns-3 c =
-    let d = c .before in
-    let l = d .before .before .before .before .before .loop in
-    let a = d .before .before .before .before .before .before .before .before .before .args in
-    let end = d .before .before .before .before .before .before .end .ensures .0 in
-    c .found-at3 .ensures ∙ not-claimed (a .f .now) (a .m .now) (l .n) (l .o) (d .before .before .before .before .loop-test .taken) (λ e. d .before .before .before .if1 .left (e ∙ sym end)) (rw end at (d .before .before .if2 .left))
-    (sym (d .before .is-unclaimed .ensures) ∙ d .if3 .taken) ∙ sym (l .inv .1)
+    let at-claim = c .before in
+    let at-size = at-claim .before .before in
+    let at-loop = at-size .before .before .before in
+    let l = at-loop .loop in
+    let a = at-loop .before .before .before .before .args in
+    let end = at-loop .before .end .ensures .0 in
+    let more = at-size .before .before .loop-test .taken in
+    c .found-at3 .ensures
+    ∙ not-claimed (a .f .now) (a .m .now) (l .n) (l .o) more (λ e. at-size .before .if1 .left (e ∙ sym end)) (rw end at (at-size .if2 .left))
+    (sym (at-claim .before .is-unclaimed .ensures) ∙ at-claim .if3 .taken)
+    ∙ sym (l .inv .1)
 
 is-followed-requires : tie.Need-is-followed-requires Inv-loop μ-loop
 is-followed-requires c κs = omega (arith, c .before .before .if2 .left, c .before .before .before .before .before .before .end .ensures .1)
@@ -69,13 +78,19 @@ found-at-requires-4 c κs = omega arith
 
 returns-4 : tie.Need-returns-4 Inv-loop μ-loop
 returns-4 c =
-    let d = c .before in
-    let l = d .before .before .before .before .before .before .before .loop in
-    let a = d .before .before .before .before .before .before .before .before .before .before .before .args in
-    let end = d .before .before .before .before .before .before .before .before .end .ensures .0 in
-    let k = d .before .is-followed in
-    c .found-at4 .ensures ∙ not-followed (a .f .now) (a .m .now) (l .n) (l .o) (d .before .before .before .before .before .before .loop-test .taken) (λ e. d .before .before .before .before .before .if1 .left (e ∙ sym end)) (rw end at (d .before .before .before .before .if2 .left))
-    (sym (d .before .before .before .is-unclaimed .ensures) ∙ d .before .before .if3 .left) (sym (k .ensures .0) ∙ not-true (k .result) (d .if4 .taken)) ∙ sym (l .inv .1)
+    let at-follower = c .before in
+    let at-claim = at-follower .before .before in
+    let at-size = at-claim .before .before in
+    let at-loop = at-size .before .before .before in
+    let l = at-loop .loop in
+    let a = at-loop .before .before .before .before .args in
+    let end = at-loop .before .end .ensures .0 in
+    let more = at-size .before .before .loop-test .taken in
+    let k = at-follower .before .is-followed in
+    c .found-at4 .ensures
+    ∙ not-followed (a .f .now) (a .m .now) (l .n) (l .o) more (λ e. at-size .before .if1 .left (e ∙ sym end)) (rw end at (at-size .if2 .left))
+    (sym (at-claim .before .is-unclaimed .ensures) ∙ at-claim .if3 .left) (sym (k .ensures .0) ∙ not-true (k .result) (at-follower .if4 .taken))
+    ∙ sym (l .inv .1)
 
 nat-at-requires : tie.Need-nat-at-requires Inv-loop μ-loop
 nat-at-requires c κs = omega (arith, c .before .before .before .before .if2 .left, c .before .before .before .before .before .before .before .before .end .ensures .1)
@@ -94,15 +109,21 @@ loop-less c = search needs
 
 loop-again : tie.Need-loop-again Inv-loop μ-loop
 loop-again c =
-    let l = c .before .before .before .before .before .before .before .before .loop in
-    let a = c .before .before .before .before .before .before .before .before .before .before .before .before .args in
-    let end = c .before .before .before .before .before .before .before .before .before .end .ensures .0 in
-    let k = c .before .before .is-followed in
-    let t = not-false (k .result) (c .before .if4 .left) in (
+    let at-follower = c .before in
+    let k = at-follower .before .is-followed in
+    let t = not-false (k .result) (at-follower .if4 .left) in (
       omega (arith, k .ensures .1 t, c .nat-at .ensures .0),
-      l .inv .1
-          ∙ next-one (a .f .now) (a .m .now) (l .n) (l .o) (c .before .before .before .before .before .before .before .loop-test .taken) (λ e. c .before .before .before .before .before .before .if1 .left (e ∙ sym end)) (rw end at (c .before .before .before .before .before .if2 .left))
-          (sym (c .before .before .before .before .is-unclaimed .ensures) ∙ c .before .before .before .if3 .left) (sym (k .ensures .0) ∙ t) ∙ rw (c .nat-at .ensures .0),
+      let at-claim = at-follower .before .before in
+          let at-size = at-claim .before .before in
+          let at-loop = at-size .before .before .before in
+          let l = at-loop .loop in
+          let a = at-loop .before .before .before .before .args in
+          let end = at-loop .before .end .ensures .0 in
+          let more = at-size .before .before .loop-test .taken in
+          l .inv .1
+          ∙ next-one (a .f .now) (a .m .now) (l .n) (l .o) more (λ e. at-size .before .if1 .left (e ∙ sym end)) (rw end at (at-size .if2 .left))
+          (sym (at-claim .before .is-unclaimed .ensures) ∙ at-claim .if3 .left) (sym (k .ensures .0) ∙ t)
+          ∙ rw (c .nat-at .ensures .0),
     )
 
 found-at-requires-5 : tie.Need-found-at-requires-5 Inv-loop μ-loop
@@ -110,10 +131,10 @@ found-at-requires-5 c κs = omega arith
 
 returns-5 : tie.Need-returns-5 Inv-loop μ-loop
 returns-5 c =
-    let d = c .before in
-    let l = d .before .loop in
-    let a = d .before .before .before .before .before .args in
-    c .found-at5 .ensures ∙ none-left (a .f .now) (a .m .now) (l .n) (l .o) (d .loop-test .left) ∙ sym (l .inv .1)
+    let at-loop = c .before .before in
+    let l = at-loop .loop in
+    let a = at-loop .before .before .before .before .args in
+    c .found-at5 .ensures ∙ none-left (a .f .now) (a .m .now) (l .n) (l .o) (c .before .loop-test .left) ∙ sym (l .inv .1)
 
 pub left-spec : {M : Type 1} → statement M
 left-spec =
