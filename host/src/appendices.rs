@@ -1,4 +1,4 @@
-//! The rows of appendices A and B of source document 001 that have a VAX float, as they are printed, and what they say.
+//! The rows of appendices A and B of the format description that have a VAX float, as they are printed, and what they say.
 //!
 //! A row has the value, then exponent and mantissa of each kind of float and of the IEEE 754 one, in hex, `-` where the
 //! document has none.

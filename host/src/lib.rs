@@ -1,6 +1,5 @@
 //! The host side of Tlepozaluh: a second checker and reader of CDF files, with a second calendar for epochs, written
-//! from document 01, the requests for lower index records, padded files, places of refusals, VAX floats, files by turns and
-//! epochs as dates and docs/STATE.md alone, a builder of good files and sources of damaged ones, and of states that no check
+//! from the rules (docs/RULES.md has them as they are now) and docs/STATE.md alone, a builder of good files and sources of damaged ones, and of states that no check
 //! leaves, and a plain statement of what VAX floats are.
 //!
 //! The proved checker, rounds, reader and epochs, behind `bindings`, are compared with `second`; the two share no code.

@@ -1,4 +1,4 @@
-//! Every VAX float of appendices A and B of source document 001, by the second implementation and, from the samples, by the
+//! Every VAX float of appendices A and B of the format description, by the second implementation and, from the samples, by the
 //! proved reader.
 
 use tlepozaluh_host::appendices::{cases, Case, DOUBLE, MISPRINTS, SINGLE};

@@ -1,4 +1,4 @@
-//! Where a refusal is due (document 02, request #107): files that break one clause each, with the offset of the record at
+//! Where a refusal is due (docs/RULES.md, section 11): files that break one clause each, with the offset of the record at
 //! fault, and single steps of states made up. By both implementations, in one grant and step by step; a grant after the end
 //! says the place again.
 
@@ -33,7 +33,7 @@ fn file_of(max_rec: i64, chain: Vec<Index>) -> Vec<u8> {
     in_order(&file)
 }
 
-/// File H of document 01: CDR 8, GDR 312, VDR 372, VXR 504 with one entry, VVR 536, length 550.
+/// File H (docs/RULES.md, 18.4): CDR 8, GDR 312, VDR 372, VXR 504 with one entry, VVR 536, length 550.
 fn file_h() -> Vec<u8> {
     file_of(2, vec![Index::of(vec![values(0, 3)])])
 }

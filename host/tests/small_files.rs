@@ -1,4 +1,4 @@
-//! The small files A to M of document 01, built with the bytes it gives.
+//! The small files A to M (docs/RULES.md, section 18), built with the bytes it gives.
 
 use tlepozaluh_host::build::in_order;
 use tlepozaluh_host::build::model::{File, Index, Values, Variable};

@@ -35,7 +35,7 @@ fn file_of(max_rec: i64, index: Index) -> Vec<u8> {
     in_order(&file)
 }
 
-/// File H of document 01: VDR at 372, VXR at 504, VVR at 536, length 550.
+/// File H (docs/RULES.md, 18.4): VDR at 372, VXR at 504, VVR at 536, length 550.
 fn file_h() -> Vec<u8> {
     file_of(2, Index::of(vec![values(0, 3)]))
 }

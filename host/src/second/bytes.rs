@@ -1,4 +1,4 @@
-//! Bytes of the file as numbers (document 01, "Records" and "Values").
+//! Bytes of the file as numbers (docs/RULES.md, sections 3 and 14).
 
 /// The length of a buffer as a signed number.
 pub fn length(buffer: &[u8]) -> i64 {

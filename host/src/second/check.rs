@@ -1,4 +1,4 @@
-//! The check, step by step (document 01, section of that name), from one saved state to the next.
+//! The check, step by step (docs/RULES.md, sections 6 to 9), from one saved state to the next.
 //!
 //! A step looks at the state, the file and the marks that it is lent, and at nothing else; docs/STATE.md gives the
 //! order in which it does so.

@@ -1,5 +1,4 @@
-//! The second implementation of document 01, of lower index records, of padded files, of the places of refusals, of VAX
-//! floats, of files by turns and of epochs as dates, with the saved state of docs/STATE.md.
+//! The second implementation of the rules (docs/RULES.md), with the saved state of docs/STATE.md.
 //!
 //! `bytes`, `tables` and `rules` say what fields, numbers and records are, `vax` what VAX floats are, by the numbers of
 //! `whole`; `check` makes the steps from one saved state (`state`) to the next, `rounds` makes the rounds of several

@@ -1,4 +1,4 @@
-//! The reader: values, entries, pad values and descriptors (document 01, "Values").
+//! The reader: values, entries, pad values and descriptors (docs/RULES.md, sections 14 to 16).
 //!
 //! Each call answers what was asked for or the refusal's number, of several the first
 //! in the order 20, 15, 16, 17, 18, 22.
@@ -197,7 +197,7 @@ pub fn entry(file: &[u8], attribute: i64, kind: i64, entry: i64) -> Result<Entry
 }
 
 /// An attribute's AEDR by its place in the list, which also shows those of equal entry
-/// numbers; 16 at the list's end. Not one of document 01's calls: `dump` needs it.
+/// numbers; 16 at the list's end. `dump` needs it.
 pub fn entry_at_place(file: &[u8], attribute: i64, kind: i64, place: i64) -> Result<Entry, u32> {
     Way::open(file)?.entry(attribute, kind, Wanted::Place(place))
 }

@@ -1,4 +1,4 @@
-//! Each record's rule (document 01, "Records"), for the checker and the reader alike, judged in the order of docs/STATE.md.
+//! Each record's rule (docs/RULES.md, section 5), for the checker and the reader alike, judged in the order of docs/STATE.md.
 
 use super::bytes::{field, length};
 use super::tables::{self, record_type, DataType, Encoding, VariableKind, GREATEST};

@@ -1,4 +1,4 @@
-//! The constant tables of document 01: data types, encodings, kinds of variables and entries.
+//! The constant tables (docs/RULES.md, section 3): data types, encodings, kinds of variables and entries.
 
 use super::vax::{VaxFloat, D_FLOAT, F_FLOAT, G_FLOAT};
 
@@ -33,7 +33,7 @@ impl Form {
     }
 }
 
-/// A data type of Table 5.9 of source document 001.
+/// A data type of Table 5.9 of the format description.
 #[derive(Clone, Copy, Debug, PartialEq, Eq)]
 pub struct DataType {
     /// The number in the file.

@@ -38,7 +38,7 @@ pub struct VaxFloat {
     offset: u64,
 }
 
-/// Table 5.4 of source document 001.
+/// Table 5.4 of the format description.
 pub const F_FLOAT: VaxFloat = VaxFloat {
     rows: &[
         row(0, (0, 6), Mantissa, (16, 22)),

@@ -1,4 +1,4 @@
-//! The walk (document 01, "The check, step by step", 3): one step a link, each test in the order of docs/STATE.md.
+//! The walk (docs/RULES.md, section 8): one step a link, each test in the order of docs/STATE.md.
 
 use super::bytes::{field, length};
 use super::check::{End, TOO_DEEP};

@@ -1,4 +1,4 @@
-//! The reader's way to an answer (document 01, "Values"): CDR and GDR, a list to the
+//! The reader's way to an answer (docs/RULES.md, section 13): CDR and GDR, a list to the
 //! wanted place, then the index, level by level, or the list of entries.
 
 use super::bytes::{field, length, range, sign_extended, unsigned};
