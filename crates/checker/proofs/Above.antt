@@ -14,7 +14,7 @@ use Rattle.walk.specs.declared.places.Levels.{Levels}
 use Rattle.walk.specs.declared.places.Walk as W
 use Rattle.walk.specs.declared.places.Walk.the-variants.{Start, Vars, Chain, Entry, Attrs, Entries, Unused}
 use Rattle.checker.specs.Saved.{offsetRange, countRange, levelThere, noneThere, levelList, noneOf, levelsStand, levelsRange}
-use Rattle.format.proofs.Tests.{both, either}
+use Rattle.format.proofs.Tests.{both, either, every}
 use Rattle.checker.proofs.Placed.{Placed}
 
 -- ---- tested from the last level up
@@ -85,15 +85,11 @@ back-there (l ∷ ls) e = go (back-there ls) (cases l ls e)
     go k (inr h) = none-there (l ∷ (ls ++ noLevel ∷ [])) (none-back (l ∷ ls) h)
 
 -- ---- one level
-three : (a b c : Bool) → (a && b && c) ≡ true → (a ≡ true) × (b ≡ true) × (c ≡ true)
-three a b c e = let p = both (a && b) c e in let q = both a b (p .0) in (q .0, q .1, p .1)
-
 there-parts : (l : Level) → levelThere l ≡ true → SmallLevel l × (1 ≤ l .next)
 there-parts l e =
-    let p = both (offsetRange (l .vxr) && leb 1 (l .next) && countRange (l .next)) (offsetRange (l .last)) e in
-    let q = three (offsetRange (l .vxr)) (leb 1 (l .next)) (countRange (l .next)) (p .0) in (
-      (leb-true (l .vxr) 2147483647 (q .0), leb-true (l .next) 2147483648 (q .2), leb-true (l .last) 2147483647 (p .1)),
-      leb-true 1 (l .next) (q .1),
+    let q = every (offsetRange (l .vxr) ∷ leb 1 (l .next) ∷ countRange (l .next) ∷ offsetRange (l .last) ∷ []) e in (
+      (leb-true (l .vxr) 2147483647 (q 0), leb-true (l .next) 2147483648 (q 2), leb-true (l .last) 2147483647 (q 3)),
+      leb-true 1 (l .next) (q 1),
     )
 
 pub small-there : (l : Level) → SmallLevel l → 1 ≤ l .next → levelThere l ≡ true
@@ -102,8 +98,8 @@ small-there l s n =
 
 none-parts : (l : Level) → noneThere l ≡ true → (l .vxr ≡ 0) × (l .next ≡ 0) × (l .last ≡ 0)
 none-parts l e =
-    let p = three (eqb (l .vxr) 0) (eqb (l .next) 0) (eqb (l .last) 0) e in
-    (eqb-true (l .vxr) 0 (p .0), eqb-true (l .next) 0 (p .1), eqb-true (l .last) 0 (p .2))
+    let p = every (eqb (l .vxr) 0 ∷ eqb (l .next) 0 ∷ eqb (l .last) 0 ∷ []) e in
+    (eqb-true (l .vxr) 0 (p 0), eqb-true (l .next) 0 (p 1), eqb-true (l .last) 0 (p 2))
 
 head-small : (l : Level) (ls : List Level) → levelsStand (l ∷ ls) ≡ true → SmallLevel l
 head-small l ls e = go (cases l ls e)
@@ -131,7 +127,7 @@ head-none l ls z e = go (cases l ls e)
 
 none-head : (l : Level) (ls : List Level) → noneOf (l ∷ ls) ≡ true → isNone l ≡ true
 unfolding isNone
-none-head l ls e = three (eqb (l .vxr) 0) (eqb (l .next) 0) (eqb (l .last) 0) (both (noneThere l) (noneOf ls) e .0) .1
+none-head l ls e = every (eqb (l .vxr) 0 ∷ eqb (l .next) 0 ∷ eqb (l .last) 0 ∷ []) (both (noneThere l) (noneOf ls) e .0) 1
 
 pub none-tested : (l : Level) (ls : List Level) → (levelsStand (l ∷ ls) && isNone l) ≡ noneOf (l ∷ ls)
 none-tested l ls = go (levelsStand (l ∷ ls)) (isNone l) (noneOf (l ∷ ls)) (λ e z. head-none l ls z e) (none-there (l ∷ ls)) (none-head l ls)

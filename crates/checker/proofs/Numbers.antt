@@ -8,6 +8,9 @@ use Prim.Native.Nat.{ℕ, zero, suc, _+_, _-_, _*_}
 use lib.Dec.{ltb, eqb}
 use lib.IntN.{ℤ, pos, negsuc}
 use Rattle.format.specs.Fields.{endOf, isAt, sameAt, linkAt, bitAt, before}
+use Rattle.format.specs.Numbers.{first, unless}
+use Rattle.format.proofs.Tests.{cond-keeps}
+use Rattle.format.proofs.Numbers.{All, first-has}
 use Rattle.records.specs.Rules.{sizeAt, reachOf, judged}
 use Rattle.records.specs.Opening.{gdrAt}
 use Rattle.records.specs.Attributes.{adrRight, adrRule, aedrRight, aedrRule}
@@ -17,7 +20,6 @@ use Rattle.records.specs.declared.index.Entry as I
 use Rattle.variables.specs.declared.vdr.Variable.{Variable}
 use Rattle.variables.specs.declared.vdr.Layout.{Layout}
 use Rattle.variables.specs.Vdr.{carriedOf, vdrFields, headOf, countPlace, countRight, layoutOf, sizeExact, dimensionsRight, recordBytes, vdrFault, dimensioned, variableOf}
-use Rattle.walk.specs.Numbers.{first, unless}
 use Rattle.walk.specs.Walk.{typeNumber, followed, gdrNamed, fieldNumber, tallied, tallyPlace, numNumber, varsTally, varNumber, chainTally, valuesNumber, lowerNumber, attrNumber, entriesTally, entryNumber, unusedNumber, lowerTurn, valuesTurn, entryTurn, turnBy}
 use Rattle.walk.specs.Levels.{isNone, mostOf}
 use Rattle.walk.specs.declared.places.Level.{Level}
@@ -26,17 +28,7 @@ use Rattle.walk.specs.declared.places.Walk as W
 use Rattle.walk.specs.declared.places.Walk.the-variants.{Start, Vars, Chain, Entry, Attrs, Entries, Unused}
 use Rattle.walk.specs.declared.places.Turn as T
 use Rattle.walk.specs.declared.places.Turn.the-variants.{Over, End, Take, Down, Up}
-use Rattle.walk.proofs.Closed.{cond-keeps, link-keeps}
-
-abbrev pub All : (ℕ → Type 0) → List ℕ → Type 0
-All Q [] = Unit {0}
-All Q (v ∷ vs) = Q v × All Q vs
-
--- the first number that is not 0 has what 0 and all of them have
-pub first-has : (Q : ℕ → Type 0) → Q 0 → (vs : List ℕ) → All Q vs → Q (first vs)
-first-has Q z [] h = z
-first-has Q z (zero ∷ vs) h = first-has Q z vs (h .1)
-first-has Q z (suc v ∷ vs) h = h .0
+use Rattle.walk.proofs.Closed.{link-keeps}
 
 -- the numbers of a step of the walk; those of a link have their fact together with the record that it leads to
 abbrev pub TurnNumbers : (ℕ → Type 0) → (ℕ → Type 0) → (ℕ → ℕ → Type 0) → T.Turn → Type 0

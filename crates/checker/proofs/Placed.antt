@@ -7,9 +7,10 @@ use lib.Dec.{ltb, eqb}
 use lib.IntN.{pos}
 use borrow.Author.Tests.{eqb-false}
 use Rattle.format.specs.Fields.{endOf, afterAt, linkAt}
+use Rattle.format.specs.Numbers.{unless}
+use Rattle.format.proofs.Tests.{cond-keeps}
 use Rattle.records.specs.Opening.{gdrAt}
 use Rattle.records.specs.Index.{usedAt, entryOf, indexAt}
-use Rattle.walk.specs.Numbers.{unless}
 use Rattle.walk.specs.Levels.{isNone, mostOf}
 use Rattle.variables.specs.Vdr.{variableOf}
 use Rattle.walk.specs.Walk.{typeNumber, valuesNumber, followed, gdrNamed, takes, afterVars, intoIndex, entered, chainOver, lowerOver, indexOver, covers, lowerNumber, afterEntries, oneMore, turnBy}
@@ -19,7 +20,7 @@ use Rattle.walk.specs.declared.places.Walk as W
 use Rattle.walk.specs.declared.places.Walk.the-variants.{Start, Vars, Chain, Entry, Attrs, Entries, Unused}
 use Rattle.walk.specs.declared.places.Turn as T
 use Rattle.walk.specs.declared.places.Turn.the-variants.{Over, End, Take, Down, Up}
-use Rattle.walk.proofs.Closed.{cond-keeps, link-keeps}
+use Rattle.walk.proofs.Closed.{link-keeps}
 
 -- near is the nearest level above a place of the walk
 abbrev pub Placed : Level → W.Walk → Type 0

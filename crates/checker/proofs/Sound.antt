@@ -2,7 +2,7 @@
 use mathlib.Core.Path.{_≡_, refl, sym, ap, _∙_}
 use mathlib.Core.Logic.{inl, inr, _≢_}
 use mathlib.Core.Bool.{Bool, true, false, cond, not, true≢false, and-false, _&&_, _||_}
-use mathlib.Core.List.{List}
+use mathlib.Core.List.{List, [], _∷_}
 use Prim.Native.Nat.{ℕ, _+_, _≤_}
 use native.Mathlib.Omega.{arith}
 use lib.ListN.{length, set, length-set}
@@ -11,7 +11,7 @@ use borrow.Author.Tests.{leb-true, ltb-false, eqb-true, le-leb, le-ltb, eq-eqb, 
 use Rattle.format.specs.Fields.{endOf}
 use Rattle.records.specs.Rules.{sizeAt}
 use Rattle.records.specs.Opening.{tooLong, bodyOf}
-use Rattle.format.proofs.Tests.{both}
+use Rattle.format.proofs.Tests.{both, every}
 use Rattle.records.proofs.Bodies.{opening-passes, body-le}
 use Rattle.marks.specs.Marks.{marked}
 use Rattle.walk.specs.Bounds.{VarKind, EntryKind, SmallVar, Within}
@@ -103,59 +103,50 @@ in-range (Entries k a n p e g) h =
     )
 in-range (Unused p b) h = let s = h .small in rw (le-leb p 2147483711 (s .0), le-leb b 2147483647 (s .1))
 
-four : (a b c d : Bool) → (a && b && c && d) ≡ true → (a ≡ true) × (b ≡ true) × (c ≡ true) × (d ≡ true)
-four a b c d e =
-    let p = both (a && b && c) d e in
-    let q = both (a && b) c (p .0) in
-    let r = both a b (q .0) in
-    (r .0, r .1, q .1, p .1)
-
 var-within : (u : Var) → varRange u ≡ true → VarKind (u .kind) × SmallVar u
 var-within u e =
-    let r = four (eqb (u .kind) 3 || eqb (u .kind) 8) (offsetRange (u .vdr)) (offsetRange (u .place)) (countRange (u .greatest)) e in (
-      var-kind (u .kind) (r .0),
-      (leb-true (u .vdr) 2147483647 (r .1), leb-true (u .place) 2147483647 (r .2), leb-true (u .greatest) 2147483648 (r .3)),
+    let r = every ((eqb (u .kind) 3 || eqb (u .kind) 8) ∷ offsetRange (u .vdr) ∷ offsetRange (u .place) ∷ countRange (u .greatest) ∷ []) e in (
+      var-kind (u .kind) (r 0),
+      (leb-true (u .vdr) 2147483647 (r 1), leb-true (u .place) 2147483647 (r 2), leb-true (u .greatest) 2147483648 (r 3)),
     )
 
 -- and the other way round
 range-within : (w : W.Walk) → walkRange w ≡ true → Within w
 range-within Start e = record { kinds = tt; small = tt }
 range-within (Vars k p n g) e =
-    let r = four (eqb k 3 || eqb k 8) (linkRange p) (countRange n) (countRange g) e in
+    let r = every ((eqb k 3 || eqb k 8) ∷ linkRange p ∷ countRange n ∷ countRange g ∷ []) e in
     record {
-      kinds = var-kind k (r .0);
-      small = (leb-true p 2147483711 (r .1), leb-true n 2147483648 (r .2), leb-true g 2147483648 (r .3));
+      kinds = var-kind k (r 0);
+      small = (leb-true p 2147483711 (r 1), leb-true n 2147483648 (r 2), leb-true g 2147483648 (r 3));
     }
 range-within (Chain u p x floor c) e =
-    let r = four (varRange u) (linkRange p) (offsetRange x) (countRange floor) e in
-    let v = var-within u (r .0) in
+    let r = every (varRange u ∷ linkRange p ∷ offsetRange x ∷ countRange floor ∷ []) e in
+    let v = var-within u (r 0) in
     record {
       kinds = v .0;
-      small = (v .1, leb-true p 2147483711 (r .1), leb-true x 2147483647 (r .2), leb-true floor 2147483648 (r .3));
+      small = (v .1, leb-true p 2147483711 (r 1), leb-true x 2147483647 (r 2), leb-true floor 2147483648 (r 3));
     }
 range-within (Entry u x i floor c) e =
-    let r = four (varRange u) (offsetRange x) (offsetRange i) (countRange floor) e in
-    let v = var-within u (r .0) in
+    let r = every (varRange u ∷ offsetRange x ∷ offsetRange i ∷ countRange floor ∷ []) e in
+    let v = var-within u (r 0) in
     record {
       kinds = v .0;
-      small = (v .1, leb-true x 2147483647 (r .1), leb-true i 2147483647 (r .2), leb-true floor 2147483648 (r .3));
+      small = (v .1, leb-true x 2147483647 (r 1), leb-true i 2147483647 (r 2), leb-true floor 2147483648 (r 3));
     }
 range-within (Attrs p n) e =
     let r = both (linkRange p) (countRange n) e in
     record { kinds = tt; small = (leb-true p 2147483711 (r .0), leb-true n 2147483648 (r .1)) }
 range-within (Entries k a n p e g) h =
     let kind = eqb k 5 || eqb k 9 in
-    let q = both (kind && offsetRange a && offsetRange n && linkRange p && countRange e) (countRange g) h in
-    let r = both (kind && offsetRange a && offsetRange n && linkRange p) (countRange e) (q .0) in
-    let t = four kind (offsetRange a) (offsetRange n) (linkRange p) (r .0) in
+    let t = every (kind ∷ offsetRange a ∷ offsetRange n ∷ linkRange p ∷ countRange e ∷ countRange g ∷ []) h in
     record {
-      kinds = entry-kind k (t .0);
+      kinds = entry-kind k (t 0);
       small = (
-        leb-true a 2147483647 (t .1),
-        leb-true n 2147483647 (t .2),
-        leb-true p 2147483711 (t .3),
-        leb-true e 2147483648 (r .1),
-        leb-true g 2147483648 (q .1),
+        leb-true a 2147483647 (t 1),
+        leb-true n 2147483647 (t 2),
+        leb-true p 2147483711 (t 3),
+        leb-true e 2147483648 (t 4),
+        leb-true g 2147483648 (t 5),
       );
     }
 range-within (Unused p b) e =

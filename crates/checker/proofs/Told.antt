@@ -6,10 +6,12 @@ use Prim.Native.Nat.{ℕ, zero, suc, _+_, _-_}
 use lib.ListN.{length}
 use lib.Dec.{ltb, leb, eqb}
 use Rattle.format.specs.Fields.{endOf}
+use Rattle.format.specs.Numbers.{first, unless}
+use Rattle.format.proofs.Tests.{cond-keeps}
+use Rattle.format.proofs.Numbers.{All, first-has}
 use Rattle.records.specs.Rules.{sizeAt}
 use Rattle.records.specs.Opening.{tooLong, whollyCompressed, cdrRight, singleFile, gdrAt, gdrRight, magicsRight, opening}
 use Rattle.records.specs.Tiles.{tileRight, typeUncarried, tile}
-use Rattle.walk.specs.Numbers.{first, unless}
 use Rattle.walk.specs.Walk.{turnBy}
 use Rattle.walk.specs.declared.places.Level.{Level}
 use Rattle.walk.specs.declared.places.Walk as W
@@ -19,8 +21,7 @@ use Rattle.marks.specs.declared.Found.{Found}
 use Rattle.checker.specs.Saved.{verdictRange}
 use Rattle.checker.specs.Ready.{Told}
 use Rattle.checker.specs.Step.{openNumber}
-use Rattle.walk.proofs.Closed.{cond-keeps}
-use Rattle.checker.proofs.Numbers.{All, first-has, TurnHas, has-turn}
+use Rattle.checker.proofs.Numbers.{TurnHas, has-turn}
 
 -- what both branches have, a test between them has
 told-cond : (b : Bool) {x y : ℕ} → Told x → Told y → Told (cond b x y)

@@ -1,13 +1,16 @@
 -- What the walk costs: at each place, the links that are still to come from the records on the way to it. Assumes nothing.
 use mathlib.Core.Path.{_≡_, refl}
 use mathlib.Core.Bool.{Bool, true, false, cond, _&&_, _||_}
-use mathlib.Core.List.{List}
+use mathlib.Core.List.{List, [], _∷_}
 use Prim.Native.Nat.{ℕ, suc, _+_, _-_, _≤_, _<_, max}
 use native.Mathlib.Omega.{arith}
 use lib.Dec.{ltb, eqb}
 use lib.IntN.{pos, negsuc}
 use borrow.Author.Tests.{ltb-true, eqb-true, eqb-false, ne-eqb}
 use Rattle.format.specs.Fields.{endOf, linkAt, isAt, afterAt}
+use Rattle.format.specs.Numbers.{unless}
+use Rattle.format.proofs.Tests.{cond-keeps}
+use Rattle.format.proofs.Numbers.{unless-zero, zeros}
 use Rattle.records.specs.Rules.{sizeAt}
 use Rattle.records.specs.Opening.{gdrAt}
 use Rattle.records.specs.Attributes.{adrRight, adrRule, aedrRight, aedrRule}
@@ -15,7 +18,6 @@ use Rattle.records.specs.Index.{usedAt, vxrRight, vxrRule, indexAt, entryOf}
 use Rattle.records.specs.Unused.{uirRule}
 use Rattle.records.specs.declared.index.Entry.{Entry}
 use Rattle.variables.specs.Vdr.{carriedOf, headOf, variableOf}
-use Rattle.walk.specs.Numbers.{unless}
 use Rattle.walk.specs.Walk.{turnBy, turnOf, typeNumber, takes, followed, gdrNamed, fieldNumber, varsTally, afterVars, varNumber, intoIndex, varsOver, varTaken, chainOver, entered, indexOver, vxrTaken, indexTaken, covers, valuesNumber, entryRefused, valuesTurn, lowerNumber, lowerTurn, entryTurn, attrNumber, attrsOver, attrTaken, afterEntries, entriesOver, oneMore, numNumber, entryNumber, entryTaken, unusedNumber, unusedTaken}
 use Rattle.walk.specs.Levels.{isNone, mostOf, roomBelow, pushed, popped}
 use Rattle.walk.specs.declared.places.Var.{Var}
@@ -25,8 +27,7 @@ use Rattle.walk.specs.declared.places.Walk as W
 use Rattle.walk.specs.declared.places.Walk.the-variants.{Start, Vars, Chain, Entry as AtEntry, Attrs, Entries, Unused}
 use Rattle.walk.specs.declared.places.Turn as T
 use Rattle.walk.specs.declared.places.Turn.the-variants.{Over, End, Down, Up}
-use Rattle.walk.proofs.Closed.{cond-keeps, link-keeps, unless-zero}
-use Rattle.demands.proofs.Laws.{first-two, first-three}
+use Rattle.walk.proofs.Closed.{link-keeps}
 use Rattle.demands.proofs.Places.{Place, top, moveBy}
 use Rattle.demands.proofs.Bound.{Pays, Paid, weightOf}
 use Rattle.demands.proofs.Records.{judged-reads, adr-size, aedr-size, vxr-size, vdr-reads}
@@ -77,8 +78,8 @@ module _ (f : List ℕ) where
   vdr-heavy : (k n o : ℕ) → varNumber f k n o ≡ 0 → 2 ≤ weightOf f o
   unfolding varNumber
   vdr-heavy k n o e =
-      let p = first-three (carriedOf f o) (variableOf f k o .fault) (unless 11 (isAt f (o + 52) (pos n))) e in
-      omega (arith, vdr-reads f k o (p .1) .reach .holds, head-least k)
+      let p = zeros (carriedOf f o ∷ variableOf f k o .fault ∷ unless 11 (isAt f (o + 52) (pos n)) ∷ []) e in
+      omega (arith, vdr-reads f k o (p 1) .reach .holds, head-least k)
 
   vxr-heavy : (o : ℕ) → vxrRule f o ≡ 0 → suc (usedAt f o) ≤ weightOf f o
   unfolding vxrRule
@@ -86,21 +87,21 @@ module _ (f : List ℕ) where
 
   lower-heavy : (o : ℕ) → lowerNumber f o ≡ 0 → suc (usedAt f o) ≤ weightOf f o
   unfolding lowerNumber
-  lower-heavy o e = vxr-heavy o (first-two (vxrRule f o) (unless 11 (isAt f (o + 8) (pos 0))) e .0)
+  lower-heavy o e = vxr-heavy o (zeros (vxrRule f o ∷ unless 11 (isAt f (o + 8) (pos 0)) ∷ []) e 0)
 
   adr-heavy : (n o : ℕ) → attrNumber f n o ≡ 0 → 3 ≤ weightOf f o
   unfolding attrNumber adrRule
   adr-heavy n o e =
-      omega (arith, adr-size f o (judged-reads f o 116 (adrRight f o) (first-two (adrRule f o) (unless 11 (isAt f (o + 20) (pos n))) e .0) .1))
+      omega (arith, adr-size f o (judged-reads f o 116 (adrRight f o) (zeros (adrRule f o ∷ unless 11 (isAt f (o + 20) (pos n)) ∷ []) e 0) .1))
 
   aedr-heavy : (a o : ℕ) → entryNumber f a o ≡ 0 → 1 ≤ weightOf f o
   unfolding entryNumber aedrRule
   aedr-heavy a o e =
-      omega (arith, aedr-size f o (judged-reads f o 48 (aedrRight f o) (first-two (aedrRule f o) (numNumber f a o) e .0) .1))
+      omega (arith, aedr-size f o (judged-reads f o 48 (aedrRight f o) (zeros (aedrRule f o ∷ numNumber f a o ∷ []) e 0) .1))
 
   uir-heavy : (b o : ℕ) → unusedNumber f b o ≡ 0 → 1 ≤ weightOf f o
   unfolding unusedNumber uirRule
-  uir-heavy b o e = omega (arith, judged-reads f o 16 true (first-two (uirRule f o) (unless 11 (isAt f (o + 12) (pos b))) e .0) .0 .holds)
+  uir-heavy b o e = omega (arith, judged-reads f o 16 true (zeros (uirRule f o ∷ unless 11 (isAt f (o + 12) (pos b)) ∷ []) e 0) .0 .holds)
 
   some-own : (w : W.Walk) → 1 ≤ own f w
   some-own Start = omega arith

@@ -18,13 +18,13 @@ use Rattle.records.specs.Index.{usedAt, vxrRight, vxrRule, indexAt, vvrRule}
 use Rattle.records.specs.Tree.{Slot, slotsFrom, slotsOf, usedEntries, firstAt, lastAt, firstOf, lastOf, namedBy, namedByAll, levelsBelow, flat, namesIndex, lowerSlots, lowest, lowestEntries, entriesUnder}
 use Rattle.records.proofs.Ranges.{order-natural}
 use Rattle.variables.specs.Vdr.{vdrFields, layoutOf, recordBytes, variableOf}
-use Rattle.walk.specs.Numbers.{first, unless}
 use Rattle.walk.specs.Walk.{fieldNumber, chainTally, covers, valuesNumber, lowerNumber}
 use Rattle.walk.specs.Levels.{mostOf}
 use Rattle.demands.specs.Acceptance.{_∈_, Each, Consecutive, lastOr0, indexOffsets, ValuesRight, RangeRight, EntryRight, IndexRight}
-use Rattle.walk.proofs.Closed.{cond-keeps, unless-zero, nat-small}
-use Rattle.format.proofs.Tests.{both}
-use Rattle.demands.proofs.Laws.{first-two}
+use Rattle.format.proofs.Tests.{every, both, or-left, cond-keeps}
+use Rattle.format.specs.Numbers.{first, unless}
+use Rattle.format.proofs.Numbers.{unless-zero, zeros}
+use Rattle.format.proofs.FieldRanges.{nat-small}
 use Rattle.demands.proofs.Records.{Reach, reach-makes, Stands, stands-reach, stands-begins, stands-nonzero, judged-reads, judged-makes, type-reads, type-makes, field-reads, field-makes, vxr-size, VdrParts, values-read, vdr-bytes}
 use Rattle.demands.proofs.Turns.{Listed}
 use Rattle.demands.proofs.Trees.{TreeRules}
@@ -43,9 +43,7 @@ max-rec-least f o e =
     let g = atMost f (o + 32) (pos 2) in
     let h = atLeast f (o + 48) (pos 1) in
     let i = isAt f (o + 12) (pos 51) || isAt f (o + 12) (pos 52) || isAt f (o + 48) (pos 1) in
-    let p = both (a && b && c && d && g) h (both (a && b && c && d && g && h) i e .0) in
-    let q = both (a && b && c) d (both (a && b && c && d) g (p .0) .0) in
-    both a b (both (a && b) c (q .0) .0) .1
+    every (a ∷ b ∷ c ∷ d ∷ g ∷ h ∷ i ∷ []) e 1
 
 minus-one : (z : ℤ) → leZ (negsuc 0) z ≡ true → leZ (pos 0) z ≡ false → eqZ z (negsuc 0) ≡ true
 minus-one (pos n) h e = absurd (true≢false (sym (le-leb 0 n (omega arith)) ∙ e))
@@ -279,8 +277,8 @@ module _ (f : List ℕ) (k v : ℕ) where
   pub lower-parts : (x : ℕ) → lowerNumber f x ≡ 0 → (vxrRight f x ≡ true) × (linkAt f (x + 8) ≡ 0)
   unfolding lowerNumber
   lower-parts x e =
-      let p = first-two (vxrRule f x) (unless 11 (isAt f (x + 8) (pos 0))) e in
-      (vxr-reads x (p .0), zero-link f (x + 8) (unless-zero 10 (isAt f (x + 8) (pos 0)) (p .1)))
+      let p = zeros (vxrRule f x ∷ unless 11 (isAt f (x + 8) (pos 0)) ∷ []) e in
+      (vxr-reads x (p 0), zero-link f (x + 8) (unless-zero 10 (isAt f (x + 8) (pos 0)) (p 1)))
 
   lower-makes : (x : ℕ) → Stands f x → vxrRight f x ≡ true → linkAt f (x + 8) ≡ 0 → lowerNumber f x ≡ 0
   unfolding lowerNumber
@@ -380,9 +378,9 @@ module _ (f : List ℕ) (k v : ℕ) where
     unfolding chainTally Covered
     end-reads xs e =
         let c = chainCarried f k v (reverseAux xs []) .covered in
-        let p = first-two (fieldNumber f (v + 24) (pos (headOr0 (reverseAux xs [])))) (unless 12 (isAt f (v + 16) (negsuc 0) || c)) e in (
-          is-moved f (v + 24) (last-back xs) (field-reads f (v + 24) (pos (headOr0 (reverseAux xs []))) (p .0) .1),
-          go (isAt f (v + 16) (negsuc 0)) refl (unless-zero 11 (isAt f (v + 16) (negsuc 0) || c) (p .1)),
+        let p = zeros (fieldNumber f (v + 24) (pos (headOr0 (reverseAux xs []))) ∷ unless 12 (isAt f (v + 16) (negsuc 0) || c) ∷ []) e in (
+          is-moved f (v + 24) (last-back xs) (field-reads f (v + 24) (pos (headOr0 (reverseAux xs []))) (p 0) .1),
+          go (isAt f (v + 16) (negsuc 0)) refl (unless-zero 11 (isAt f (v + 16) (negsuc 0) || c) (p 1)),
         )
       where
         some : (false ≡ true) ⊎ ((s : Slot) × (s ∈ lowestEntries f xs) × (covers f v (entryIs f s) ≡ true)) → Covered xs
@@ -392,9 +390,6 @@ module _ (f : List ℕ) (k v : ℕ) where
         go : (b : Bool) → isAt f (v + 16) (negsuc 0) ≡ b → (b || chainCarried f k v (reverseAux xs []) .covered) ≡ true → Covered xs
         go true q h = inl q
         go false q h = some (covered-some (lowestEntries f xs) false (sym (chain-covered xs []) ∙ h))
-
-    or-left : (a b : Bool) → a ≡ true → (a || b) ≡ true
-    or-left a b e = rw e
 
     end-makes : (xs : List ℕ) → v + 28 ≤ endOf f → isAt f (v + 24) (pos (lastOr0 xs)) ≡ true → Covered xs
         → chainTally f v (headOr0 (reverseAux xs [])) (chainCarried f k v (reverseAux xs []) .covered) ≡ 0

@@ -1,5 +1,4 @@
 pub mod Plain
-pub mod Laws
 pub mod Goes
 pub mod Turns
 pub mod Places

@@ -11,16 +11,15 @@ use lib.IntN.{pos}
 use lib.ListN.{length, set}
 use borrow.Author.Tests.{eqb-true, eqb-false, eq-eqb, ne-eqb, leb-true, leb-false, le-leb, lt-leb, not-true}
 use Rattle.format.specs.Fields.{endOf}
-use Rattle.format.proofs.Tests.{both}
+use Rattle.format.proofs.Tests.{both, cond-keeps}
+use Rattle.format.specs.Numbers.{first, unless}
 use Rattle.records.specs.Rules.{typedAt}
 use Rattle.records.specs.Opening.{bodyOf}
 use Rattle.records.specs.Tiles.{tileRight, tileFields, typeUncarried, tile}
 use Rattle.records.proofs.Bodies.{body-le}
 use Rattle.marks.specs.Marks.{startAt, leftOf}
 use Rattle.marks.specs.declared.Found as F
-use Rattle.walk.specs.Numbers.{first, unless}
 use Rattle.walk.specs.declared.places.Walk.the-variants.{Start}
-use Rattle.walk.proofs.Closed.{cond-keeps}
 use Rattle.faults.specs.Holder.{holderOf}
 use Rattle.faults.specs.Fault.{ending, claiming, leaving, faultAt}
 use Rattle.checker.specs.Step.{conf, doneBy, linkNumber}

@@ -8,18 +8,19 @@ use Prim.Native.Nat.{ℕ, _+_}
 use native.Mathlib.Omega.{arith}
 use lib.Dec.{eqb}
 use Rattle.format.specs.Fields.{bitAt}
+use Rattle.format.specs.Numbers.{unless}
+use Rattle.format.proofs.Tests.{cond-keeps}
+use Rattle.format.proofs.Numbers.{first-has}
 use Rattle.records.specs.Index.{indexAt}
 use lib.ListN.{getD}
 use Rattle.marks.specs.Marks.{startAt}
-use Rattle.walk.specs.Numbers.{unless}
 use Rattle.walk.specs.Levels.{roomBelow}
 use Rattle.walk.specs.Walk.{turnOf}
 use Rattle.walk.specs.declared.places.Levels.{Levels}
 use Rattle.walk.specs.declared.places.Turn as T
 use Rattle.walk.specs.declared.places.Turn.the-variants.{Over, End, Take, Down, Up}
-use Rattle.walk.proofs.Closed.{cond-keeps}
 use Rattle.checker.specs.Step.{linkNumber}
-use Rattle.checker.proofs.Numbers.{first-has, TurnHas, has-turn}
+use Rattle.checker.proofs.Numbers.{TurnHas, has-turn}
 use Rattle.demands.proofs.Places.{Place, Move, passes, stops, takes, moveBy, moveOf}
 
 -- the numbers before the place of a link is looked at

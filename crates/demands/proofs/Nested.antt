@@ -13,13 +13,14 @@ use lib.ListN.{length}
 use borrow.Author.Tests.{ltb-false, eqb-true, eqb-false, lt-ltb, le-ltb, ne-eqb}
 use Rattle.format.specs.Fields.{endOf, fieldAt, natOr, isAt, linkAt, afterAt}
 use Rattle.format.proofs.SignedTests.{eqZ-true}
+use Rattle.format.specs.Numbers.{unless}
+use Rattle.format.proofs.Numbers.{unless-zero, zeros}
 use Rattle.records.specs.Opening.{gdrAt}
 use Rattle.records.specs.Index.{usedAt, vxrRight, vxrRule, indexAt, entryOf}
 use Rattle.records.specs.Tree.{Slot, slotsOf, firstOf, lastOf, namedBy, namedByAll, levelsBelow, flat, namesIndex, entriesUnder}
 use Rattle.records.proofs.Ranges.{EntryParts, entry-is, entry-reads}
 use Rattle.records.specs.declared.index.Entry.{Entry}
 use Rattle.variables.specs.Vdr.{variableOf}
-use Rattle.walk.specs.Numbers.{unless}
 use Rattle.walk.specs.Levels.{noLevels, isNone, mostOf, roomBelow, popped}
 use Rattle.walk.specs.Walk.{turnBy, typeNumber, takes, followed, overBy, gdrNamed, fieldNumber, varsTally, afterVars, varNumber, intoIndex, chainOver, chainTally, entered, covers, valuesNumber, entryRefused, valuesTurn, lowerNumber, lowerTurn, entryTurn, chainTurn, attrNumber, entriesTally, afterEntries, entriesOver, oneMore, entryNumber, unusedNumber}
 use Rattle.walk.specs.declared.places.Var.{Var}
@@ -29,8 +30,6 @@ use Rattle.walk.specs.declared.places.Walk.the-variants.{Start, Vars, Chain, En
 use Rattle.walk.specs.declared.places.Turn as T
 use Rattle.walk.specs.declared.places.Turn.the-variants.{Over, End, Down}
 use Rattle.demands.specs.Acceptance.{ListedVdr, ListedAdr, offsets, indexOffsets, variableOffsets, attributeOffsets}
-use Rattle.walk.proofs.Closed.{unless-zero}
-use Rattle.demands.proofs.Laws.{first-two}
 use Rattle.demands.proofs.Records.{judged-reads}
 use Rattle.demands.proofs.Goes.{Ends, Goes, goes-from, goes-to, takes-link, passes-link}
 use Rattle.demands.proofs.Turns.{EndsAt, Leads, Rules, Listed, LinkGoes, LinkEnds, list-leads, none-leads, then-leads, take-leads, claims-as, goes-leads}
@@ -333,12 +332,12 @@ module _ (f : List ℕ) (E : Place → List ℕ → Type 0) (u : Var) (above : L
   unfolding followed lowerNumber vxrRule
   rise-turns floor b cs q g =
       let y = namedBy f s in
-      let p = first-two (vxrRule f y) (unless 11 (isAt f (y + 8) (pos 0))) (g .lower) in
-      let r = judged-reads f y 20 (vxrRight f y) (p .0) .0 .lies in
+      let p = zeros (vxrRule f y ∷ unless 11 (isAt f (y + 8) (pos 0)) ∷ []) (g .lower) in
+      let r = judged-reads f y 20 (vxrRight f y) (p 0) .0 .lies in
       let i = g .range .last-lies in
       rw (
         le-ltb (endOf f) (y + 8 + 4) (omega arith),
-        zero-link f (y + 8) (unless-zero 10 (isAt f (y + 8) (pos 0)) (p .1)),
+        zero-link f (y + 8) (unless-zero 10 (isAt f (y + 8) (pos 0)) (p 1)),
         level-there f s,
         le-ltb (endOf f) (s .vxr + 20) (omega arith),
         q,

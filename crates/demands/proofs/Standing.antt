@@ -9,6 +9,7 @@ use lib.Dec.{ltb, eqb}
 use borrow.Author.Tests.{ne-eqb}
 use lib.IntN.{pos, negsuc}
 use Rattle.format.specs.Fields.{endOf, linkAt, afterAt}
+use Rattle.format.proofs.Tests.{cond-keeps}
 use Rattle.records.specs.Opening.{gdrAt}
 use Rattle.records.specs.Index.{usedAt, indexAt, entryOf, vxrRule}
 use Rattle.variables.specs.Vdr.{variableOf}
@@ -21,7 +22,7 @@ use Rattle.walk.specs.declared.places.Walk as W
 use Rattle.walk.specs.declared.places.Walk.the-variants.{Start, Vars, Chain, Entry, Attrs, Entries, Unused}
 use Rattle.walk.specs.declared.places.Turn as T
 use Rattle.walk.specs.declared.places.Turn.the-variants.{Over, End, Take, Down, Up}
-use Rattle.walk.proofs.Closed.{cond-keeps, link-keeps}
+use Rattle.walk.proofs.Closed.{link-keeps}
 use Rattle.faults.specs.Holder.{linkIn, holderOf}
 use Rattle.demands.proofs.Places.{Place, place, top, Move, passes, stops, takes, moveBy, moveOf}
 

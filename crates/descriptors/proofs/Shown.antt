@@ -14,14 +14,6 @@ use Rattle.format.proofs.Tests.{both}
 use Rattle.descriptors.specs.Descriptors.{among, attributeFields, entryFields, variableFields, isShown}
 use Rattle.descriptors.specs.Bounds.{fieldBytes}
 
-pub or-assoc : (a b c : Bool) → ((a || b) || c) ≡ (a || (b || c))
-or-assoc true b c = refl
-or-assoc false b c = refl
-
-pub or-false : (a : Bool) → (a || false) ≡ a
-or-false true = refl
-or-false false = refl
-
 -- each of some fields ends within n bytes
 abbrev allWithin : ℕ → List ℕ → Bool
 allWithin n [] = true

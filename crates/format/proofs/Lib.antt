@@ -5,3 +5,5 @@ pub mod Table
 pub mod Each
 pub mod Agree
 pub mod Tests
+pub mod Numbers
+pub mod FieldRanges

@@ -3,3 +3,4 @@ pub mod Fields
 pub mod Tables
 pub mod Types
 pub mod Encodings
+pub mod Numbers

@@ -11,12 +11,12 @@ use lib.ListN.{length, getD, set, length-set, length-append}
 use lib.Seq.{getD-set-same, getD-set-other}
 use borrow.Author.Tests.{ltb-true, ltb-false, eqb-true, eqb-false}
 use Rattle.format.specs.Fields.{endOf}
+use Rattle.format.specs.Numbers.{first, unless}
 use Rattle.records.specs.Rules.{sizeAt}
 use Rattle.records.specs.Opening.{tooLong, bodyOf}
 use Rattle.records.specs.Tiles.{tile}
 use Rattle.records.proofs.Bodies.{body-le, opening-same, padded-body}
 use Rattle.marks.specs.Marks.{marked, startAt, unclaimedAt, leftFrom, leftOf}
-use Rattle.walk.specs.Numbers.{first, unless}
 use Rattle.walk.specs.Levels.{pushed, popped}
 use Rattle.walk.specs.Walk.{turnOf}
 use Rattle.walk.specs.declared.places.Levels.{Levels}

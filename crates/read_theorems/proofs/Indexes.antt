@@ -17,7 +17,6 @@ use Rattle.records.specs.Tree.{Slot, slotsFrom, slotsOf, usedEntries, firstAt, 
 use Rattle.records.specs.declared.index.Entry.{Entry}
 use Rattle.records.proofs.Ranges.{order-natural, entry-is}
 use Rattle.variables.specs.Vdr.{variableOf}
-use Rattle.walk.specs.Numbers.{unless}
 use Rattle.walk.specs.Walk.{typeNumber, valuesNumber, lowerNumber}
 use Rattle.walk.specs.Levels.{mostOf}
 use Rattle.lookup.specs.Indexes.{recordPlace, scanned, indexMet, afterScan, lastIndex, indexed, lowerMet, lowerScan, afterLower, lowered, lowestOf, valuesMet, valuesOf, looked, recordThere, recordRead, lookedUp, recordWay, levelsTold, levelsOf, levelsLooked, levelsWay}
@@ -33,9 +32,10 @@ use Rattle.lookup.specs.declared.indexes.Levels.the-variants.{Are, Unknown}
 use Rattle.demands.specs.Acceptance.{_∈_, indexOffsets, EntryRight}
 use Rattle.read_theorems.specs.Reading.{CoveredBy, NoneCovers}
 use Rattle.format.proofs.Tests.{both}
+use Rattle.format.specs.Numbers.{unless}
+use Rattle.format.proofs.Numbers.{zeros}
 use Rattle.lookup.proofs.Kept.{Lies, lies-lands}
 use Rattle.demands.proofs.Records.{Stands, stands-begins, type-reads, values-read, VdrParts}
-use Rattle.demands.proofs.Laws.{first-two}
 use Rattle.demands.proofs.Turns.{Listed}
 use Rattle.demands.proofs.Levels.{levelsOf as levelsAbove, most-named, most-top}
 use Rattle.demands.proofs.Nested.{entryIs, Carried, carried, EntryGood, afterEntry, RowGood, afterRow, chainCarried, chainRules}
@@ -154,8 +154,8 @@ module _ (f : List ℕ) (r : ℕ) where
     lower-met : (x : ℕ) → Stands f x → typedAt f x (pos 6) ≡ true → lowerNumber f x ≡ 0 → lowerMet f x ≡ true
     unfolding lowerMet indexMet lowerNumber
     lower-met x s t e =
-        let p = first-two (vxrRule f x) (unless 11 (isAt f (x + 8) (pos 0))) e in
-        rw (lies-lands f 6 x (stands-lies f 6 x s t), eq-eqb (vxrRule f x) 0 (p .0), eq-eqb (linkAt f (x + 8)) 0 (lower-parts f k v x e .1))
+        let p = zeros (vxrRule f x ∷ unless 11 (isAt f (x + 8) (pos 0)) ∷ []) e in
+        rw (lies-lands f 6 x (stands-lies f 6 x s t), eq-eqb (vxrRule f x) 0 (p 0), eq-eqb (linkAt f (x + 8)) 0 (lower-parts f k v x e .1))
 
     module _ (vdr : VdrParts f k v) where
       -- ---- a row of entries, and the lowest ones under them

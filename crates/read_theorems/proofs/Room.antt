@@ -10,10 +10,10 @@ use lib.Dec.{eqb}
 use lib.ListN.{length, length-append}
 use borrow.Author.Tests.{eqb-true, eq-eqb}
 use Rattle.format.specs.Fields.{endOf}
+use Rattle.format.proofs.Tests.{not-both}
 use Rattle.records.specs.Rules.{sizeAt}
 use Rattle.lookup.specs.Lists.{allowance}
 use Rattle.demands.specs.Acceptance.{variableOffsets, attributeOffsets}
-use Rattle.demands.proofs.Laws.{not-both}
 use Rattle.demands.proofs.Claims.{mem, Tiles, fits}
 use Rattle.demands.proofs.Sweep.{Once, Valid}
 use Rattle.demands.proofs.Nested.{claimsOf, NestedObeys}

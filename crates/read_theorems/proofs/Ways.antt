@@ -8,9 +8,10 @@ use native.Mathlib.Omega.{arith}
 use lib.IntN.{pos}
 use lib.ListN.{length, length-append}
 use Rattle.format.specs.Fields.{isAt}
+use Rattle.format.specs.Numbers.{unless}
+use Rattle.format.proofs.Numbers.{zeros}
 use Rattle.records.specs.Attributes.{adrRule, aedrRule}
 use Rattle.variables.specs.Vdr.{carriedOf, variableOf}
-use Rattle.walk.specs.Numbers.{unless}
 use Rattle.walk.specs.Walk.{typeNumber, varNumber, attrNumber, numNumber, entryNumber}
 use Rattle.lookup.specs.Lists.{meets, sought}
 use Rattle.lookup.specs.declared.lists.Wanted.{Wanted}
@@ -18,7 +19,6 @@ use Rattle.lookup.specs.declared.lists.Way.{Way}
 use Rattle.lookup.specs.declared.lists.Way.the-variants.{Found, Stopped}
 use Rattle.demands.specs.Acceptance.{_∈_, ListedVdr, ListedAdr, offsets, indexOffsets, variableOffsets, attributeOffsets}
 use Rattle.lookup.proofs.Kept.{parts-meet, kept-attribute, kept-entry, kept-variable}
-use Rattle.demands.proofs.Laws.{first-two, first-three}
 use Rattle.demands.proofs.Records.{Stands, stands-nonzero, type-reads, VdrParts, vdr-reads}
 use Rattle.demands.proofs.Turns.{Rules, Listed}
 use Rattle.demands.proofs.Nested.{chainRules, varsRules, entriesRules, attrsRules}
@@ -42,24 +42,24 @@ module _ (f : List ℕ) where
   var-meets : (b : Bool) (n o : ℕ) → Stands f o → typeNumber f o (pos (cond b 3 8)) ≡ 0 → varNumber f (cond b 3 8) n o ≡ 0 → meets f (cond b 3 8) o ≡ true
   unfolding varNumber
   var-meets b n o s t e =
-      let p = first-three (carriedOf f o) (variableOf f (cond b 3 8) o .fault) (unless 11 (isAt f (o + 52) (pos n))) e in
-      parts-meet f (cond b 3 8) o (stands-lies f (cond b 3 8) o s (type-reads f o (pos (cond b 3 8)) t .1)) (kept-variable f o b (p .0) (p .1))
+      let p = zeros (carriedOf f o ∷ variableOf f (cond b 3 8) o .fault ∷ unless 11 (isAt f (o + 52) (pos n)) ∷ []) e in
+      parts-meet f (cond b 3 8) o (stands-lies f (cond b 3 8) o s (type-reads f o (pos (cond b 3 8)) t .1)) (kept-variable f o b (p 0) (p 1))
 
   var-parts : (k n o : ℕ) → varNumber f k n o ≡ 0 → VdrParts f k o
   unfolding varNumber
-  var-parts k n o e = vdr-reads f k o (first-three (carriedOf f o) (variableOf f k o .fault) (unless 11 (isAt f (o + 52) (pos n))) e .1)
+  var-parts k n o e = vdr-reads f k o (zeros (carriedOf f o ∷ variableOf f k o .fault ∷ unless 11 (isAt f (o + 52) (pos n)) ∷ []) e 1)
 
   attr-meets : (n o : ℕ) → Stands f o → typeNumber f o (pos 4) ≡ 0 → attrNumber f n o ≡ 0 → meets f 4 o ≡ true
   unfolding attrNumber
   attr-meets n o s t e =
-      let p = first-two (adrRule f o) (unless 11 (isAt f (o + 20) (pos n))) e in
-      parts-meet f 4 o (stands-lies f 4 o s (type-reads f o (pos 4) t .1)) (kept-attribute f o (p .0))
+      let p = zeros (adrRule f o ∷ unless 11 (isAt f (o + 20) (pos n)) ∷ []) e in
+      parts-meet f 4 o (stands-lies f 4 o s (type-reads f o (pos 4) t .1)) (kept-attribute f o (p 0))
 
   entry-meets : (b : Bool) (a o : ℕ) → Stands f o → typeNumber f o (pos (cond b 5 9)) ≡ 0 → entryNumber f a o ≡ 0 → meets f (cond b 5 9) o ≡ true
   unfolding entryNumber
   entry-meets b a o s t e =
-      let p = first-two (aedrRule f o) (numNumber f a o) e in
-      parts-meet f (cond b 5 9) o (stands-lies f (cond b 5 9) o s (type-reads f o (pos (cond b 5 9)) t .1)) (kept-entry f o b (p .0))
+      let p = zeros (aedrRule f o ∷ numNumber f a o ∷ []) e in
+      parts-meet f (cond b 5 9) o (stands-lies f (cond b 5 9) o s (type-reads f o (pos (cond b 5 9)) t .1)) (kept-entry f o b (p 0))
 
   -- what holds of each record of a list, whatever stands before it
   each-kept : {X : Type 0} (r : Rules X) (p : ℕ) (xs : List X) → Listed f r [] p xs → (x : X) → x ∈ xs

@@ -9,7 +9,7 @@ use lib.ListN.{length}
 use lib.Dec.{eqb, ltb, leb}
 use lib.IntN.{pos, negsuc}
 use borrow.Author.Tests.{not-true, eqb-true, eqb-false, eq-eqb, ne-eqb, ltb-true, ltb-false, lt-ltb, leb-false, lt-leb}
-use Rattle.format.proofs.Tests.{both, either}
+use Rattle.format.proofs.Tests.{both, either, or-left, or-right}
 use Rattle.jobs.specs.declared.parts.Part.{Part}
 use Rattle.jobs.specs.declared.parts.Parts.{Parts}
 use Rattle.jobs.specs.Parts.{inside, outside, overlap, clash, clashBefore, anyTo, anyOutside, anyClash, refusedOf}
@@ -19,13 +19,6 @@ use Rattle.jobs.proofs.Turning.{round-stops, round-goes}
 use Rattle.round_theorems.specs.Rounds.{Share, roundFrom, SomeOutside, SomeOverlap, NotRefused, Refusals}
 
 -- ---- tests
-or-right : (x y : Bool) → y ≡ true → x || y ≡ true
-or-right true y h = refl
-or-right false y h = h
-
-or-left : (x y : Bool) → x ≡ true → x || y ≡ true
-or-left x y h = rw h
-
 -- which number below n it is
 some-at : (t : ℕ → Bool) (n : ℕ) → anyTo t n ≡ true → (k : ℕ) × ((k < n) × (t k ≡ true))
 unfolding anyTo

@@ -24,57 +24,21 @@ use Rattle.walk.specs.declared.places.Walk.the-variants.{Start, Vars, Ch
 use Rattle.walk.specs.declared.places.Turn as T
 use Rattle.walk.specs.declared.places.Turn.the-variants.{Over, End, Take, Down, Up}
 use Rattle.format.proofs.SignedTests.{eqZ-true}
-use Rattle.walk.specs.Numbers.{first, unless}
+use Rattle.format.specs.Numbers.{unless}
+use Rattle.format.proofs.Tests.{cond-keeps}
+use Rattle.format.proofs.Numbers.{unless-zero, zeros}
+use Rattle.format.proofs.FieldRanges.{nat-small, link-small, after-small, num-small}
 use Rattle.walk.specs.Bounds.{VarKind, SmallVar, SmallLevel, Within}
-
-pub cond-keeps : {A : Type 0} (P : A → Type 0) (b : Bool) {x y : A} → P x → P y → P (cond b x y)
-cond-keeps P true p q = p
-cond-keeps P false p q = q
 
 -- what holds of a link that cannot be read, of a zero link and of any other holds of every link
 pub link-keeps : (f : List ℕ) (P : T.Turn → Type 0) (p : ℕ) {x y : T.Turn} → P (End 20) → P x → P y
     → P (cond (ltb (endOf f) (p + 4)) (End 20) (cond (eqb (linkAt f p) 0) x y))
 link-keeps f P p a b c = cond-keeps P (ltb (endOf f) (p + 4)) a (cond-keeps P (eqb (linkAt f p) 0) b c)
 
-pub first-zero : (v : ℕ) (vs : List ℕ) → first (v ∷ vs) ≡ 0 → (v ≡ 0) × (first vs ≡ 0)
-first-zero zero vs e = (refl, e)
-first-zero (suc v) vs e = absurd (omega arith)
-
-pub unless-zero : (v : ℕ) (b : Bool) → unless (suc v) b ≡ 0 → b ≡ true
-unless-zero v true e = refl
-unless-zero v false e = absurd (omega arith)
-
--- ---- fields
-small-nat : (k n : ℕ) → k < 2147483648 → natOr k (signedOf 31 n) < 2147483648
-small-nat k n h = go (ltb n (2 ^ 31)) refl
-  where
-    go : (b : Bool) → ltb n (2 ^ 31) ≡ b → natOr k (cond b (pos n) (negsuc (2 ^ 32 - suc n))) < 2147483648
-    go true e = ltb-true n (2 ^ 31) e
-    go false e = h
-
 module _ (f : List ℕ) where
-  pub nat-small : (p : ℕ) → natAt f p < 2147483648
-  unfolding natAt fieldAt
-  nat-small p = small-nat 0 (bigAt f p 4) (omega arith)
-
-  pub link-small : (p : ℕ) → linkAt f p < 2147483648
-  unfolding linkAt fieldAt
-  link-small p = small-nat 1 (bigAt f p 4) (omega arith)
-
-  -- a field that is n is below 2 ^ 31
-  pub num-small : (p n : ℕ) → isAt f p (pos n) ≡ true → n ≤ 2147483647
-  unfolding isAt natAt
-  num-small p n e =
-      let z : natAt f p ≡ n = ap (natOr 0) (eqZ-true (fieldAt f p) (pos n) e) in
-      omega (arith, nat-small p)
-
   gdr-small : gdrAt f < 2147483648
   unfolding gdrAt
-  gdr-small = link-small 16
-
-  after-small : (p : ℕ) → afterAt f p ≤ 2147483648
-  unfolding afterAt
-  after-small p = cond-keeps (λ (n : ℕ). n ≤ 2147483648) (atLeast f p (pos 0)) (omega (arith, nat-small p)) (omega arith)
+  gdr-small = link-small f 16
 
   record EntrySmall (e : E.Entry) : Type 0 where
     first-small : e .first < 2147483648
@@ -93,7 +57,7 @@ module _ (f : List ℕ) where
       let number = rangeNumber f first last offset floor most in
       cond-keeps EntrySmall (ltb (endOf f) (first + 4)) (fault-small 20)
       (cond-keeps EntrySmall (eqb number 0)
-      (record { first-small = nat-small first; last-small = nat-small last; named-small = link-small offset }) (fault-small number))
+      (record { first-small = nat-small f first; last-small = nat-small f last; named-small = link-small f offset }) (fault-small number))
 
 abbrev pub NextWithin : T.Turn → Type 0
 NextWithin (Over w v) = Within w
@@ -151,16 +115,13 @@ module _ (f : List ℕ) where
   unfolding varNumber
   var-place k n o e =
       let num = unless 11 (isAt f (o + 52) (pos n)) in
-      let a = first-zero (carriedOf f o) (variableOf f k o .fault ∷ num ∷ []) e in
-      let b = first-zero (variableOf f k o .fault) (num ∷ []) (a .1) in
-      num-small f (o + 52) n (unless-zero 10 (isAt f (o + 52) (pos n)) (first-zero num [] (b .1) .0))
+      num-small f (o + 52) n (unless-zero 10 (isAt f (o + 52) (pos n)) (zeros (carriedOf f o ∷ variableOf f k o .fault ∷ num ∷ []) e 2))
 
   attr-place : (n o : ℕ) → attrNumber f n o ≡ 0 → n ≤ 2147483647
   unfolding attrNumber
   attr-place n o e =
       let num = unless 11 (isAt f (o + 20) (pos n)) in
-      let a = first-zero (adrRule f o) (num ∷ []) e in
-      num-small f (o + 20) n (unless-zero 10 (isAt f (o + 20) (pos n)) (first-zero num [] (a .1) .0))
+      num-small f (o + 20) n (unless-zero 10 (isAt f (o + 20) (pos n)) (zeros (adrRule f o ∷ num ∷ []) e 1))
 
 module _ (f : List ℕ) where
   -- an entry that names values, and one that names an index record

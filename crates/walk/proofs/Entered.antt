@@ -7,7 +7,7 @@ use lib.IntN.{pos}
 use borrow.Author.Tests.{eq-eqb, ne-eqb}
 use Rattle.records.specs.declared.index.Entry as E
 use Rattle.variables.specs.Vdr.{variableOf}
-use Rattle.walk.specs.Numbers.{unless}
+use Rattle.format.specs.Numbers.{unless}
 use Rattle.walk.specs.Walk.{typeNumber, valuesNumber, covers, entered, entryRefused, valuesTurn, lowerNumber, lowerTurn, entryFaulty, entryTurn}
 use Rattle.walk.specs.declared.places.Var.{Var}
 use Rattle.walk.specs.declared.places.Walk as W

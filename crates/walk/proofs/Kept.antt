@@ -6,6 +6,7 @@ use Prim.Native.Nat.{ℕ, _+_, max}
 use lib.Dec.{ltb, eqb}
 use borrow.Author.Tests.{ltb-false, le-ltb}
 use Rattle.format.specs.Fields.{endOf, afterAt, linkAt}
+use Rattle.format.proofs.Tests.{cond-keeps}
 use Rattle.records.specs.Opening.{gdrAt}
 use Rattle.records.specs.Index.{usedAt, vxrRule, indexAt, entryOf}
 use Rattle.variables.specs.Vdr.{variableOf}
@@ -20,7 +21,7 @@ use Rattle.walk.specs.declared.places.Walk.the-variants.{Start, Vars, Ch
 use Rattle.walk.specs.declared.places.Turn as T
 use Rattle.walk.specs.declared.places.Turn.the-variants.{Over, End, Take, Down, Up}
 use Rattle.walk.specs.Known.{knownOf, lookedOf, Known, Looked}
-use Rattle.walk.proofs.Closed.{cond-keeps, link-keeps}
+use Rattle.walk.proofs.Closed.{link-keeps}
 
 -- the variable that is known at a place is the one whose index is walked there
 pub known-is : (f : List ℕ) (w : W.Walk) → Known f (knownOf f w) w

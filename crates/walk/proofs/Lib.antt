@@ -1,4 +1,3 @@
-pub mod Firsts
 pub mod Entered
 pub mod Closed
 pub mod Kept

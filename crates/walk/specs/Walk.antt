@@ -5,6 +5,7 @@ use mathlib.Core.List.{List, [], _∷_}
 use lib.Dec.{ltb, leb, eqb}
 use lib.IntN.{ℤ, pos, negsuc}
 use Rattle.format.specs.Fields.{endOf, isAt, sameAt, atLeast, natAt, linkAt, afterAt, before}
+use Rattle.format.specs.Numbers.{first, unless}
 use Rattle.records.specs.Rules.{typedAt, reachOf}
 use Rattle.records.specs.Opening.{gdrAt}
 use Rattle.records.specs.Attributes.{adrRule, aedrRule}
@@ -13,7 +14,6 @@ use Rattle.records.specs.Unused.{uirRule}
 use Rattle.records.specs.declared.index.Entry.{Entry}
 use Rattle.variables.specs.Vdr.{carriedOf, variableOf}
 use Rattle.variables.specs.declared.vdr.Variable.{Variable}
-use Rattle.walk.specs.Numbers.{first, unless}
 use Rattle.walk.specs.Levels.{isNone, mostOf, roomBelow}
 use Rattle.walk.specs.declared.places.Var.{Var}
 use Rattle.walk.specs.declared.places.Level.{Level}

@@ -1,4 +1,4 @@
-use Rattle.descriptors.proofs.Shown.{or-assoc, or-false}
+use mathlib.Core.Bool.{or-assoc, or-false}
 use Rattle.descriptors.specs.Descriptors.{isShown}
 use borrow.Author.Tests.{eq-eqb, ne-eqb}
 use borrow.Author.Needs.{needs}

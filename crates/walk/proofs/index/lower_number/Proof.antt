@@ -1,6 +1,6 @@
 use native.Mathlib.Omega.{arith}
 use Rattle.walk.specs.Walk.{lowerNumber}
-use Rattle.walk.proofs.Firsts.{first-some, first-none, first-last}
+use Rattle.format.proofs.Numbers.{first-some, first-none, first-last}
 use borrow.Author.Needs.{needs}
 use Rattle.walk.proofs.index.lower_number.Statement.{statement}
 use Rattle.walk.proofs.index.lower_number.Tie as tie

@@ -1,4 +1,4 @@
-use Rattle.walk.proofs.Firsts.{first-some, first-none, first-last}
+use Rattle.format.proofs.Numbers.{first-some, first-none, first-last}
 use Rattle.walk.specs.Walk.{tallied}
 use borrow.Author.Needs.{needs}
 use Rattle.walk.proofs.links.tally.Statement.{statement}
