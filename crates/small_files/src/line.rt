@@ -14,9 +14,9 @@ pub(crate) fn verdict(v: i32) {
 fn ending(r: Run) {
     io::write_all(1, b": verdict ");
     verdict(r.verdict);
-    if r.place != 0 {
+    if r.location != 0 {
         io::write_all(1, b" at ");
-        io::print_decimal(1, r.place);
+        io::print_decimal(1, r.location);
     }
     io::write_all(1, b" in ");
     io::print_decimal(1, r.steps);
@@ -31,8 +31,11 @@ fn wide(x: u8) -> u64 {
     x as u64
 }
 
-// The mark of the record that starts at a place.
-fn mark(m: &[u8], at: usize) {
+// The mark at an offset, if the record that starts there is to be shown.
+fn mark(m: &[u8], at: usize, is_shown: bool) {
+    if !is_shown {
+        return;
+    }
     if at < m.len() {
         io::write_all(1, b" ");
         io::print_decimal(1, at as u64);
@@ -43,18 +46,15 @@ fn mark(m: &[u8], at: usize) {
 
 // The marks of a file's first records.
 fn marks(m: &[u8], records: usize) {
-    let starts = [8, 312, 372, 504, 536];
     io::write_all(1, b", marks");
     if records == 0 {
         io::write_all(1, b" none");
     }
-    let mut i = 0;
-    while i < records {
-        if i < 5 {
-            mark(m, starts[i]);
-        }
-        i += 1;
-    }
+    mark(m, 8, 0 < records);
+    mark(m, 312, 1 < records);
+    mark(m, 372, 2 < records);
+    mark(m, 504, 3 < records);
+    mark(m, 536, 4 < records);
 }
 
 fn same_marks(a: &[u8], b: &[u8]) -> bool {
@@ -72,7 +72,7 @@ fn same_marks(a: &[u8], b: &[u8]) -> bool {
 }
 
 fn same_run(a: Run, b: Run) -> bool {
-    (a.verdict == b.verdict) & (a.place == b.place) & (a.steps == b.steps)
+    (a.verdict == b.verdict) & (a.location == b.location) & (a.steps == b.steps)
 }
 
 // A file checked both ways, each with marks that are first all 7.

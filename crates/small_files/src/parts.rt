@@ -4,9 +4,9 @@ use crate::store;
 // Magics and the CDR at 8, of an encoding and flags.
 pub(crate) fn start(f: &mut [u8], encoding: u32, flags: u32) {
     let magics = [0xcdf2_6002, 0x0000_ffff];
-    store::put_all(f, 0, &magics);
+    stored_fields::put_all(f, 0, &magics);
     let cdr = [304, 1, 312, 2, 0, encoding, flags];
-    store::put_all(f, 8, &cdr);
+    stored_fields::put_all(f, 8, &cdr);
 }
 
 // The GDR at 312; eof is the length.
@@ -25,7 +25,7 @@ pub(crate) fn gdr(f: &mut [u8], length: u32, z_head: u32, z_vars: u32, unused: u
         z_vars,
         unused,
     ];
-    store::put_all(f, 312, &gdr);
+    stored_fields::put_all(f, 312, &gdr);
 }
 
 // The base file: encoding 6, flags 3.
@@ -43,7 +43,7 @@ fn index(f: &mut [u8], levels: u32) -> u32 {
             return at;
         }
         let vxr = [32, 6, 0, 1, 1, 0, 2, at + 32];
-        store::put_all(f, at as usize, &vxr);
+        stored_fields::put_all(f, at as usize, &vxr);
         at += 32;
         i += 1;
     }
@@ -53,25 +53,25 @@ fn index(f: &mut [u8], levels: u32) -> u32 {
 // A zVDR at 372 of type 2 and MaxRec 2, its index from 504 on, of so many levels, then its VVR of a size.
 pub(crate) fn variable(f: &mut [u8], levels: u32, vvr: u32) {
     let vdr = [132, 8, 0, 2, 2, 504, 504, 1, 0, 0, 0, 0, 1];
-    store::put_all(f, 372, &vdr);
+    stored_fields::put_all(f, 372, &vdr);
     let at = index(f, levels);
     let record = [vvr, 7];
-    store::put_all(f, at as usize, &record);
+    stored_fields::put_all(f, at as usize, &record);
 }
 
 // A zVDR at 372 of type 1 with two dimensions and one record, its VXR at 520, its VVR at 552 of a size; the value at each place
-// is that place.
+// of the record is that place.
 pub(crate) fn plane(f: &mut [u8], sizes: &[u32], variances: &[u32], vvr: u32) {
     let vdr = [148, 8, 0, 1, 0, 520, 520, 1, 0, 0, 0, 0, 1];
-    store::put_all(f, 372, &vdr);
+    stored_fields::put_all(f, 372, &vdr);
     let count = [2];
-    store::put_all(f, 500, &count);
-    store::put_all(f, 504, sizes);
-    store::put_all(f, 512, variances);
+    stored_fields::put_all(f, 500, &count);
+    stored_fields::put_all(f, 504, sizes);
+    stored_fields::put_all(f, 512, variances);
     let vxr = [32, 6, 0, 1, 1, 0, 0, 552];
-    store::put_all(f, 520, &vxr);
+    stored_fields::put_all(f, 520, &vxr);
     let record = [vvr, 7];
-    store::put_all(f, 552, &record);
+    stored_fields::put_all(f, 552, &record);
     places(f);
 }
 

@@ -1,10 +1,10 @@
 // A check from a fresh state to its verdict.
 use calls::checks;
 
-// What a check came to: -1 or its verdict, the place of a refusal, and the steps it made.
+// What a check came to: -1 or its verdict, the location of a refusal, and the steps it made.
 pub(crate) struct Run {
     pub(crate) verdict: i32,
-    pub(crate) place: u64,
+    pub(crate) location: u64,
     pub(crate) steps: u64,
 }
 
@@ -13,11 +13,11 @@ pub(crate) fn in_one(file: &[u8], marks: &mut [u8]) -> Run {
     let mut state = [0u32; 34];
     checks::tlz_check_begin(&mut state);
     let mut steps: u64 = 0;
-    let mut place: u64 = 0;
-    let verdict = checks::tlz_check_grant(file, marks, &mut state, 1000, &mut steps, &mut place);
+    let mut location: u64 = 0;
+    let verdict = checks::tlz_check_grant(file, marks, &mut state, 1000, &mut steps, &mut location);
     Run {
         verdict,
-        place,
+        location,
         steps,
     }
 }
@@ -25,11 +25,11 @@ pub(crate) fn in_one(file: &[u8], marks: &mut [u8]) -> Run {
 // One grant of 1 step, after those that made some steps.
 fn one_more(file: &[u8], marks: &mut [u8], state: &mut [u32], made: u64) -> Run {
     let mut steps: u64 = 0;
-    let mut place: u64 = 0;
-    let verdict = checks::tlz_check_grant(file, marks, state, 1, &mut steps, &mut place);
+    let mut location: u64 = 0;
+    let verdict = checks::tlz_check_grant(file, marks, state, 1, &mut steps, &mut location);
     Run {
         verdict,
-        place,
+        location,
         steps: std::num::wrapping_add_u64(made, steps),
     }
 }
@@ -48,7 +48,7 @@ fn each(file: &[u8], marks: &mut [u8], state: &mut [u32]) -> Run {
     }
     Run {
         verdict: -1,
-        place: 0,
+        location: 0,
         steps: made,
     }
 }

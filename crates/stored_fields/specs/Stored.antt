@@ -1,7 +1,7 @@
 -- Control fields stored. Assumes nothing.
 use Prim.Native.Nat.{ℕ, _+_, _/_, _%_}
 use mathlib.Core.Bool.{cond}
-use mathlib.Core.List.{List}
+use mathlib.Core.List.{List, [], _∷_}
 use lib.ListN.{length, set}
 use lib.Dec.{leb}
 
@@ -12,3 +12,8 @@ written f at n = set (set (set (set f at (n / 16777216)) (at + 1) (n / 65536 % 2
 -- the file with it, or as it is if it ends before the field does
 unfoldable pub stored : List ℕ → ℕ → ℕ → List ℕ
 stored f at n = cond (leb (at + 4) (length f)) (written f at n) f
+
+-- numbers as control fields one after the other, from an offset on
+unfoldable pub storedAll : List ℕ → ℕ → List ℕ → List ℕ
+storedAll f at [] = f
+storedAll f at (n ∷ ns) = storedAll (stored f at n) (at + 4) ns

@@ -1,4 +1,5 @@
 // Chapter 4: where each value of a record stands, as offsets from the record's start, the last index running fastest.
+use records::layout;
 use variables::limit;
 use variables::place;
 use variables::place::Place;
@@ -7,12 +8,12 @@ use variables::vdr::Variable;
 
 // The fields of a zVDR at the file's start, of a size, for values of a data type in n dimensions.
 fn describe(f: &mut [u8], size: u32, data: u32, elements: u32, n: u32) {
-    stored_fields::put(f, 0, size);
-    stored_fields::put(f, 4, 8);
-    stored_fields::put(f, 12, data);
-    stored_fields::put(f, 28, 1);
-    stored_fields::put(f, 48, elements);
-    stored_fields::put(f, 128, n);
+    let header = [size, 8];
+    stored_fields::put_all(f, 0, &header);
+    stored_fields::put(f, layout::DATA_TYPE, data);
+    stored_fields::put(f, layout::VAR_FLAGS, 1);
+    stored_fields::put(f, layout::ELEMENTS, elements);
+    stored_fields::put(f, layout::Z_NUM_DIMS, n);
 }
 
 // A variance: -1 for true, 0 for false.
@@ -40,9 +41,9 @@ fn shown(f: &[u8], v: Variable, row: bool, indices: &[i64]) {
 }
 
 // What a line begins with: the bytes of a record, and the majority.
-fn heading(v: Variable, row: bool) {
+fn heading(bytes: u64, row: bool) {
     io::write_all(1, b", ");
-    io::print_decimal(1, v.bytes);
+    io::print_decimal(1, bytes);
     io::write_all(1, b" bytes, ");
     if row {
         io::write_all(1, b"row majority:");
@@ -65,7 +66,7 @@ fn value(f: &[u8], v: Variable, row: bool, k: u64) {
 
 // Each of n values.
 fn values(f: &[u8], v: Variable, row: bool, n: u64) {
-    heading(v, row);
+    heading(v.bytes, row);
     let mut k = 0;
     while k < n {
         value(f, v, row, k);
@@ -95,10 +96,8 @@ fn plane_line(f: &[u8], v: Variable, first: bool, second: bool, row: bool) {
 pub(crate) fn plane(first: bool, second: bool) {
     let mut f = [0u8; 148];
     describe(&mut f, 148, 21, 1, 2);
-    stored_fields::put(&mut f, 132, 3);
-    stored_fields::put(&mut f, 136, 5);
-    stored_fields::put(&mut f, 140, variance(first));
-    stored_fields::put(&mut f, 144, variance(second));
+    let dimensions = [3, 5, variance(first), variance(second)];
+    stored_fields::put_all(&mut f, layout::Z_NUM_DIMS + 4, &dimensions);
     let v = vdr::variable_at(&f, 8, 0);
     plane_line(&f, v, first, second, true);
     plane_line(&f, v, first, second, false);
@@ -114,12 +113,8 @@ fn solid_line(f: &[u8], v: Variable, row: bool) {
 pub(crate) fn solid() {
     let mut f = [0u8; 156];
     describe(&mut f, 156, 51, 5, 3);
-    stored_fields::put(&mut f, 132, 2);
-    stored_fields::put(&mut f, 136, 3);
-    stored_fields::put(&mut f, 140, 4);
-    stored_fields::put(&mut f, 144, variance(true));
-    stored_fields::put(&mut f, 148, variance(false));
-    stored_fields::put(&mut f, 152, variance(true));
+    let dimensions = [2, 3, 4, variance(true), variance(false), variance(true)];
+    stored_fields::put_all(&mut f, layout::Z_NUM_DIMS + 4, &dimensions);
     let v = vdr::variable_at(&f, 8, 0);
     solid_line(&f, v, true);
     solid_line(&f, v, false);

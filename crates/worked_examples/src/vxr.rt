@@ -1,31 +1,24 @@
 // Section 2.7: a VXR of ten entries, two of them used.
 use format::fields;
 use records::index;
+use records::layout;
 
-// Thirty fields that hold -1: no entry is used.
-fn unused(f: &mut [u8]) {
-    let mut i = 0;
-    while i < 30 {
-        stored_fields::put(f, 20 + 4 * i, 0xffff_ffff);
-        i += 1;
-    }
-}
-
+// Its fields, with no entry used: thirty fields that hold -1.
 fn header(f: &mut [u8]) {
-    stored_fields::put(f, 0, 140);
-    stored_fields::put(f, 4, 6);
-    stored_fields::put(f, 12, 10);
-    stored_fields::put(f, 16, 2);
-    unused(f);
+    let fields = [140, 6, 0, 10, 2];
+    stored_fields::put_all(f, 0, &fields);
+    let unused = [0xffff_ffff; 30];
+    stored_fields::put_all(f, layout::FIRSTS, &unused);
 }
 
+// The Firsts, Lasts and Offsets of two of its ten entries.
 fn used_entries(f: &mut [u8]) {
-    stored_fields::put(f, 20, 0);
-    stored_fields::put(f, 24, 100);
-    stored_fields::put(f, 60, 99);
-    stored_fields::put(f, 64, 149);
-    stored_fields::put(f, 100, 0xa400);
-    stored_fields::put(f, 104, 0xb554);
+    let firsts = [0, 100];
+    stored_fields::put_all(f, layout::FIRSTS, &firsts);
+    let lasts = [99, 149];
+    stored_fields::put_all(f, layout::FIRSTS + 40, &lasts);
+    let offsets = [0xa400, 0xb554];
+    stored_fields::put_all(f, layout::FIRSTS + 80, &offsets);
 }
 
 // Entry i, counted from 0, whose range begins at floor or above; answers where the next may begin.
@@ -58,20 +51,20 @@ fn entries(f: &[u8], used: u32) {
 
 // The fields of a VXR at the file's start, and its entries.
 fn shown(f: &[u8]) {
-    if f.len() < 20 {
+    if f.len() < layout::FIRSTS {
         return;
     }
     if index::vxr(f, 0) != 0 {
         io::write_all(1, b"VXR refused\n");
         return;
     }
-    let used = fields::nat_at(f, 16);
+    let used = fields::nat_at(f, layout::VXR_USED);
     io::write_all(1, b"VXR of ");
     io::print_decimal(1, fields::nat_at(f, 0) as u64);
     io::write_all(1, b" bytes: ");
     io::print_decimal(1, used as u64);
     io::write_all(1, b" of ");
-    io::print_decimal(1, fields::nat_at(f, 12) as u64);
+    io::print_decimal(1, fields::nat_at(f, layout::VXR_ENTRIES) as u64);
     io::write_all(1, b" entries used\n");
     entries(f, used);
 }

@@ -1,23 +1,10 @@
-use Prim.Native.Nat.{ℕ, _+_, _/_, _%_, _≤_, _<_}
-use mathlib.Core.List.{List}
-use mathlib.Core.Path.{_≡_, sym}
-use lib.ListN.{length, set, length-set}
+use mathlib.Core.Path.{sym}
+use lib.ListN.{length-set}
 use native.Mathlib.Omega.{arith}
 use borrow.Author.Needs.{needs}
-use borrow.Author.Tests.{lt-leb, le-leb}
-use Rattle.stored_fields.specs.Stored.{stored}
+use Rattle.stored_fields.proofs.Fields.{stored-past, stored-in}
 use Rattle.stored_fields.proofs.put.Statement.{statement}
 use Rattle.stored_fields.proofs.put.Tie as tie
-
--- a field that ends past the file's end, and one that does not
-stored-past : (f : List ℕ) (at n : ℕ) → length f < at + 4 → stored f at n ≡ f
-unfolding stored
-stored-past f at n h = simp (lt-leb _ _ h)
-
-stored-in : (f : List ℕ) (at n third : ℕ) → at + 4 ≤ length f → third ≡ n / 256 % 256
-    → set (set (set (set f at (n / 16777216)) (at + 1) (n / 65536 % 256)) (at + 2) third) (at + 3) (n % 256) ≡ stored f at n
-unfolding stored
-stored-in f at n third h e = simp (le-leb _ _ h, e)
 
 returns : tie.Need-returns
 returns c = sym (stored-past _ _ _ (omega arith))

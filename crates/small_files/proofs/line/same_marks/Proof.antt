@@ -5,6 +5,7 @@ use borrow.Author.Needs.{needs}
 use Rattle.small_files.proofs.line.same_marks.Statement.{statement}
 use Rattle.small_files.proofs.line.same_marks.Tie as tie
 
+-- Mark by mark, up to the first that differs. The invariant: there are as many of both.
 abbrev Inv-loop : tie.InvT-loop
 Inv-loop a b i₀ i = (i ≤ length a) × (length a ≡ length b)
 

@@ -5,6 +5,7 @@ use borrow.Author.Needs.{needs}
 use Rattle.small_files.proofs.parts.index.Statement.{statement}
 use Rattle.small_files.proofs.parts.index.Tie as tie
 
+-- VXR by VXR. The invariant: the next one begins below the room that the files have.
 abbrev Inv-loop : tie.InvT-loop
 Inv-loop f₀ levels at₀ i₀ f at i = (i ≤ levels) × (at ≤ 1032) × (length f ≡ length f₀)
 

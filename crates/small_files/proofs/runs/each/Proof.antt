@@ -5,6 +5,7 @@ use borrow.Author.Needs.{needs}
 use Rattle.small_files.proofs.runs.each.Statement.{statement}
 use Rattle.small_files.proofs.runs.each.Tie as tie
 
+-- Grant by grant. The invariant: at most 200 were made, and neither the marks nor the state changed in length.
 abbrev Inv-loop : tie.InvT-loop
 Inv-loop file marks₀ state₀ made₀ k₀ marks state made k = (k ≤ 200) × (length marks ≡ length marks₀) × (length state ≡ length state₀)
 

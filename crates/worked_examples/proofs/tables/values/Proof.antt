@@ -3,6 +3,7 @@ use borrow.Author.Needs.{needs}
 use Rattle.worked_examples.proofs.tables.values.Statement.{statement}
 use Rattle.worked_examples.proofs.tables.values.Tie as tie
 
+-- Value by value.
 abbrev Inv-loop : tie.InvT-loop
 Inv-loop f v row n k₀ k = k ≤ n
 

@@ -3,6 +3,7 @@ use borrow.Author.Needs.{needs}
 use Rattle.worked_examples.proofs.vxr.entries.Statement.{statement}
 use Rattle.worked_examples.proofs.vxr.entries.Tie as tie
 
+-- Entry by entry.
 abbrev Inv-loop : tie.InvT-loop
 Inv-loop f used i₀ floor₀ i floor = i ≤ used
 
