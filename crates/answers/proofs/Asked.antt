@@ -8,7 +8,7 @@ use lib.ListN.{length}
 use Rattle.records.specs.Opening.{bodyOf}
 use Rattle.variables.specs.Vdr.{variableOf}
 use Rattle.lookup.specs.Lists.{kindAmong, variableWay, entryWay}
-use Rattle.lookup.specs.Opened.{Opened}
+use Rattle.lookup.specs.Bounds.{Opened}
 use Rattle.lookup.specs.declared.lists.Wanted.{Wanted}
 use Rattle.lookup.specs.declared.lists.Way.the-variants.{Found, Stopped}
 use Rattle.lookup.proofs.Sought.{Finds}

@@ -15,7 +15,7 @@ use Rattle.records.specs.Attributes.{elementSize}
 use Rattle.format.specs.Encodings.{encodingOf}
 use Rattle.values.specs.Values.{isNothing, decodedOf}
 use Rattle.values.specs.declared.value.Decoded.the-variants.{Nothing}
-use Rattle.answers.specs.Answers.{answered, encodingAt, elementThere, elementRead}
+use Rattle.answers.specs.Answers.{answered, fileEncoding, elementThere, elementRead}
 
 module _ (f : List ℕ) (p : ℕ) where
   pub there-below : (x : ℤ) → ltZ x (pos 0) ≡ true → false ≡ elementThere f p x
@@ -58,7 +58,7 @@ pub read-there : (f : List ℕ) (at t c : ℕ) (x : ℤ) {n size type encoding :
     → n ≡ natOr 0 x
     → size ≡ elementSize f t
     → type ≡ natAt f t
-    → encoding ≡ encodingAt f
+    → encoding ≡ fileEncoding f
     → answered (decodedOf f (at + n * size) type encoding) ≡ elementRead f at t c x
 unfolding elementRead
 read-there f at t c x h n s k l = rw (h, n, s, k, l)

@@ -19,7 +19,7 @@ use Rattle.values.specs.declared.value.Decoded.the-variants.{Given, Reserved, N
 use Rattle.values.proofs.Places.{lies}
 use Rattle.values.proofs.Agreeing.{Decodes, decodes}
 use Rattle.format.proofs.Tests.{both}
-use Rattle.answers.specs.Answers.{answered, encodingAt, elementThere, elementAt, elementOf, elementRead}
+use Rattle.answers.specs.Answers.{answered, fileEncoding, elementThere, elementAt, elementOf, elementRead}
 use Rattle.answers.specs.declared.Read.{Read}
 use Rattle.answers.specs.declared.Read.the-variants.{Value, Refused}
 
@@ -47,26 +47,26 @@ module _ (f : List ℕ) (at t c : ℕ) (x : ℤ) (Fact : Answer → Type 0) (Mea
   kind = typeOf (natAt f t) .kind
 
   abbrev float : ℕ
-  float = encodingOf (encodingAt f) .float
+  float = encodingOf (fileEncoding f) .float
 
   module _ (wrong : elementThere f c x ≡ false → Meaning 18)
       (operand : elementThere f c x ≡ true → reservedFloat f place kind float ≡ true → Meaning 22)
-      (sized : 1 ≤ elementSize f t) (ordered : 1 ≤ encodingOf (encodingAt f) .order)
+      (sized : 1 ≤ elementSize f t) (ordered : 1 ≤ encodingOf (fileEncoding f) .order)
       (within : elementThere f c x ≡ true → place + elementSize f t ≤ endOf f)
       (fact : (a : Answer) → elementThere f c x ≡ true → elementOf f place t ≡ Given a → Fact a)
     where
-      decoded-tells : elementThere f c x ≡ true → (d : Decoded) → elementOf f place t ≡ d → Decodes f place (natAt f t) (encodingAt f) d
+      decoded-tells : elementThere f c x ≡ true → (d : Decoded) → elementOf f place t ≡ d → Decodes f place (natAt f t) (fileEncoding f) d
           → Tells Fact Meaning (answered d)
       unfolding elementSize
       decoded-tells h (Given a) e i = fact a h e
       decoded-tells h Reserved e i = operand h i
       decoded-tells h Nothing e i =
-          absurd (true≢false (sym i ∙ lies f place (typeOf (natAt f t) .size) (encodingOf (encodingAt f) .order) refl (λ z. omega arith) (λ z. omega arith) (within h)))
+          absurd (true≢false (sym i ∙ lies f place (typeOf (natAt f t) .size) (encodingOf (fileEncoding f) .order) refl (λ z. omega arith) (λ z. omega arith) (within h)))
 
       pub element-tells : Tells Fact Meaning (elementRead f at t c x)
       unfolding elementRead
       element-tells = go (elementThere f c x) refl
         where
           go : (b : Bool) → elementThere f c x ≡ b → Tells Fact Meaning (cond b (answered (elementOf f place t)) (Refused 18))
-          go true h = decoded-tells h (elementOf f place t) refl (decodes f place (natAt f t) (encodingAt f))
+          go true h = decoded-tells h (elementOf f place t) refl (decodes f place (natAt f t) (fileEncoding f))
           go false h = wrong h

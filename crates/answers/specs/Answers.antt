@@ -8,6 +8,7 @@ use Rattle.format.specs.Fields.{fieldAt, natAt, natOr, bitAt}
 use Rattle.values.specs.declared.value.Decoded.{Decoded}
 use Rattle.values.specs.declared.value.Decoded.the-variants.{Given, Reserved, Nothing}
 use Rattle.values.specs.Values.{decodedOf}
+use Rattle.records.specs.Layout.{encodingAt, cdrFlagsAt, entryTypeAt, entryElementsAt, entryValueAt, dataTypeAt, varFlagsAt, elementsAt}
 use Rattle.records.specs.Opening.{bodyOf}
 use Rattle.records.specs.Attributes.{elementSize}
 use Rattle.variables.specs.Vdr.{variableOf}
@@ -38,11 +39,11 @@ answered Reserved = Refused 22
 answered Nothing = Refused 20
 
 -- CDR: "encoding (20)"; flags (24): "Bit 0 set means row majority"; the CDR stands at 8
-abbrev pub encodingAt : List ℕ → ℕ
-encodingAt f = natAt f 28
+abbrev pub fileEncoding : List ℕ → ℕ
+fileEncoding f = natAt f encodingAt
 
 abbrev pub rowMajority : List ℕ → Bool
-rowMajority f = bitAt f 32 1
+rowMajority f = bitAt f cdrFlagsAt 1
 
 -- an element of those that the field at p counts; else 18, "element out of range"
 unfoldable pub elementThere : List ℕ → ℕ → ℤ → Bool
@@ -54,15 +55,15 @@ elementAt f at t x = at + natOr 0 x * elementSize f t
 
 -- what data type and encoding make of the bytes at an offset
 abbrev pub elementOf : List ℕ → ℕ → ℕ → Decoded
-elementOf f at t = decodedOf f at (natAt f t) (encodingAt f)
+elementOf f at t = decodedOf f at (natAt f t) (fileEncoding f)
 
 -- element x of those values, whose count stands at c
 unfoldable pub elementRead : List ℕ → ℕ → ℕ → ℕ → ℤ → Read
 elementRead f at t c x = cond (elementThere f c x) (answered (elementOf f (elementAt f at t x) t)) (Refused 18)
 
--- of a record that begins at an offset: the value at a place, the VDR at v saying its data type (12) and elements (48)
+-- of a record that begins at an offset: the value at a place, the VDR at v saying its data type and elements
 abbrev pub atPlace : List ℕ → ℕ → ℕ → ℕ → ℤ → Place → Read
-atPlace f v bytes at x (At p) = elementRead f (at + p * bytes) (v + 12) (v + 48) x
+atPlace f v bytes at x (At p) = elementRead f (at + p * bytes) (dataTypeAt v) (elementsAt v) x
 atPlace f v bytes at x Wrong = Refused 18
 
 unfoldable pub inRecord : List ℕ → ℕ → Variable → ℕ → List ℤ → ℤ → Read
@@ -86,7 +87,7 @@ valueRead f k n r is x = valueOn (bodyOf f) (kindAmong 3 8 k) r is x (variableWa
 
 -- "data type 16, .. elements 24 .., value from 48"
 abbrev pub entryOn : List ℕ → ℤ → Way → Read
-entryOn f x (Found e left) = elementRead f (e + 48) (e + 16) (e + 24) x
+entryOn f x (Found e left) = elementRead f (entryValueAt e) (entryTypeAt e) (entryElementsAt e) x
 entryOn f x (Stopped n) = Refused n
 
 -- AN ENTRY'S VALUE, of the entry that is wanted, at a place of its list or of a number
@@ -97,12 +98,12 @@ entryValue f a k w x = entryOn (bodyOf f) x (entryWay f a k w)
 abbrev pub entryRead : List ℕ → ℤ → ℤ → ℤ → ℤ → Read
 entryRead f a k n x = entryValue f a k (Number n) x
 
--- "Pad value last if bit 1 is set": after the variances
-abbrev pub padPlace : Variable → ℕ
-padPlace u = u .dimensions .variances + 4 * u .dimensions .count
+-- "Pad value last if bit 1 is set": its offset, behind the variances
+abbrev pub padValueAt : Variable → ℕ
+padValueAt u = u .dimensions .variances + 4 * u .dimensions .count
 
 unfoldable pub padIn : List ℕ → ℕ → Variable → ℤ → Read
-padIn f v u x = cond (bitAt f (v + 28) 2) (elementRead f (padPlace u) (v + 12) (v + 48) x) (Refused 18)
+padIn f v u x = cond (bitAt f (varFlagsAt v) 2) (elementRead f (padValueAt u) (dataTypeAt v) (elementsAt v) x) (Refused 18)
 
 abbrev pub padOn : List ℕ → ℕ → ℤ → Way → Read
 padOn f k x (Found v left) = padIn f v (variableOf f k v) x

@@ -14,6 +14,7 @@ use lookup::indexes::Values;
 use lookup::lists;
 use lookup::lists::Wanted;
 use lookup::lists::Way;
+use records::layout;
 use records::opening;
 use values::value;
 use values::value::Answer;
@@ -63,7 +64,7 @@ fn element_there(f: &[u8], at: usize, x: i64) -> bool
     (x as u64) < most
 }
 
-// Element x of the values from an offset on, by the places of their data type and count.
+// Element x of the values from an offset on, by the offsets of their data type and count.
 fn element(f: &[u8], at: u64, t: usize, c: usize, x: i64) -> Read
     requires { ⌜ (length (now f) < 2147483648) × (32 ≤ length (now f)) × (t + 4 ≤ length (now f)) × (c + 4 ≤ length (now f)) × (at < 13835058055282163712) ⌝ }
     ensures { λ r. ⌜ r ≡ elementRead (now (f .entry)) at t c x ⌝ }
@@ -73,7 +74,12 @@ fn element(f: &[u8], at: u64, t: usize, c: usize, x: i64) -> Read
     }
     let n = fields::nat_at(f, t);
     let size = types::size_of(n) as u64;
-    decode_at(f, at + x as u64 * size, n, fields::nat_at(f, 28))
+    decode_at(
+        f,
+        at + x as u64 * size,
+        n,
+        fields::nat_at(f, layout::ENCODING),
+    )
 }
 
 // An element of a value in the record that begins at an offset, of a variable and its VDR at v.
@@ -81,9 +87,15 @@ fn in_record(f: &[u8], v: u32, u: Variable, at: u64, indices: &[i64], x: i64) ->
     requires { ⌜ Inside (now f) v 128 × Fits u × (at < 9223372036854775808) ⌝ }
     ensures { λ r. ⌜ r ≡ inRecord (now (f .entry)) v u at (now (indices .entry)) x ⌝ }
 {
-    let p = place::place_of(f, u, fields::bit(f, 32, 1), indices);
+    let p = place::place_of(f, u, fields::bit(f, layout::CDR_FLAGS, 1), indices);
     match p {
-        Place::At(n) => element(f, at + n * u.value, v as usize + 12, v as usize + 48, x),
+        Place::At(n) => element(
+            f,
+            at + n * u.value,
+            v as usize + layout::DATA_TYPE,
+            v as usize + layout::ELEMENTS,
+            x,
+        ),
         Place::Wrong => Read::Refused(18),
     }
 }
@@ -124,7 +136,13 @@ pub fn read_entry(f: &[u8], attribute: i64, kind: i64, w: Wanted, x: i64) -> Rea
     match way {
         Way::Found { at, left: _ } => {
             let e = at as usize;
-            element(b, at as u64 + 48, e + 16, e + 24, x)
+            element(
+                b,
+                at as u64 + layout::ENTRY_VALUE as u64,
+                e + layout::ENTRY_TYPE,
+                e + layout::ENTRY_ELEMENTS,
+                x,
+            )
         }
         Way::Stopped { number } => Read::Refused(number),
     }
@@ -136,14 +154,14 @@ fn in_pad(f: &[u8], v: u32, u: Variable, x: i64) -> Read
     ensures { λ r. ⌜ r ≡ padIn (now (f .entry)) v u x ⌝ }
 {
     let l = u.dimensions;
-    if !fields::bit(f, v as usize + 28, 2) {
+    if !fields::bit(f, v as usize + layout::VAR_FLAGS, 2) {
         return Read::Refused(18);
     }
     element(
         f,
         l.variances as u64 + 4 * l.count as u64,
-        v as usize + 12,
-        v as usize + 48,
+        v as usize + layout::DATA_TYPE,
+        v as usize + layout::ELEMENTS,
         x,
     )
 }

@@ -6,6 +6,7 @@ use lib.ListN.{length, getD}
 use lib.Dec.{leb, eqb}
 use lib.IntN.{ℤ, pos}
 use Rattle.format.specs.Fields.{fieldAt, bitAt, natOr}
+use Rattle.records.specs.Layout.{encodingAt, cdrFlagsAt, nrVarsAt, numAttrAt, rNumDimsAt, nzVarsAt, rDimSizesAt, scopeAt, attrNumAt, grCountAt, zCountAt, maximumAfter, attrNameAt, entryAttrAt, entryTypeAt, entryNumAt, entryElementsAt, dataTypeAt, maxRecAt, varFlagsAt, sRecordsAt, elementsAt, varNumAt, varNameAt, zNumDimsAt}
 use Rattle.records.specs.Opening.{gdrAt, rNumDims, fileEnd, bodyOf}
 use Rattle.variables.specs.Vdr.{variableOf}
 use Rattle.variables.specs.Place.{indexRight}
@@ -42,19 +43,19 @@ among (y ∷ ys) x = eqb x y || among ys x
 -- "fields other than size, record type, links, tail, compression offset, blocking and rfu": of an ADR scope, Num, both counts and
 -- maxima; of an AEDR Num, data type, entry number, elements; of a VDR data type, MaxRec, flags, sRecords, elements, Num
 abbrev pub attributeFields : List ℕ
-attributeFields = 16 ∷ 20 ∷ 24 ∷ 28 ∷ 40 ∷ 44 ∷ []
+attributeFields = scopeAt 0 ∷ attrNumAt 0 ∷ grCountAt 0 ∷ maximumAfter (grCountAt 0) ∷ zCountAt 0 ∷ maximumAfter (zCountAt 0) ∷ []
 
 abbrev pub entryFields : List ℕ
-entryFields = 12 ∷ 16 ∷ 20 ∷ 24 ∷ []
+entryFields = entryAttrAt 0 ∷ entryTypeAt 0 ∷ entryNumAt 0 ∷ entryElementsAt 0 ∷ []
 
 abbrev pub variableFields : List ℕ
-variableFields = 12 ∷ 16 ∷ 28 ∷ 32 ∷ 48 ∷ 52 ∷ []
+variableFields = dataTypeAt 0 ∷ maxRecAt 0 ∷ varFlagsAt 0 ∷ sRecordsAt 0 ∷ elementsAt 0 ∷ varNumAt 0 ∷ []
 
 -- of a record of type t; of a zVDR also the number of its dimensions
 unfoldable pub isShown : ℕ → ℕ → Bool
 isShown t field =
     cond (eqb t 4) (among attributeFields field)
-    (cond (isEntryKind t) (among entryFields field) (among variableFields field || (eqb t 8 && eqb field 128)))
+    (cond (isEntryKind t) (among entryFields field) (among variableFields field || (eqb t 8 && eqb field (zNumDimsAt 0))))
 
 -- of the record of type t at the end of a way
 abbrev pub fieldOn : List ℕ → ℕ → ℕ → Way → Field
@@ -76,7 +77,7 @@ rowField f p n d = cond (indexRight d n) (Is (fieldAt f (p + 4 * natOr 0 d))) (R
 
 -- the GDR's, of the rVariables: "sizes from 60"
 abbrev pub gdrSize : List ℕ → ℤ → Field
-gdrSize f d = rowField f (gdrAt f + 60) (rNumDims f (gdrAt f)) d
+gdrSize f d = rowField f (rDimSizesAt (gdrAt f)) (rNumDims f (gdrAt f)) d
 
 unfoldable pub dimensionSize : List ℕ → ℤ → Field
 dimensionSize f d = cond (opened f) (gdrSize (bodyOf f) d) (Refused 20)
@@ -122,36 +123,36 @@ unfoldable pub untilNul : List ℕ → ℕ → ℕ → ℕ
 untilNul f p zero = 0
 untilNul f p (suc n) = cond (eqb (getD f p 0) 0) 0 (suc (untilNul f (suc p) n))
 
--- the name at an offset of the record that a way has found
+-- the name in a field of the record that a way has found
 abbrev pub nameOn : List ℕ → ℕ → Way → Name
-nameOn f place (Found o left) = Bytes (o + place) (untilNul f (o + place) 64)
-nameOn f place (Stopped v) = Nameless v
+nameOn f field (Found o left) = Bytes (o + field) (untilNul f (o + field) 64)
+nameOn f field (Stopped v) = Nameless v
 
 -- VDR: "name 64"; ADR: "name 52 (64 bytes)"
 unfoldable pub variableName : List ℕ → ℤ → ℤ → Name
-variableName f k n = nameOn (bodyOf f) 64 (variableWay f k n)
+variableName f k n = nameOn (bodyOf f) (varNameAt 0) (variableWay f k n)
 
 unfoldable pub attributeName : List ℕ → ℤ → Name
-attributeName f n = nameOn (bodyOf f) 52 (attributeWay f n)
+attributeName f n = nameOn (bodyOf f) (attrNameAt 0) (attributeWay f n)
 
 -- ---- "majority, encoding, counts and rVariable dimensions": 0 majority, 1 for row and 0 for column; 1 encoding; 2 NrVars, 3 NzVars,
 -- 4 NumAttr; 5 the number of dimensions of the rVariables; 6 how many bytes of padding lie behind the end; any other 18
 abbrev pub majority : Bool → ℤ
 majority row = cond row (pos 1) (pos 0)
 
--- where the fields that are asked for by 1 to 5 stand: CDR 20, GDR 24, 40, 28, 36
-abbrev pub saidPlace : List ℕ → ℕ → ℕ
-saidPlace f what =
-    cond (eqb what 1) 28
-    (cond (eqb what 2) (gdrAt f + 24) (cond (eqb what 3) (gdrAt f + 40) (cond (eqb what 4) (gdrAt f + 28) (gdrAt f + 36))))
+-- the offsets of the fields that are asked for by 1 to 5
+abbrev pub fileFieldAt : List ℕ → ℕ → ℕ
+fileFieldAt f what =
+    cond (eqb what 1) encodingAt
+    (cond (eqb what 2) (nrVarsAt (gdrAt f)) (cond (eqb what 3) (nzVarsAt (gdrAt f)) (cond (eqb what 4) (numAttrAt (gdrAt f)) (rNumDimsAt (gdrAt f)))))
 
-abbrev pub said : List ℕ → ℕ → Field
-said f what =
-    cond (eqb what 0) (Is (majority (bitAt f 32 1))) (cond (leb what 5) (Is (fieldAt f (saidPlace f what))) (Refused 18))
+abbrev pub fileFieldIn : List ℕ → ℕ → Field
+fileFieldIn f what =
+    cond (eqb what 0) (Is (majority (bitAt f cdrFlagsAt 1))) (cond (leb what 5) (Is (fieldAt f (fileFieldAt f what))) (Refused 18))
 
 -- #101: the length less the end
 abbrev pub padding : List ℕ → ℤ
 padding f = pos (length f - fileEnd f)
 
 unfoldable pub fileField : List ℕ → ℕ → Field
-fileField f what = cond (opened f) (cond (eqb what 6) (Is (padding f)) (said (bodyOf f) what)) (Refused 20)
+fileField f what = cond (opened f) (cond (eqb what 6) (Is (padding f)) (fileFieldIn (bodyOf f) what)) (Refused 20)

@@ -3,8 +3,8 @@ ghost use mathlib.Core.Path.{_≡_};
 ghost use Prim.Native.Nat.{_+_, _*_, _≤_, _<_};
 ghost use lib.ListN.{length};
 ghost use Rattle.records.specs.Opening.{gdrAt, bodyOf};
-ghost use Rattle.lookup.specs.Indexes.{LevelsFit};
-ghost use Rattle.descriptors.specs.Descriptors.{isShown, fieldOn, variableField, attributeField, entryField, rowField, dimensionSize, variableDimensions, variableSize, variableVariance, levelsField, variableLevels, untilNul, nameOn, variableName, attributeName, majority, saidPlace, said, fileField};
+ghost use Rattle.lookup.specs.Bounds.{LevelsFit};
+ghost use Rattle.descriptors.specs.Descriptors.{isShown, fieldOn, variableField, attributeField, entryField, rowField, dimensionSize, variableDimensions, variableSize, variableVariance, levelsField, variableLevels, untilNul, nameOn, variableName, attributeName, majority, fileFieldAt, fileFieldIn, fileField};
 ghost use Rattle.descriptors.specs.Bounds.{fieldBytes, Holds, Lie};
 use format::fields;
 use lookup::indexes;
@@ -12,6 +12,7 @@ use lookup::indexes::Levels;
 use lookup::lists;
 use lookup::lists::Wanted;
 use lookup::lists::Way;
+use records::layout;
 use records::opening;
 use variables::place;
 use variables::vdr;
@@ -130,8 +131,13 @@ pub fn dimension_size(f: &[u8], d: i64) -> Field
         return Field::Refused(20);
     }
     let b = opening::body(f);
-    let g = fields::link_at(b, 16) as usize;
-    row_field(b, g + 60, fields::nat_at(b, g + 36), d)
+    let g = fields::link_at(b, layout::GDR_LINK) as usize;
+    row_field(
+        b,
+        g + layout::R_DIM_SIZES,
+        fields::nat_at(b, g + layout::R_NUM_DIMS),
+        d,
+    )
 }
 
 // The dimensions of a variable, by kind and number: in a file, whose part before its end is b.
@@ -218,14 +224,14 @@ fn until_nul(f: &[u8], p: usize, n: usize) -> usize
     n
 }
 
-// The name that stands at an offset in the record that a way has found.
-fn name_on(f: &[u8], place: u32, way: Way) -> Name
-    requires { ⌜ Holds (now f) (place + 64) way × (place < 128) ⌝ }
-    ensures { λ r. ⌜ r ≡ nameOn (now (f .entry)) place way ⌝ }
+// The name in a field of the record that a way has found, by the field's offset in the record.
+fn name_on(f: &[u8], field: usize, way: Way) -> Name
+    requires { ⌜ Holds (now f) (field + 64) way × (field < 128) ⌝ }
+    ensures { λ r. ⌜ r ≡ nameOn (now (f .entry)) field way ⌝ }
 {
     match way {
         Way::Found { at, left: _ } => {
-            let p = at as usize + place as usize;
+            let p = at as usize + field;
             Name::Bytes {
                 offset: p as u64,
                 length: until_nul(f, p, 64) as u64,
@@ -240,7 +246,7 @@ pub fn variable_name(f: &[u8], kind: i64, number: i64) -> Name
     ensures { λ r. ⌜ r ≡ variableName (now (f .entry)) kind number ⌝ }
 {
     let b = opening::body(f);
-    name_on(b, 64, lists::to_variable(f, b, kind, number))
+    name_on(b, layout::VAR_NAME, lists::to_variable(f, b, kind, number))
 }
 
 // The name of an attribute, by number.
@@ -248,7 +254,7 @@ pub fn attribute_name(f: &[u8], number: i64) -> Name
     ensures { λ r. ⌜ r ≡ attributeName (now (f .entry)) number ⌝ }
 {
     let b = opening::body(f);
-    name_on(b, 52, lists::to_attribute(f, b, number))
+    name_on(b, layout::ATTR_NAME, lists::to_attribute(f, b, number))
 }
 
 // 1 for row majority, 0 for column majority.
@@ -258,39 +264,39 @@ fn majority_of(row: bool) -> i32
     if row { 1 } else { 0 }
 }
 
-// Where what is asked for by 1 to 5 stands.
-fn said_place(f: &[u8], what: u64) -> usize
+// The offset of the field of CDR or GDR that is asked for by 1 to 5.
+fn file_field_at(f: &[u8], what: u64) -> usize
     requires { ⌜ gdrAt (now f) + 60 ≤ length (now f) ⌝ }
-    ensures { λ r. ⌜ (r ≡ saidPlace (now (f .entry)) what) × (r + 4 ≤ length (now (f .entry))) ⌝ }
+    ensures { λ r. ⌜ (r ≡ fileFieldAt (now (f .entry)) what) × (r + 4 ≤ length (now (f .entry))) ⌝ }
 {
-    let g = fields::link_at(f, 16) as usize;
+    let g = fields::link_at(f, layout::GDR_LINK) as usize;
     if what == 1 {
-        return 28;
+        return layout::ENCODING;
     }
     if what == 2 {
-        return g + 24;
+        return g + layout::NR_VARS_USIZE;
     }
     if what == 3 {
-        return g + 40;
+        return g + layout::NZ_VARS_USIZE;
     }
     if what == 4 {
-        return g + 28;
+        return g + layout::NUM_ATTR_USIZE;
     }
-    g + 36
+    g + layout::R_NUM_DIMS
 }
 
-// What the CDR and the GDR say of the file.
-fn said_of(f: &[u8], what: u64) -> Field
+// A field of CDR or GDR that describes the file.
+fn file_field_in(f: &[u8], what: u64) -> Field
     requires { ⌜ gdrAt (now f) + 60 ≤ length (now f) ⌝ }
-    ensures { λ r. ⌜ r ≡ said (now (f .entry)) what ⌝ }
+    ensures { λ r. ⌜ r ≡ fileFieldIn (now (f .entry)) what ⌝ }
 {
     if what == 0 {
-        return Field::Is(majority_of(fields::bit(f, 32, 1)));
+        return Field::Is(majority_of(fields::bit(f, layout::CDR_FLAGS, 1)));
     }
     if 5 < what {
         return Field::Refused(18);
     }
-    Field::Is(fields::field(f, said_place(f, what)))
+    Field::Is(fields::field(f, file_field_at(f, what)))
 }
 
 // What the file says of itself: 0 majority, 1 encoding, 2 to 4 its counts of rVariables, zVariables and attributes, 5 the number
@@ -305,5 +311,5 @@ pub fn file_field(f: &[u8], what: u64) -> Field
     if what == 6 {
         return Field::Is((f.len() - b.len()) as i32);
     }
-    said_of(b, what)
+    file_field_in(b, what)
 }

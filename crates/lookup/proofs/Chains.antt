@@ -13,8 +13,8 @@ use Rattle.records.specs.Tree.{levelsBelow}
 use Rattle.format.proofs.Tests.{both}
 use Rattle.records.specs.declared.index.Entry.{Entry}
 use Rattle.lookup.specs.Lists.{landsOn}
-use Rattle.lookup.specs.Indexes.{entryCovers, scanned, indexMet, lowerMet, lowerScan, afterLower, lowered, lowestOf, afterScan, lastIndex, indexed, valuesMet, recordPlace, valuesOf, looked, recordThere, recordRead, lookedUp, recordWay, levelsFrom, levelsTold, levelsOf, levelsLooked, levelsWay}
-use Rattle.lookup.specs.declared.indexes.Looked.the-variants.{At, Missing}
+use Rattle.lookup.specs.Indexes.{entryCovers, scanned, indexMet, lowerMet, lowerScan, afterLower, lowered, lowestOf, afterScan, lastIndex, indexed, valuesMet, recordAt, valuesOf, valuesBy, recordThere, recordRead, recordNumber, recordWay, levelsFrom, levelsTold, levelsOf, levelsBy, levelsWay}
+use Rattle.lookup.specs.declared.indexes.RecordNumber.the-variants.{There, Missing}
 use Rattle.lookup.specs.declared.indexes.Scan.{Scan}
 use Rattle.lookup.specs.declared.indexes.Scan.the-variants.{Covering, Passed, Broken}
 use Rattle.lookup.specs.declared.indexes.Index.{Index}
@@ -178,10 +178,10 @@ module _ (f : List ℕ) (v : ℕ) (r : ℤ) where
     pub way : ToLowest f v r entry
     pub lands : landsOn f 7 (entry .link) ≡ true
     pub rule : vvrRule f (entry .link) (entry .last - entry .first + 1) bytes ≡ 0
-    pub is : recordPlace entry (recordRead f v r) bytes ≡ at
+    pub is : recordAt entry (recordRead f v r) bytes ≡ at
 
   pub record-found : (bytes left : ℕ) → Leads (ToRecord bytes) (recordWay f v bytes r left)
-  unfolding recordWay lookedUp valuesMet
+  unfolding recordWay recordNumber valuesMet
   record-found bytes left = go (recordThere f v r) refl
     where
       values : recordThere f v r ≡ true → (top : Entry) → Chained f (recordRead f v r) (v + 20) top → (s : Index)
@@ -189,7 +189,7 @@ module _ (f : List ℕ) (v : ℕ) (r : ℤ) where
       values h top t (Halted n) w = tt
       values h top t (Covered e n) w = met (valuesMet f e bytes n) refl
         where
-          met : (b : Bool) → valuesMet f e bytes n ≡ b → Leads (ToRecord bytes) (cond b (Record (recordPlace e (recordRead f v r) bytes)) (Refused 20))
+          met : (b : Bool) → valuesMet f e bytes n ≡ b → Leads (ToRecord bytes) (cond b (Record (recordAt e (recordRead f v r) bytes)) (Refused 20))
           met true q =
               let a = both (leb 1 n) (landsOn f 7 (e .link) && eqb (vvrRule f (e .link) (e .last - e .first + 1) bytes) 0) q in
               let b = both (landsOn f 7 (e .link)) (eqb (vvrRule f (e .link) (e .last - e .first + 1) bytes) 0) (a .1) in
@@ -207,7 +207,7 @@ module _ (f : List ℕ) (v : ℕ) (r : ℤ) where
       chain h (Halted n) w = tt
       chain h (Covered e n) w = values h e w (lowered levelsBelow f (recordRead f v r) e n) (lowered-down levelsBelow f (recordRead f v r) e n)
 
-      go : (b : Bool) → recordThere f v r ≡ b → Leads (ToRecord bytes) (looked f v bytes left (cond b (At (recordRead f v r)) Missing))
+      go : (b : Bool) → recordThere f v r ≡ b → Leads (ToRecord bytes) (valuesBy f v bytes left (cond b (There (recordRead f v r)) Missing))
       go true h = chain h (indexed f (recordRead f v r) (v + 20) 0 left) (indexed-chained f (recordRead f v r) left (v + 20) 0)
       go false h = tt
 
@@ -218,7 +218,7 @@ module _ (f : List ℕ) (v : ℕ) (r : ℤ) where
     pub is : n ≡ suc (way .down .depth)
 
   pub levels-found : (left : ℕ) → Counts ToLevels (levelsWay f v r left)
-  unfolding levelsWay lookedUp
+  unfolding levelsWay recordNumber
   levels-found left = go (recordThere f v r) refl
     where
       told : recordThere f v r ≡ true → (top : Entry) → Chained f (recordRead f v r) (v + 20) top → (s : Index)
@@ -231,6 +231,6 @@ module _ (f : List ℕ) (v : ℕ) (r : ℤ) where
       chain h (Halted n) w = tt
       chain h (Covered e n) w = told h e w (lowered levelsBelow f (recordRead f v r) e n) (lowered-down levelsBelow f (recordRead f v r) e n)
 
-      go : (b : Bool) → recordThere f v r ≡ b → Counts ToLevels (levelsLooked f v left (cond b (At (recordRead f v r)) Missing))
+      go : (b : Bool) → recordThere f v r ≡ b → Counts ToLevels (levelsBy f v left (cond b (There (recordRead f v r)) Missing))
       go true h = chain h (indexed f (recordRead f v r) (v + 20) 0 left) (indexed-chained f (recordRead f v r) left (v + 20) 0)
       go false h = tt

@@ -14,8 +14,8 @@ use Rattle.records.specs.Attributes.{adrRight, adrRule, aedrRight, aedrRule}
 use Rattle.records.proofs.Judged.{reach-zero}
 use Rattle.variables.specs.Vdr.{variableOf}
 use Rattle.variables.proofs.Known.{vdr-inside}
-use Rattle.lookup.specs.Lists.{meets, placeWay, kindAmong, variableWay, attributeWay, entriesPlace, entryWay}
-use Rattle.lookup.specs.Opened.{Opened}
+use Rattle.lookup.specs.Lists.{meets, placeWay, kindAmong, variableWay, attributeWay, headOfEntries, entryWay}
+use Rattle.lookup.specs.Bounds.{Opened}
 use Rattle.lookup.specs.declared.lists.Wanted.{Wanted}
 use Rattle.lookup.specs.declared.lists.Way.{Way}
 use Rattle.lookup.specs.declared.lists.Way.the-variants.{Found, Stopped}
@@ -53,7 +53,7 @@ module _ (f : List ℕ) where
   pub entry-finds : (a k : ℤ) (w : Wanted) → Finds (Met f (kindAmong 5 9 k)) (entryWay f a k w)
   entry-finds a k w =
       let t = kindAmong 5 9 k in
-      in-opened (ToEntry a k w) t (λ o r. first-met (bodyOf f) t w (r .adr + entriesPlace t) 0 o (r .entry))
+      in-opened (ToEntry a k w) t (λ o r. first-met (bodyOf f) t w (headOfEntries (r .adr) t) 0 o (r .entry))
       (entryWay f a k w) (entry-found f a k w)
 
 judged-zero : (f : List ℕ) (o n : ℕ) (right : Bool) → judged f o n right ≡ 0 → o + n ≤ length f

@@ -10,7 +10,7 @@ use lib.Dec.{T}
 use lib.IntN.{ℤ, pos, negsuc}
 use lib.Signed.{ltZ}
 use Rattle.format.specs.Fields.{linkAt, natOr}
-use Rattle.lookup.specs.Lists.{meets, wantedAt, overOf, lastLink, sought, headPlace, placeWay}
+use Rattle.lookup.specs.Lists.{meets, wantedAt, overOf, lastLink, sought, headOfList, placeWay}
 use Rattle.lookup.specs.declared.lists.Wanted.{Wanted}
 use Rattle.lookup.specs.declared.lists.Wanted.the-variants.{Place}
 use Rattle.lookup.specs.declared.lists.Way.the-variants.{Found, Stopped}
@@ -51,7 +51,7 @@ unfolding placeWay
 place-below f t (pos n) left e = absurd (omega (arith, ltb-true n 0 e))
 place-below f t (negsuc n) left e = refl
 
-pub place-at : (f : List ℕ) (t : ℕ) (n : ℤ) (left : ℕ) → ltZ n (pos 0) ≡ false → placeWay f t n left ≡ sought f t (Place (natOr 0 n)) (headPlace f t) 0 left
+pub place-at : (f : List ℕ) (t : ℕ) (n : ℤ) (left : ℕ) → ltZ n (pos 0) ≡ false → placeWay f t n left ≡ sought f t (Place (natOr 0 n)) (headOfList f t) 0 left
 unfolding placeWay
 place-at f t (pos n) left e = refl
 place-at f t (negsuc n) left e = absurd (subst T e tt)

@@ -11,7 +11,7 @@ use Rattle.records.specs.Opening.{tooLong, gdrAt, opening, bodyOf}
 use Rattle.format.proofs.Tests.{both}
 use Rattle.records.proofs.Bodies.{opening-passes, gdr-parts, body-le, opening-body}
 use Rattle.lookup.specs.Lists.{opened}
-use Rattle.lookup.specs.Opened.{Opened}
+use Rattle.lookup.specs.Bounds.{Opened}
 
 module _ (f : List ℕ) where
   -- the part before the end opens as the file does

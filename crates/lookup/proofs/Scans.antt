@@ -12,7 +12,8 @@ use Rattle.records.specs.declared.index.Entry.{Entry}
 use Rattle.format.proofs.Tests.{both}
 use Rattle.lookup.specs.declared.indexes.Scan.{Scan}
 use Rattle.lookup.specs.declared.indexes.Scan.the-variants.{Covering, Passed, Broken}
-use Rattle.lookup.specs.Indexes.{entryCovers, EntryFits, scanned}
+use Rattle.lookup.specs.Indexes.{entryCovers, scanned}
+use Rattle.lookup.specs.Bounds.{EntryFits}
 
 -- the entry that covers a record has small numbers
 pub covering-fits : (f : List ℕ) (x r : ℕ) (e : Entry) → Bounds f x e → entryCovers e r ≡ true → EntryFits r e

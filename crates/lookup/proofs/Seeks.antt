@@ -11,7 +11,8 @@ use Rattle.records.specs.Index.{usedAt, noLimit}
 use Rattle.lookup.specs.declared.indexes.Index.{Index}
 use Rattle.lookup.specs.declared.indexes.Index.the-variants.{Halted}
 use Rattle.lookup.specs.declared.indexes.Scan.{Scan}
-use Rattle.lookup.specs.Indexes.{scanned, indexMet, afterScan, lastIndex, indexed, IndexFits}
+use Rattle.lookup.specs.Indexes.{scanned, indexMet, afterScan, lastIndex, indexed}
+use Rattle.lookup.specs.Bounds.{IndexFits}
 
 module _ (f : List ℕ) (r p floor x : ℕ) (is : x ≡ linkAt f p) where
   -- the link y was read, n more records may be met

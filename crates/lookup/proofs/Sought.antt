@@ -11,7 +11,7 @@ use lib.Signed.{leZ}
 use borrow.Author.Tests.{eqb-true, le-leb}
 use Rattle.format.specs.Fields.{linkAt, natOr}
 use Rattle.records.specs.Opening.{bodyOf}
-use Rattle.lookup.specs.Lists.{meets, wantedAt, overOf, lastLink, sought, headPlace, allowance, opened, placeWay, fileWay, ofKinds, kindAmong, variableWay, attributeWay, entriesPlace, entriesOf, entryWay}
+use Rattle.lookup.specs.Lists.{meets, wantedAt, overOf, lastLink, sought, headOfList, allowance, opened, placeWay, fileWay, ofKinds, kindAmong, variableWay, attributeWay, headOfEntries, entriesOf, entryWay}
 use Rattle.lookup.specs.declared.lists.Wanted.{Wanted}
 use Rattle.lookup.specs.declared.lists.Wanted.the-variants.{Place}
 use Rattle.lookup.specs.declared.lists.Way.{Way}
@@ -85,20 +85,20 @@ module _ (f : List ℕ) (t : ℕ) (w : Wanted) where
 -- the record of type t at o is the n-th of its list; it and all before it can be met
 pub record Listed (f : List ℕ) (t : ℕ) (n : ℤ) (o : ℕ) : Type 0 where
   pub least : leZ (pos 0) n ≡ true
-  pub is : nth f (headPlace f t) (natOr 0 n) ≡ o
-  pub met : (h : ℕ) → h ≤ natOr 0 n → meets f t (nth f (headPlace f t) h) ≡ true
+  pub is : nth f (headOfList f t) (natOr 0 n) ≡ o
+  pub met : (h : ℕ) → h ≤ natOr 0 n → meets f t (nth f (headOfList f t) h) ≡ true
 
 pub listed-met : (f : List ℕ) (t : ℕ) (n : ℤ) (o : ℕ) → Listed f t n o → meets f t o ≡ true
 listed-met f t n o r = rw (sym (r .is)) (r .met (natOr 0 n) (omega arith))
 
 pub place-listed : (f : List ℕ) (t : ℕ) (n : ℤ) (left : ℕ) → Finds (Listed f t n) (placeWay f t n left)
 unfolding placeWay
-place-listed f t (pos n) left = go (sought f t (Place n) (headPlace f t) 0 left) (sought-first f t (Place n) left (headPlace f t) 0)
+place-listed f t (pos n) left = go (sought f t (Place n) (headOfList f t) 0 left) (sought-first f t (Place n) left (headOfList f t) 0)
   where
-    go : (s : Way) → Finds (First f t (Place n) (headPlace f t) 0) s → Finds (Listed f t (pos n)) s
+    go : (s : Way) → Finds (First f t (Place n) (headOfList f t) 0) s → Finds (Listed f t (pos n)) s
     go (Found o rest) r =
         let e : r .place ≡ n = omega (arith, eqb-true (0 + r .place) n (r .wanted)) in
-        record { least = le-leb 0 n (omega arith); is = ap (nth f (headPlace f t)) (sym e) ∙ r .is; met = λ h l. r .met h (omega arith) }
+        record { least = le-leb 0 n (omega arith); is = ap (nth f (headOfList f t)) (sym e) ∙ r .is; met = λ h l. r .met h (omega arith) }
     go (Stopped v) r = tt
 place-listed f t (negsuc n) left = tt
 
@@ -137,14 +137,14 @@ pub record ToEntry (a k : ℤ) (w : Wanted) (f : List ℕ) (e : ℕ) : Type 0 wh
   pub kind : ofKinds 5 9 k ≡ true
   pub adr : ℕ
   pub attribute : Listed f 4 a adr
-  pub entry : First f (kindAmong 5 9 k) w (adr + entriesPlace (kindAmong 5 9 k)) 0 e
+  pub entry : First f (kindAmong 5 9 k) w (headOfEntries adr (kindAmong 5 9 k)) 0 e
 
 pub entry-found : (f : List ℕ) (a k : ℤ) (w : Wanted) → Finds (InOpened f (ToEntry a k w)) (entryWay f a k w)
 unfolding entryWay
 entry-found f a k w = go (opened f) refl (ofKinds 5 9 k) refl (fileWay f 4 a) (place-listed (bodyOf f) 4 a (allowance f))
   where
     on : opened f ≡ true → ofKinds 5 9 k ≡ true → (d : ℕ) → Listed (bodyOf f) 4 a d → (s : Way)
-        → Finds (First (bodyOf f) (kindAmong 5 9 k) w (d + entriesPlace (kindAmong 5 9 k)) 0) s
+        → Finds (First (bodyOf f) (kindAmong 5 9 k) w (headOfEntries d (kindAmong 5 9 k)) 0) s
         → Finds (InOpened f (ToEntry a k w)) s
     on h e d l (Found o left) r = (h, record { kind = e; adr = d; attribute = l; entry = r })
     on h e d l (Stopped m) r = tt
@@ -152,8 +152,8 @@ entry-found f a k w = go (opened f) refl (ofKinds 5 9 k) refl (fileWay f 4 a) (p
     go : (b : Bool) → opened f ≡ b → (c : Bool) → ofKinds 5 9 k ≡ c → (s : Way) → Finds (Listed (bodyOf f) 4 a) s
         → Finds (InOpened f (ToEntry a k w)) (cond b (cond c (entriesOf (bodyOf f) (kindAmong 5 9 k) w s) (Stopped 15)) (Stopped 20))
     go true h true e (Found d left) r =
-        on h e d r (sought (bodyOf f) (kindAmong 5 9 k) w (d + entriesPlace (kindAmong 5 9 k)) 0 left)
-        (sought-first (bodyOf f) (kindAmong 5 9 k) w left (d + entriesPlace (kindAmong 5 9 k)) 0)
+        on h e d r (sought (bodyOf f) (kindAmong 5 9 k) w (headOfEntries d (kindAmong 5 9 k)) 0 left)
+        (sought-first (bodyOf f) (kindAmong 5 9 k) w left (headOfEntries d (kindAmong 5 9 k)) 0)
     go true h true e (Stopped m) r = tt
     go true h false e s r = tt
     go false h c e s r = tt

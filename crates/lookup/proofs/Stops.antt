@@ -9,14 +9,14 @@ use Rattle.records.specs.Index.{usedAt, indexAt, noLimit}
 use Rattle.records.specs.Opening.{bodyOf}
 use Rattle.records.specs.Tree.{levelsBelow}
 use Rattle.records.specs.declared.index.Entry.{Entry}
-use Rattle.lookup.specs.Lists.{opened, allowance, isEntryKind, meets, wantedAt, overOf, lastLink, sought, headPlace, placeWay, fileWay, ofKinds, kindAmong, variableWay, entriesPlace, entriesOf, entryWay}
-use Rattle.lookup.specs.Indexes.{lookedUp, scanned, indexMet, afterScan, lastIndex, indexed, lowerMet, lowerScan, afterLower, lowered, lowestOf, valuesMet, valuesOf, looked, recordPlace, recordWay}
+use Rattle.lookup.specs.Lists.{opened, allowance, isEntryKind, meets, wantedAt, overOf, lastLink, sought, headOfList, placeWay, fileWay, ofKinds, kindAmong, variableWay, headOfEntries, entriesOf, entryWay}
+use Rattle.lookup.specs.Indexes.{recordNumber, scanned, indexMet, afterScan, lastIndex, indexed, lowerMet, lowerScan, afterLower, lowered, lowestOf, valuesMet, valuesOf, valuesBy, recordAt, recordWay}
 use Rattle.lookup.specs.declared.lists.Wanted.{Wanted}
 use Rattle.lookup.specs.declared.lists.Wanted.the-variants.{Place}
 use Rattle.lookup.specs.declared.lists.Way.{Way}
 use Rattle.lookup.specs.declared.lists.Way.the-variants.{Found, Stopped}
-use Rattle.lookup.specs.declared.indexes.Looked.{Looked}
-use Rattle.lookup.specs.declared.indexes.Looked.the-variants.{At, Missing}
+use Rattle.lookup.specs.declared.indexes.RecordNumber.{RecordNumber}
+use Rattle.lookup.specs.declared.indexes.RecordNumber.the-variants.{There, Missing}
 use Rattle.lookup.specs.declared.indexes.Scan.{Scan}
 use Rattle.lookup.specs.declared.indexes.Scan.the-variants.{Covering, Passed, Broken}
 use Rattle.lookup.specs.declared.indexes.Index.{Index}
@@ -64,7 +64,7 @@ module _ (P : ℕ → Type 0) (none : P 15) (missing : P 16) (gap : P 17) (broke
 
   place-stops : (t : ℕ) (n : ℤ) (left : ℕ) → Stops P (placeWay f t n left)
   unfolding placeWay
-  place-stops t (pos n) left = sought-stops t (Place n) left (headPlace f t) 0
+  place-stops t (pos n) left = sought-stops t (Place n) left (headOfList f t) 0
   place-stops t (negsuc n) left = none
 
   -- ---- through an index
@@ -106,13 +106,13 @@ module _ (P : ℕ → Type 0) (none : P 15) (missing : P 16) (gap : P 17) (broke
 
   pub record-refuses : (v bytes : ℕ) (r : ℤ) (left : ℕ) → Refuses P (recordWay f v bytes r left)
   unfolding recordWay
-  record-refuses v bytes r left = go (lookedUp f v r)
+  record-refuses v bytes r left = go (recordNumber f v r)
     where
       at-values : (q : ℕ) (s : Index) → Halts P s → Refuses P (valuesOf f q bytes s)
       at-values q (Halted m) h = h
       at-values q (Covered e rest) h = met (valuesMet f e bytes rest)
         where
-          met : (b : Bool) → Refuses P (cond b (Record (recordPlace e q bytes)) (Refused 20))
+          met : (b : Bool) → Refuses P (cond b (Record (recordAt e q bytes)) (Refused 20))
           met true = tt
           met false = broken
 
@@ -120,8 +120,8 @@ module _ (P : ℕ → Type 0) (none : P 15) (missing : P 16) (gap : P 17) (broke
       at-lowest q (Covered e rest) h = at-values q (lowered levelsBelow f q e rest) (lowered-halts levelsBelow q e rest)
       at-lowest q (Halted m) h = h
 
-      go : (l : Looked) → Refuses P (looked f v bytes left l)
-      go (At q) = at-lowest q (indexed f q (v + 20) 0 left) (indexed-halts q left (v + 20) 0)
+      go : (l : RecordNumber) → Refuses P (valuesBy f v bytes left l)
+      go (There q) = at-lowest q (indexed f q (v + 20) 0 left) (indexed-halts q left (v + 20) 0)
       go Missing = missing
 
 -- ---- of a file, along its body
@@ -140,7 +140,7 @@ module _ (P : ℕ → Type 0) (none : P 15) (missing : P 16) (gap : P 17) (broke
   entry-stops a k w = go (opened f) (ofKinds 5 9 k) (fileWay f 4 a) (place-stops P none missing gap broken (bodyOf f) 4 a (allowance f))
     where
       go : (b c : Bool) (s : Way) → Stops P s → Stops P (cond b (cond c (entriesOf (bodyOf f) (kindAmong 5 9 k) w s) (Stopped 15)) (Stopped 20))
-      go true true (Found d left) h = sought-stops P none missing gap broken (bodyOf f) (kindAmong 5 9 k) w left (d + entriesPlace (kindAmong 5 9 k)) 0
+      go true true (Found d left) h = sought-stops P none missing gap broken (bodyOf f) (kindAmong 5 9 k) w left (headOfEntries d (kindAmong 5 9 k)) 0
       go true true (Stopped m) h = h
       go true false s h = none
       go false c s h = broken

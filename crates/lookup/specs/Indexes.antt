@@ -1,17 +1,18 @@
 -- The way through the index of a variable to the values of a record. Document 01, "Values". Assumes nothing.
-use Prim.Native.Nat.{ℕ, zero, suc, _+_, _-_, _*_, _≤_, _<_}
+use Prim.Native.Nat.{ℕ, zero, suc, _+_, _-_, _*_}
 use mathlib.Core.Bool.{Bool, cond, _&&_}
 use mathlib.Core.List.{List}
 use lib.Dec.{leb, eqb}
 use lib.IntN.{ℤ, pos}
 use lib.Signed.{leZ}
 use Rattle.format.specs.Fields.{fieldAt, atLeast, linkAt, natOr, bitAt}
+use Rattle.records.specs.Layout.{nextAt, maxRecAt, headOfIndex, varFlagsAt, valuesAt}
 use Rattle.records.specs.Index.{usedAt, vxrRule, indexAt, noLimit, entryOf, vvrRule}
 use Rattle.records.specs.Tree.{levelsBelow}
 use Rattle.records.specs.declared.index.Entry.{Entry}
 use Rattle.lookup.specs.Lists.{landsOn}
-use Rattle.lookup.specs.declared.indexes.Looked.{Looked}
-use Rattle.lookup.specs.declared.indexes.Looked.the-variants.{At, Missing}
+use Rattle.lookup.specs.declared.indexes.RecordNumber.{RecordNumber}
+use Rattle.lookup.specs.declared.indexes.RecordNumber.the-variants.{There, Missing}
 use Rattle.lookup.specs.declared.indexes.Scan.{Scan}
 use Rattle.lookup.specs.declared.indexes.Scan.the-variants.{Covering, Passed, Broken}
 use Rattle.lookup.specs.declared.indexes.Index.{Index}
@@ -23,31 +24,22 @@ use Rattle.lookup.specs.declared.indexes.Levels.the-variants.{Are, Unkno
 
 -- "bit 0 record variance" of the VDR at v
 abbrev pub recordVaries : List ℕ → ℕ → Bool
-recordVaries f v = bitAt f (v + 28) 1
-
--- VDR: "MaxRec 16"
-abbrev pub maxRecPlace : ℕ → ℕ
-maxRecPlace v = v + 16
+recordVaries f v = bitAt f (varFlagsAt v) 1
 
 -- "A record number from 0 to MaxRec is looked up; with record variance clear any number from 0 reads record 0, and 16 is given if MaxRec is -1"
 unfoldable pub recordThere : List ℕ → ℕ → ℤ → Bool
-recordThere f v r = leZ (pos 0) r && cond (recordVaries f v) (leZ r (fieldAt f (maxRecPlace v))) (atLeast f (maxRecPlace v) (pos 0))
+recordThere f v r = leZ (pos 0) r && cond (recordVaries f v) (leZ r (fieldAt f (maxRecAt v))) (atLeast f (maxRecAt v) (pos 0))
 
 unfoldable pub recordRead : List ℕ → ℕ → ℤ → ℕ
 recordRead f v r = cond (recordVaries f v) (natOr 0 r) 0
 
-unfoldable pub lookedUp : List ℕ → ℕ → ℤ → Looked
-lookedUp f v r = cond (recordThere f v r) (At (recordRead f v r)) Missing
+-- the record number that is looked up, or none
+unfoldable pub recordNumber : List ℕ → ℕ → ℤ → RecordNumber
+recordNumber f v r = cond (recordThere f v r) (There (recordRead f v r)) Missing
 
 -- "The index entry whose First..Last covers it"
 abbrev pub entryCovers : Entry → ℕ → Bool
 entryCovers e r = leb (e .first) r && leb r (e .last)
-
-pub record EntryFits (r : ℕ) (e : Entry) : Type 0 where
-  pub first : e .first ≤ r
-  pub last : r ≤ e .last
-  pub small : e .last < 2147483648
-  pub link : e .link < 2147483648
 
 -- n used entries of the VXR x from entry i on, to the one that covers r; "index entries rise as in the check, offsets passed over
 -- unjudged"; none ends above most
@@ -77,11 +69,11 @@ indexed f r p floor zero = lastIndex f p
 indexed f r p floor (suc left) =
     let x = linkAt f p in
     cond (eqb x 0) (Halted 17)
-    (cond (indexMet f x) (afterScan (scanned f x r noLimit (usedAt f x) 0 floor) left (λ upper. indexed f r (x + 8) upper left)) (Halted 20))
+    (cond (indexMet f x) (afterScan (scanned f x r noLimit (usedAt f x) 0 floor) left (λ upper. indexed f r (nextAt x) upper left)) (Halted 20))
 
 -- ---- request #104: a lower record can be met; "a lower record has next 0"
 unfoldable pub lowerMet : List ℕ → ℕ → Bool
-lowerMet f x = indexMet f x && eqb (linkAt f (x + 8)) 0
+lowerMet f x = indexMet f x && eqb (linkAt f (nextAt x)) 0
 
 -- the used entries of the lower record that the entry e names, to the one that covers r: "its ranges rise within the naming entry's"
 abbrev pub lowerScan : List ℕ → ℕ → Entry → Scan
@@ -110,26 +102,27 @@ lowestOf f r (Halted v) = Halted v
 unfoldable pub valuesMet : List ℕ → Entry → ℕ → ℕ → Bool
 valuesMet f e bytes left = leb 1 left && (landsOn f 7 (e .link) && eqb (vvrRule f (e .link) (e .last - e .first + 1) bytes) 0)
 
--- where record r begins in the values that an entry names
-abbrev pub recordPlace : Entry → ℕ → ℕ → ℕ
-recordPlace e r bytes = e .link + 8 + (r - e .first) * bytes
+-- the offset of record r in the values that an entry names
+abbrev pub recordAt : Entry → ℕ → ℕ → ℕ
+recordAt e r bytes = valuesAt (e .link) + (r - e .first) * bytes
 
 -- the values of record r that an entry names
 abbrev pub valuesNamed : List ℕ → ℕ → ℕ → Entry → ℕ → Values
-valuesNamed f r bytes e left = cond (valuesMet f e bytes left) (Record (recordPlace e r bytes)) (Refused 20)
+valuesNamed f r bytes e left = cond (valuesMet f e bytes left) (Record (recordAt e r bytes)) (Refused 20)
 
 -- and those where its index ends
 abbrev pub valuesOf : List ℕ → ℕ → ℕ → Index → Values
 valuesOf f r bytes (Covered e left) = valuesNamed f r bytes e left
 valuesOf f r bytes (Halted v) = Refused v
 
-abbrev pub looked : List ℕ → ℕ → ℕ → ℕ → Looked → Values
-looked f v bytes left (At r) = valuesOf f r bytes (lowestOf f r (indexed f r (v + 20) 0 left))
-looked f v bytes left Missing = Refused 16
+-- the values by record number
+abbrev pub valuesBy : List ℕ → ℕ → ℕ → ℕ → RecordNumber → Values
+valuesBy f v bytes left (There r) = valuesOf f r bytes (lowestOf f r (indexed f r (headOfIndex v) 0 left))
+valuesBy f v bytes left Missing = Refused 16
 
 -- THE WAY TO A RECORD of the variable whose VDR is at v, where left more records may be met
 unfoldable pub recordWay : List ℕ → ℕ → ℕ → ℤ → ℕ → Values
-recordWay f v bytes r left = looked f v bytes left (lookedUp f v r)
+recordWay f v bytes r left = valuesBy f v bytes left (recordNumber f v r)
 
 -- ---- the levels of an index on the way to r, from the covering entry e down to the lowest one, where at most n lie below e's. One where
 -- e names no lower record, whatever else it names; else one more than from the entry that covers r there
@@ -151,28 +144,10 @@ abbrev pub levelsOf : List ℕ → ℕ → Index → Levels
 levelsOf f r (Covered e left) = levelsTold f r e (lowered levelsBelow f r e left)
 levelsOf f r (Halted v) = Unknown v
 
-abbrev pub levelsLooked : List ℕ → ℕ → ℕ → Looked → Levels
-levelsLooked f v left (At r) = levelsOf f r (indexed f r (v + 20) 0 left)
-levelsLooked f v left Missing = Unknown 16
+abbrev pub levelsBy : List ℕ → ℕ → ℕ → RecordNumber → Levels
+levelsBy f v left (There r) = levelsOf f r (indexed f r (headOfIndex v) 0 left)
+levelsBy f v left Missing = Unknown 16
 
 -- HOW MANY LEVELS the index of the variable whose VDR is at v has on the way to a record, where left more records may be met
 unfoldable pub levelsWay : List ℕ → ℕ → ℤ → ℕ → Levels
-levelsWay f v r left = levelsLooked f v left (lookedUp f v r)
-
--- the bounds of what the code finds
-abbrev pub ScanFits : ℕ → Scan → Type 0
-ScanFits r (Covering e) = EntryFits r e
-ScanFits r (Passed floor) = floor ≤ 2147483648
-ScanFits r Broken = Unit {0}
-
-abbrev pub IndexFits : ℕ → Index → Type 0
-IndexFits r (Covered e left) = EntryFits r e
-IndexFits r (Halted v) = Unit {0}
-
-abbrev pub ValuesFits : Values → Type 0
-ValuesFits (Record at) = at < 9223372036854775808
-ValuesFits (Refused v) = Unit {0}
-
-abbrev pub LevelsFit : Levels → Type 0
-LevelsFit (Are n) = n ≤ 8
-LevelsFit (Unknown v) = Unit {0}
+levelsWay f v r left = levelsBy f v left (recordNumber f v r)

@@ -6,6 +6,7 @@ use lib.ListN.{length}
 use lib.Dec.{leb, eqb}
 use lib.IntN.{ℤ, pos, negsuc}
 use Rattle.format.specs.Fields.{endOf, eqZ, isAt, linkAt}
+use Rattle.records.specs.Layout.{nextAt, headOfRVariables, headOfZVariables, headOfAttributes, headOfGrEntries, headOfZEntries, entryNumAt}
 use Rattle.records.specs.Rules.{sizeAt, typedAt}
 use Rattle.records.specs.Opening.{tooLong, gdrAt, opening, bodyOf}
 use Rattle.records.specs.Attributes.{adrRule, aedrRule}
@@ -48,7 +49,7 @@ meets f t o = landsOn f t o && ruleKept f t o
 -- the record at o, at the place i of its list, is the wanted one: "the wanted place", or "the first of that number"
 abbrev pub wantedAt : List ℕ → Wanted → ℕ → ℕ → Bool
 wantedAt f (Place n) i o = eqb i n
-wantedAt f (Number n) i o = isAt f (o + 20) n
+wantedAt f (Number n) i o = isAt f (entryNumAt o) n
 
 -- "15 (list over)", and 16 for a list of entries
 abbrev pub overOf : ℕ → ℕ
@@ -64,15 +65,16 @@ sought f t w p i zero = lastLink f t p
 sought f t w p i (suc left) =
     let o = linkAt f p in
     cond (eqb o 0) (Stopped (overOf t))
-    (cond (meets f t o) (cond (wantedAt f w i o) (Found o left) (sought f t w (o + 8) (suc i) left)) (Stopped 20))
+    (cond (meets f t o) (cond (wantedAt f w i o) (Found o left) (sought f t w (nextAt o) (suc i) left)) (Stopped 20))
 
 -- "Heads: rVDR 8, zVDR 12, ADR 16"
-abbrev pub headPlace : List ℕ → ℕ → ℕ
-headPlace f t = gdrAt f + cond (eqb t 3) 8 (cond (eqb t 8) 12 16)
+-- the offset of the GDR's link to its list of records of type t
+abbrev pub headOfList : List ℕ → ℕ → ℕ
+headOfList f t = cond (eqb t 3) (headOfRVariables (gdrAt f)) (cond (eqb t 8) (headOfZVariables (gdrAt f)) (headOfAttributes (gdrAt f)))
 
 -- a list of the GDR from its head to a place, where left records may be met; "a place below 0, is 15 after the GDR"
 unfoldable pub placeWay : List ℕ → ℕ → ℤ → ℕ → Way
-placeWay f t (pos n) left = sought f t (Place n) (headPlace f t) 0 left
+placeWay f t (pos n) left = sought f t (Place n) (headOfList f t) 0 left
 placeWay f t (negsuc n) left = Stopped 15
 
 -- "the sweep, links and indexes end at eof": of a file that opens the part before its end is gone through, where as many records may be
@@ -96,13 +98,13 @@ variableWay f k n = cond (opened f) (cond (ofKinds 3 8 k) (fileWay f (kindAmong 
 unfoldable pub attributeWay : List ℕ → ℤ → Way
 attributeWay f n = cond (opened f) (fileWay f 4 n) (Stopped 20)
 
--- "AgrEDR head 12", "AzEDR head 36"
-abbrev pub entriesPlace : ℕ → ℕ
-entriesPlace k = cond (eqb k 9) 36 12
+-- "AgrEDR head 12", "AzEDR head 36": the link to the entries of kind k of the ADR at a
+abbrev pub headOfEntries : ℕ → ℕ → ℕ
+headOfEntries a k = cond (eqb k 9) (headOfZEntries a) (headOfGrEntries a)
 
 -- "for an entry, the ADR's list to the first of that number or its end"
 abbrev pub entriesOf : List ℕ → ℕ → Wanted → Way → Way
-entriesOf f k w (Found a left) = sought f k w (a + entriesPlace k) 0 left
+entriesOf f k w (Found a left) = sought f k w (headOfEntries a k) 0 left
 entriesOf f k w (Stopped v) = Stopped v
 
 -- THE WAY TO AN ENTRY of an attribute, of a kind

@@ -3,12 +3,14 @@ ghost use mathlib.Core.Path.{_≡_};
 ghost use mathlib.Core.Bool.{true};
 ghost use Prim.Native.Nat.{_+_, _-_, _*_, _≤_, _<_};
 ghost use lib.ListN.{length};
-ghost use Rattle.lookup.specs.Indexes.{lookedUp, entryCovers, EntryFits, ScanFits, IndexFits, ValuesFits, scanned, indexMet, lowerMet, lowered, lowestOf, indexed, lastIndex, valuesMet, recordPlace, valuesNamed, valuesOf, recordWay, levelsTold, levelsOf, levelsWay, LevelsFit};
+ghost use Rattle.lookup.specs.Indexes.{recordNumber, entryCovers, scanned, indexMet, lowerMet, lowered, lowestOf, indexed, lastIndex, valuesMet, recordAt, valuesNamed, valuesOf, recordWay, levelsTold, levelsOf, levelsWay};
+ghost use Rattle.lookup.specs.Bounds.{EntryFits, ScanFits, IndexFits, ValuesFits, LevelsFit};
 ghost use Rattle.records.specs.Tree.{levelsBelow};
 use crate::lists;
 use format::fields;
 use records::index;
 use records::index::Entry;
+use records::layout;
 
 // What the used entries of a VXR say of a record: the one that covers it; none, and the last Last + 1; or a breach.
 pub enum Scan {
@@ -35,32 +37,32 @@ pub enum Levels {
     Unknown(u8),
 }
 
-// The record that a number reads, if there is one: 0 where record variance is clear.
-pub enum Looked {
-    At(u32),
+// The record number that is looked up, 0 where record variance is clear; or none.
+pub enum RecordNumber {
+    There(u32),
     Missing,
 }
 
-// The record that a number reads of the variable whose VDR is at an offset.
-fn looked_up(f: &[u8], v: u32, r: i64) -> Looked
+// The record number that is looked up of the variable whose VDR is at an offset.
+fn record_number(f: &[u8], v: u32, r: i64) -> RecordNumber
     requires { ⌜ v + 48 ≤ length (now f) ⌝ }
-    ensures { λ q. ⌜ q ≡ lookedUp (now (f .entry)) v r ⌝ }
+    ensures { λ q. ⌜ q ≡ recordNumber (now (f .entry)) v r ⌝ }
 {
-    let most = v as usize + 16;
+    let most = v as usize + layout::MAX_REC;
     if r < 0 {
-        return Looked::Missing;
+        return RecordNumber::Missing;
     }
     if !fields::at_least(f, most, 0) {
-        return Looked::Missing;
+        return RecordNumber::Missing;
     }
-    if !fields::bit(f, v as usize + 28, 1) {
-        return Looked::At(0);
+    if !fields::bit(f, v as usize + layout::VAR_FLAGS, 1) {
+        return RecordNumber::There(0);
     }
     let n = r as u64;
     if (fields::nat_at(f, most) as u64) < n {
-        return Looked::Missing;
+        return RecordNumber::Missing;
     }
-    Looked::At(n as u32)
+    RecordNumber::There(n as u32)
 }
 
 // An entry's range covers a record.
@@ -129,13 +131,13 @@ pub fn seek_record(f: &[u8], r: u32, link: usize, allowed: u32) -> Index
             return Index::Halted { number: 20 };
         }
         left -= 1;
-        let used = fields::nat_at(f, x as usize + 16);
+        let used = fields::nat_at(f, x as usize + layout::VXR_USED);
         let s = scan_entries(f, x, r, 2147483647, used, floor);
         match s {
             Scan::Covering(entry) => return Index::Covered { entry, left },
             Scan::Passed(upper) => {
                 floor = upper;
-                p = x as usize + 8;
+                p = x as usize + layout::NEXT_USIZE;
             }
             Scan::Broken => return Index::Halted { number: 20 },
         }
@@ -150,7 +152,7 @@ fn lower_met(f: &[u8], x: u32) -> bool
     if !index_met(f, x) {
         return false;
     }
-    fields::link_at(f, x as usize + 8) == 0
+    fields::link_at(f, x as usize + layout::NEXT_USIZE) == 0
 }
 
 // From the entry that covers a record down to the lowest one, with so many levels left and where so many records may be met.
@@ -171,7 +173,14 @@ fn go_down(f: &[u8], r: u32, e: Entry, left: u32, levels: u32) -> Index
     if !lower_met(f, x) {
         return Index::Halted { number: 20 };
     }
-    let s = scan_entries(f, x, r, e.last, fields::nat_at(f, x as usize + 16), e.first);
+    let s = scan_entries(
+        f,
+        x,
+        r,
+        e.last,
+        fields::nat_at(f, x as usize + layout::VXR_USED),
+        e.first,
+    );
     match s {
         Scan::Covering(d) => go_down(f, r, d, left - 1, levels - 1),
         Scan::Passed(_) => Index::Halted { number: 17 },
@@ -193,13 +202,13 @@ fn values_met(f: &[u8], r: u32, e: Entry, bytes: u32, left: u32) -> bool
     index::vvr(f, e.link, e.last - e.first + 1, bytes) == 0
 }
 
-// Where a record begins in the values that an entry names.
-fn record_place(r: u32, e: Entry, bytes: u32) -> u64
+// The offset of a record in the values that an entry names.
+fn record_at(r: u32, e: Entry, bytes: u32) -> u64
     requires { ⌜ EntryFits r e ⌝ }
-    ensures { λ q. ⌜ (q ≡ recordPlace e r bytes) × (q < 9223372036854775808) ⌝ }
+    ensures { λ q. ⌜ (q ≡ recordAt e r bytes) × (q < 9223372036854775808) ⌝ }
 {
     let before = (r - e.first) as u64;
-    e.link as u64 + 8 + before * bytes as u64
+    e.link as u64 + layout::VALUES as u64 + before * bytes as u64
 }
 
 // The values of a record that an entry names.
@@ -208,7 +217,7 @@ fn values_named(f: &[u8], r: u32, bytes: u32, e: Entry, left: u32) -> Values
     ensures { λ q. ⌜ (q ≡ valuesNamed (now (f .entry)) r bytes e left) × ValuesFits q ⌝ }
 {
     if values_met(f, r, e, bytes, left) {
-        return Values::Record(record_place(r, e, bytes));
+        return Values::Record(record_at(r, e, bytes));
     }
     Values::Refused(20)
 }
@@ -252,13 +261,13 @@ pub fn to_record(f: &[u8], v: u32, bytes: u32, r: i64, left: u32) -> Values
     requires { ⌜ v + 48 ≤ length (now f) ⌝ }
     ensures { λ q. ⌜ (q ≡ recordWay (now (f .entry)) v bytes r left) × ValuesFits q ⌝ }
 {
-    let n = looked_up(f, v, r);
+    let n = record_number(f, v, r);
     match n {
-        Looked::At(k) => {
-            let i = seek_record(f, k, v as usize + 20, left);
+        RecordNumber::There(k) => {
+            let i = seek_record(f, k, v as usize + layout::HEAD_OF_INDEX_USIZE, left);
             values_below(f, k, bytes, i)
         }
-        Looked::Missing => Values::Refused(16),
+        RecordNumber::Missing => Values::Refused(16),
     }
 }
 
@@ -294,12 +303,12 @@ pub fn to_levels(f: &[u8], v: u32, r: i64, left: u32) -> Levels
     requires { ⌜ v + 48 ≤ length (now f) ⌝ }
     ensures { λ q. ⌜ (q ≡ levelsWay (now (f .entry)) v r left) × LevelsFit q ⌝ }
 {
-    let n = looked_up(f, v, r);
+    let n = record_number(f, v, r);
     match n {
-        Looked::At(k) => {
-            let i = seek_record(f, k, v as usize + 20, left);
+        RecordNumber::There(k) => {
+            let i = seek_record(f, k, v as usize + layout::HEAD_OF_INDEX_USIZE, left);
             levels_of(f, k, i)
         }
-        Looked::Missing => Levels::Unknown(16),
+        RecordNumber::Missing => Levels::Unknown(16),
     }
 }

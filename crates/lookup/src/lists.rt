@@ -5,11 +5,12 @@ ghost use Prim.Native.Nat.{_+_, _≤_, _<_};
 ghost use lib.ListN.{length};
 ghost use Rattle.format.specs.Fields.{isAt};
 ghost use Rattle.records.specs.Opening.{gdrAt, bodyOf};
-ghost use Rattle.lookup.specs.Lists.{opened, allowance, landsOn, isEntryKind, vdrKept, ruleKept, meets, wantedAt, overOf, lastLink, sought, headPlace, placeWay, kindAmong, variableWay, attributeWay, entriesPlace, entriesOf, entryWay};
-ghost use Rattle.lookup.specs.Opened.{Opened};
+ghost use Rattle.lookup.specs.Lists.{opened, allowance, landsOn, isEntryKind, vdrKept, ruleKept, meets, wantedAt, overOf, lastLink, sought, headOfList, placeWay, kindAmong, variableWay, attributeWay, headOfEntries, entriesOf, entryWay};
+ghost use Rattle.lookup.specs.Bounds.{Opened};
 ghost use Rattle.lookup.specs.declared.lists.Way.the-variants.{Stopped};
 use format::fields;
 use records::attributes;
+use records::layout;
 use records::opening;
 use variables::vdr;
 
@@ -47,7 +48,7 @@ pub fn lands(f: &[u8], t: u32, o: u32) -> bool
     if end < at + 8 {
         return false;
     }
-    fields::is_nat(f, at + 4, t) & (at + fields::nat_at(f, at) as usize <= end)
+    fields::is_nat(f, at + layout::TYPE, t) & (at + fields::nat_at(f, at) as usize <= end)
 }
 
 // A record type is that of an entry.
@@ -106,7 +107,7 @@ fn is_wanted(f: &[u8], w: Wanted, i: u32, o: u32) -> bool
 {
     match w {
         Wanted::Place(n) => i as u64 == n,
-        Wanted::Number(n) => is_number(f, o as usize + 20, n),
+        Wanted::Number(n) => is_number(f, o as usize + layout::ENTRY_NUM, n),
     }
 }
 
@@ -152,7 +153,7 @@ pub fn seek(f: &[u8], t: u32, w: Wanted, link: usize, allowed: u32) -> Way
         if is_wanted(f, w, i, o) {
             return Way::Found { at: o, left };
         }
-        p = o as usize + 8;
+        p = o as usize + layout::NEXT_USIZE;
         i += 1;
     }
     last_link(f, t, p)
@@ -166,18 +167,18 @@ fn allowed(f: &[u8]) -> u32
     (f.len() / 8 - 2) as u32
 }
 
-// Where the GDR's link to a list of records of a type stands.
-fn head(b: &[u8], t: u32) -> usize
+// The offset of the GDR's link to a list of records of a type.
+fn head_of_list(b: &[u8], t: u32) -> usize
     requires { ⌜ gdrAt (now b) + 60 ≤ length (now b) ⌝ }
-    ensures { λ r. ⌜ (r ≡ headPlace (now (b .entry)) t) × (r + 4 ≤ length (now (b .entry))) ⌝ }
+    ensures { λ r. ⌜ (r ≡ headOfList (now (b .entry)) t) × (r + 4 ≤ length (now (b .entry))) ⌝ }
 {
-    let g = fields::link_at(b, 16) as usize;
+    let g = fields::link_at(b, layout::GDR_LINK) as usize;
     if t == 3 {
-        g + 8
+        g + layout::HEAD_OF_R_VARIABLES_USIZE
     } else if t == 8 {
-        g + 12
+        g + layout::HEAD_OF_Z_VARIABLES_USIZE
     } else {
-        g + 16
+        g + layout::HEAD_OF_ATTRIBUTES_USIZE
     }
 }
 
@@ -189,7 +190,7 @@ fn to_place(b: &[u8], t: u32, n: i64, left: u32) -> Way
     if n < 0 {
         return Way::Stopped { number: 15 };
     }
-    seek(b, t, Wanted::Place(n as u64), head(b, t), left)
+    seek(b, t, Wanted::Place(n as u64), head_of_list(b, t), left)
 }
 
 // The record type of a kind among two.
@@ -226,11 +227,16 @@ pub fn to_attribute(f: &[u8], b: &[u8], number: i64) -> Way
     to_place(b, 4, number, allowed(f))
 }
 
-// Where an ADR's link to its entries of a kind stands, from its start.
-fn entries_place(kind: u32) -> usize
-    ensures { λ r. ⌜ (r ≡ entriesPlace kind) × (r ≤ 36) ⌝ }
+// The offset of the link to the entries of a kind, of the ADR at an offset.
+fn head_of_entries(a: u32, kind: u32) -> usize
+    ensures { λ r. ⌜ (r ≡ headOfEntries a kind) × (r ≤ a + 36) ⌝ }
 {
-    if kind == 9 { 36 } else { 12 }
+    let at = a as usize;
+    if kind == 9 {
+        at + layout::HEAD_OF_Z_ENTRIES_USIZE
+    } else {
+        at + layout::HEAD_OF_GR_ENTRIES_USIZE
+    }
 }
 
 // The way to an entry of a kind, along the attributes and then along the attribute's entries.
@@ -240,7 +246,7 @@ fn to_listed(b: &[u8], attribute: i64, kind: u32, w: Wanted, allowed: u32) -> Wa
 {
     let way = to_place(b, 4, attribute, allowed);
     match way {
-        Way::Found { at, left } => seek(b, kind, w, at as usize + entries_place(kind), left),
+        Way::Found { at, left } => seek(b, kind, w, head_of_entries(at, kind), left),
         Way::Stopped { number } => Way::Stopped { number },
     }
 }

@@ -12,9 +12,10 @@ use lib.ListN.{length, length-append}
 use borrow.Author.Tests.{lt-ltb, le-ltb, eqb-true, eqb-false}
 use Rattle.format.specs.Fields.{fieldAt, eqZ, isAt, natOr}
 use Rattle.format.proofs.SignedTests.{eqZ-true}
+use Rattle.records.specs.Layout.{headOfRVariables, headOfZVariables, headOfAttributes, nrVarsAt, numAttrAt, nzVarsAt, headOfGrEntries, headOfZEntries}
 use Rattle.records.specs.Opening.{tooLong, gdrAt, bodyOf}
 use Rattle.records.proofs.Bodies.{body-le}
-use Rattle.lookup.specs.Lists.{opened, allowance, sought, placeWay, fileWay, ofKinds, kindAmong, variableWay, attributeWay, entriesPlace, entriesOf, entryWay}
+use Rattle.lookup.specs.Lists.{opened, allowance, sought, placeWay, fileWay, ofKinds, kindAmong, variableWay, attributeWay, headOfEntries, entriesOf, entryWay}
 use Rattle.lookup.specs.declared.lists.Wanted.{Wanted}
 use Rattle.lookup.specs.declared.lists.Wanted.the-variants.{Place}
 use Rattle.lookup.specs.declared.lists.Way.{Way}
@@ -104,30 +105,33 @@ module _ (f : List ℕ) (n : NestedAccepted f) where
   unfolding placeWay
   vars-on b (negsuc j) = (refl, inl refl)
   vars-on true (pos j) =
-      go (sought body 3 (Place j) (gdrAt body + 8) 0 (allowance f))
-      (variables-way body true (Place j) (gdrAt body + 8) (allowance f) (lay .0) (n .valid .obeys .1 .0) r-standing (omega (arith, enough)))
+      go (sought body 3 (Place j) (headOfRVariables (gdrAt body)) 0 (allowance f))
+      (variables-way body true (Place j) (headOfRVariables (gdrAt body)) (allowance f) (lay .0) (n .valid .obeys .1 .0) r-standing (omega (arith, enough)))
     where
       go : (s : Way) → OnVariables body 3 (Place j) (allowance f) (lay .0) s → VarsOn true (pos j) s
       go (Found v rest) a = a
       go (Stopped m) a = (a .number, inr (omega (arith, none-placed (lay .0) 0 j (omega arith) (a .none))))
   vars-on false (pos j) =
-      go (sought body 8 (Place j) (gdrAt body + 12) 0 (allowance f))
-      (variables-way body false (Place j) (gdrAt body + 12) (allowance f) (lay .1 .0) (n .valid .obeys .1 .1 .0) z-standing (omega (arith, enough)))
+      go (sought body 8 (Place j) (headOfZVariables (gdrAt body)) 0 (allowance f))
+      (variables-way body false (Place j) (headOfZVariables (gdrAt body)) (allowance f) (lay .1 .0) (n .valid .obeys .1 .1 .0) z-standing (omega (arith, enough)))
     where
       go : (s : Way) → OnVariables body 8 (Place j) (allowance f) (lay .1 .0) s → VarsOn false (pos j) s
       go (Found v rest) a = a
       go (Stopped m) a = (a .number, inr (omega (arith, none-placed (lay .1 .0) 0 j (omega arith) (a .none))))
 
   -- ---- "counts equal lengths"
-  vars-count : (b : Bool) → fieldAt body (gdrAt body + cond b 24 40) ≡ pos (length (varsOf b))
-  unfolding isAt
-  vars-count true = eqZ-true (fieldAt body (gdrAt body + 24)) (pos (length (lay .0))) (r-reads body (lay .0) (gdrAt body + 8) (n .valid .obeys .1 .0) .0 .counted)
-  vars-count false = eqZ-true (fieldAt body (gdrAt body + 40)) (pos (length (lay .1 .0))) (z-reads body (lay .1 .0) (gdrAt body + 12) (n .valid .obeys .1 .1 .0) .counted)
+  abbrev countAt : Bool → ℕ
+  countAt b = cond b (nrVarsAt (gdrAt body)) (nzVarsAt (gdrAt body))
 
-  attrs-count : fieldAt body (gdrAt body + 28) ≡ pos (length (lay .1 .1 .0))
+  vars-count : (b : Bool) → fieldAt body (countAt b) ≡ pos (length (varsOf b))
+  unfolding isAt
+  vars-count true = eqZ-true (fieldAt body (countAt true)) (pos (length (lay .0))) (r-reads body (lay .0) (headOfRVariables (gdrAt body)) (n .valid .obeys .1 .0) .0 .counted)
+  vars-count false = eqZ-true (fieldAt body (countAt false)) (pos (length (lay .1 .0))) (z-reads body (lay .1 .0) (headOfZVariables (gdrAt body)) (n .valid .obeys .1 .1 .0) .counted)
+
+  attrs-count : fieldAt body (numAttrAt (gdrAt body)) ≡ pos (length (lay .1 .1 .0))
   unfolding isAt
   attrs-count =
-      eqZ-true (fieldAt body (gdrAt body + 28)) (pos (length (lay .1 .1 .0))) (attrs-reads body (gdrAt body + 16) (lay .1 .1 .0) (n .valid .obeys .1 .1 .1 .0) .counted)
+      eqZ-true (fieldAt body (numAttrAt (gdrAt body))) (pos (length (lay .1 .1 .0))) (attrs-reads body (headOfAttributes (gdrAt body)) (lay .1 .1 .0) (n .valid .obeys .1 .1 .1 .0) .counted)
 
   no-place : (p len : ℕ) (j : ℤ) → fieldAt body p ≡ pos len → (leZ (pos 0) j ≡ false) ⊎ (len ≤ natOr 0 j) → placeThere body p j ≡ false
   no-place p len j e (inl h) = rw h
@@ -141,7 +145,7 @@ module _ (f : List ℕ) (n : NestedAccepted f) where
   pub variable-not-there : (k j : ℤ) → (ofKinds 3 8 k ≡ false) ⊎ NoPlace (varsOf (eqZ k (pos 3))) j → variableThere body k j ≡ false
   variable-not-there k j (inl e) = rw e
   variable-not-there k j (inr h) =
-      rw (no-place (gdrAt body + cond (eqZ k (pos 3)) 24 40) (length (varsOf (eqZ k (pos 3)))) j (vars-count (eqZ k (pos 3))) h) (and-false (ofKinds 3 8 k))
+      rw (no-place (countAt (eqZ k (pos 3))) (length (varsOf (eqZ k (pos 3)))) j (vars-count (eqZ k (pos 3))) h) (and-false (ofKinds 3 8 k))
 
   pub variable-is-there : (k j : ℤ) (v rest : ℕ) → ofKinds 3 8 k ≡ true → leZ (pos 0) j ≡ true
       → VariableIn body (kindAmong 3 8 k) (Place (natOr 0 j)) (allowance f) (varsOf (eqZ k (pos 3))) v rest → variableThere body k j ≡ true
@@ -149,7 +153,7 @@ module _ (f : List ℕ) (n : NestedAccepted f) where
       let b = a .found in
       let q : 0 + length (b .earlier) ≡ natOr 0 j = eqb-true (0 + length (b .earlier)) (natOr 0 j) (b .wanted) in
       let s = length-earlier (varsOf (eqZ k (pos 3))) (b .earlier) (b .later) (b .here) (b .split) in
-      rw (e, a-place (gdrAt body + cond (eqZ k (pos 3)) 24 40) (length (varsOf (eqZ k (pos 3)))) j (vars-count (eqZ k (pos 3))) h (omega (arith, q, s)))
+      rw (e, a-place (countAt (eqZ k (pos 3))) (length (varsOf (eqZ k (pos 3)))) j (vars-count (eqZ k (pos 3))) h (omega (arith, q, s)))
 
   -- THE WAY TO A VARIABLE comes to it, or to 15
   abbrev pub VariableOn : ℤ → ℤ → Way → Type 0
@@ -174,8 +178,8 @@ module _ (f : List ℕ) (n : NestedAccepted f) where
   unfolding placeWay
   attrs-on (negsuc j) = (refl, inl refl)
   attrs-on (pos j) =
-      go (sought body 4 (Place j) (gdrAt body + 16) 0 (allowance f))
-      (attributes-way body (Place j) (gdrAt body + 16) (allowance f) (lay .1 .1 .0) (n .valid .obeys .1 .1 .1 .0) ads-standing (omega (arith, enough)))
+      go (sought body 4 (Place j) (headOfAttributes (gdrAt body)) 0 (allowance f))
+      (attributes-way body (Place j) (headOfAttributes (gdrAt body)) (allowance f) (lay .1 .1 .0) (n .valid .obeys .1 .1 .1 .0) ads-standing (omega (arith, enough)))
     where
       go : (s : Way) → OnAttributes body (Place j) (allowance f) (lay .1 .1 .0) s → AttributeOn (pos j) s
       go (Found a rest) w = w
@@ -204,9 +208,9 @@ module _ (f : List ℕ) (n : NestedAccepted f) where
     pub entry : NoneIn body (cond b 5 9) w (λ e. e) 0 (entriesIn b (attribute .found .here)) m
 
   pub entries-linked : (b : Bool) (j : ℤ) (a left : ℕ) (i : AttributeIn body (Place (natOr 0 j)) (allowance f) (lay .1 .1 .0) a left)
-      → Linked body (λ e. e) (a + entriesPlace (cond b 5 9)) (entriesIn b (i .found .here))
-  entries-linked true j a left i = listed-reads body (entriesRules body 5 a) (a + 12) (i .found .here .grEntries) (i .gr) .linked
-  entries-linked false j a left i = listed-reads body (entriesRules body 9 a) (a + 36) (i .found .here .zEntries) (i .z) .linked
+      → Linked body (λ e. e) (headOfEntries a (cond b 5 9)) (entriesIn b (i .found .here))
+  entries-linked true j a left i = listed-reads body (entriesRules body 5 a) (headOfGrEntries a) (i .found .here .grEntries) (i .gr) .linked
+  entries-linked false j a left i = listed-reads body (entriesRules body 9 a) (headOfZEntries a) (i .found .here .zEntries) (i .z) .linked
 
   abbrev EntriesOn : Bool → ℤ → Wanted → Way → Type 0
   EntriesOn b j w (Found e rest) = EntryIn b j w e rest
@@ -218,8 +222,8 @@ module _ (f : List ℕ) (n : NestedAccepted f) where
       go : (b : Bool) (s : Way) → fileWay f 4 j ≡ s → AttributeOn j s → EntriesOn b j w (entriesOf body (cond b 5 9) w s)
       go b (Stopped m) q a = inl a
       go true (Found d left) q a =
-          on (sought body 5 w (d + 12) 0 left)
-          (entries-way body true w d (d + 12) left (a .found .here .grEntries) (a .gr)
+          on (sought body 5 w (headOfGrEntries d) 0 left)
+          (entries-way body true w d (headOfGrEntries d) left (a .found .here .grEntries) (a .gr)
           (λ o i. a .stands o (in-left (a .found .here .grEntries) (a .found .here .zEntries) o i))
           (omega (arith, a .room, length-append (a .found .here .grEntries) (a .found .here .zEntries))))
         where
@@ -227,8 +231,8 @@ module _ (f : List ℕ) (n : NestedAccepted f) where
           on (Found e rest) i = record { adr = d; left = left; attribute = a; entry = i }
           on (Stopped m) i = inr (i .number, record { adr = d; left = left; way = q; attribute = a; entry = i })
       go false (Found d left) q a =
-          on (sought body 9 w (d + 36) 0 left)
-          (entries-way body false w d (d + 36) left (a .found .here .zEntries) (a .z)
+          on (sought body 9 w (headOfZEntries d) 0 left)
+          (entries-way body false w d (headOfZEntries d) left (a .found .here .zEntries) (a .z)
           (λ o i. a .stands o (in-right (a .found .here .grEntries) (a .found .here .zEntries) o i))
           (omega (arith, a .room, length-append (a .found .here .grEntries) (a .found .here .zEntries))))
         where
@@ -238,7 +242,7 @@ module _ (f : List ℕ) (n : NestedAccepted f) where
 
   pub attribute-not-there : (j k : ℤ) → (ofKinds 5 9 k ≡ false) ⊎ NoPlace (lay .1 .1 .0) j → attributeThere body j k ≡ false
   attribute-not-there j k (inl e) = rw e
-  attribute-not-there j k (inr h) = rw (no-place (gdrAt body + 28) (length (lay .1 .1 .0)) j attrs-count h) (and-false (ofKinds 5 9 k))
+  attribute-not-there j k (inr h) = rw (no-place (numAttrAt (gdrAt body)) (length (lay .1 .1 .0)) j attrs-count h) (and-false (ofKinds 5 9 k))
 
   pub attribute-is-there : (j k : ℤ) (a rest : ℕ) → ofKinds 5 9 k ≡ true → leZ (pos 0) j ≡ true
       → AttributeIn body (Place (natOr 0 j)) (allowance f) (lay .1 .1 .0) a rest → attributeThere body j k ≡ true
@@ -246,7 +250,7 @@ module _ (f : List ℕ) (n : NestedAccepted f) where
       let b = i .found in
       let q : 0 + length (b .earlier) ≡ natOr 0 j = eqb-true (0 + length (b .earlier)) (natOr 0 j) (b .wanted) in
       let s = length-earlier (lay .1 .1 .0) (b .earlier) (b .later) (b .here) (b .split) in
-      rw (e, a-place (gdrAt body + 28) (length (lay .1 .1 .0)) j attrs-count h (omega (arith, q, s)))
+      rw (e, a-place (numAttrAt (gdrAt body)) (length (lay .1 .1 .0)) j attrs-count h (omega (arith, q, s)))
 
   -- THE WAY TO AN ENTRY comes to it, to 15 or to 16
   abbrev pub EntryOn : ℤ → ℤ → Wanted → Way → Type 0

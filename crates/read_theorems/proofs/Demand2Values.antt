@@ -12,7 +12,7 @@ use Rattle.records.specs.Opening.{bodyOf}
 use Rattle.records.specs.Tree.{firstOf}
 use Rattle.variables.specs.Vdr.{variableOf}
 use Rattle.values.specs.declared.value.Answer.{Answer}
-use Rattle.lookup.specs.Lists.{allowance, ofKinds, kindAmong, headPlace, entriesPlace, variableWay, attributeWay, entryWay}
+use Rattle.lookup.specs.Lists.{allowance, ofKinds, kindAmong, headOfList, headOfEntries, variableWay, attributeWay, entryWay}
 use Rattle.lookup.specs.Indexes.{recordThere, recordRead, levelsWay}
 use Rattle.lookup.specs.declared.lists.Wanted.{Wanted}
 use Rattle.lookup.specs.declared.lists.Wanted.the-variants.{Place, Number}
@@ -85,8 +85,8 @@ module _ (f : List ℕ) (n : NestedAccepted f) where
     pub there : variableThere body k j ≡ true
     there = let a = subst (VariableOn f n k j) way (variable-on f n k j) in variable-is-there f n k j v left (a .0) (listed .least) (a .1)
 
-    pub met : Met body (kindAmong 3 8 k) (headPlace body (kindAmong 3 8 k)) (natOr 0 j) v
-    met = list-met body (kindAmong 3 8 k) (headPlace body (kindAmong 3 8 k)) (natOr 0 j) v (listed .is) (listed .met)
+    pub met : Met body (kindAmong 3 8 k) (headOfList body (kindAmong 3 8 k)) (natOr 0 j) v
+    met = list-met body (kindAmong 3 8 k) (headOfList body (kindAmong 3 8 k)) (natOr 0 j) v (listed .is) (listed .met)
 
     -- ---- why a record is refused
     linked : Linked body (λ x. x) (v + 20) chain
@@ -140,11 +140,11 @@ module _ (f : List ℕ) (n : NestedAccepted f) where
         let a = subst (EntryOn f n b k w) way (entry-on f n b k w) in
         attribute-is-there f n b k (a .1 .adr) (a .1 .left) (a .0) (found .attribute .least) (a .1 .attribute)
 
-    pub owner-met : Met body 4 (headPlace body 4) (natOr 0 b) (found .adr)
-    owner-met = list-met body 4 (headPlace body 4) (natOr 0 b) (found .adr) (found .attribute .is) (found .attribute .met)
+    pub owner-met : Met body 4 (headOfList body 4) (natOr 0 b) (found .adr)
+    owner-met = list-met body 4 (headOfList body 4) (natOr 0 b) (found .adr) (found .attribute .is) (found .attribute .met)
 
-    entry-met : Met body (kindAmong 5 9 k) (found .adr + entriesPlace (kindAmong 5 9 k)) (found .entry .place) e
-    entry-met = list-met body (kindAmong 5 9 k) (found .adr + entriesPlace (kindAmong 5 9 k)) (found .entry .place) e (found .entry .is) (found .entry .met)
+    entry-met : Met body (kindAmong 5 9 k) (headOfEntries (found .adr) (kindAmong 5 9 k)) (found .entry .place) e
+    entry-met = list-met body (kindAmong 5 9 k) (headOfEntries (found .adr) (kindAmong 5 9 k)) (found .entry .place) e (found .entry .is) (found .entry .met)
 
   no-entry : (b k j x : ℤ) (m : ℕ) → m ≡ 16 → ofKinds 5 9 k ≡ true → EntryLacks f n (eqZ k (pos 5)) b (Number j) m → EntryRefused body b k j x m
   no-entry b k j x m e h a =
@@ -152,7 +152,7 @@ module _ (f : List ℕ) (n : NestedAccepted f) where
       inr (
         attribute-is-there f n b k (a .adr) (a .left) h (l .least) (a .attribute),
         a .adr,
-        list-met body 4 (headPlace body 4) (natOr 0 b) (a .adr) (l .is) (l .met),
+        list-met body 4 (headOfList body 4) (natOr 0 b) (a .adr) (l .is) (l .met),
         inl (
           e,
           record {

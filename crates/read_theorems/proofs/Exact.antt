@@ -10,7 +10,7 @@ use lib.IntN.{ℤ}
 use Rattle.format.specs.Fields.{isAt, linkAt, natOr}
 use Rattle.records.specs.Opening.{bodyOf}
 use Rattle.variables.specs.Vdr.{variableOf}
-use Rattle.lookup.specs.Lists.{opened, allowance, ofKinds, meets, overOf, lastLink, sought, headPlace, kindAmong, entriesPlace, entriesOf, fileWay, variableWay, entryWay}
+use Rattle.lookup.specs.Lists.{opened, allowance, ofKinds, meets, overOf, lastLink, sought, headOfList, kindAmong, headOfEntries, entriesOf, fileWay, variableWay, entryWay}
 use Rattle.lookup.specs.declared.lists.Wanted.{Wanted}
 use Rattle.lookup.specs.declared.lists.Wanted.the-variants.{Number}
 use Rattle.lookup.specs.declared.lists.Way.{Way}
@@ -220,7 +220,7 @@ elements-refused f = record {
 }
 
 -- ---- 16 of an entry
-module _ (f : List ℕ) (b k n : ℤ) (a : ℕ) (met : Met (bodyOf f) 4 (headPlace (bodyOf f) 4) (natOr 0 b) a)
+module _ (f : List ℕ) (b k n : ℤ) (a : ℕ) (met : Met (bodyOf f) 4 (headOfList (bodyOf f) 4) (natOr 0 b) a)
     (none : NoEntry (bodyOf f) a (kindAmong 5 9 k) n)
   where
     none-found : Finds (λ o. ⊥) (entryWay f b k (Number n))
@@ -233,9 +233,9 @@ module _ (f : List ℕ) (b k n : ℤ) (a : ℕ) (met : Met (bodyOf f) 4 (headPla
         go true false s l = tt
         go true true (Stopped m) l = tt
         go true true (Found o left) l =
-            let q : a ≡ o = sym (met .place) ∙ sym (nth-same (bodyOf f) (headPlace (bodyOf f) 4) (natOr 0 b)) ∙ l .is in
-            none-sought (bodyOf f) (kindAmong 5 9 k) n (none .entries) left (o + entriesPlace (kindAmong 5 9 k)) 0
-            (subst (λ (o : ℕ). Linked (bodyOf f) (λ e. e) (o + entriesPlace (kindAmong 5 9 k)) (none .entries)) q (none .linked)) (none .none)
+            let q : a ≡ o = sym (met .place) ∙ sym (nth-same (bodyOf f) (headOfList (bodyOf f) 4) (natOr 0 b)) ∙ l .is in
+            none-sought (bodyOf f) (kindAmong 5 9 k) n (none .entries) left (headOfEntries o (kindAmong 5 9 k)) 0
+            (subst (λ (o : ℕ). Linked (bodyOf f) (λ e. e) (headOfEntries o (kindAmong 5 9 k)) (none .entries)) q (none .linked)) (none .none)
 
 module _ (f : List ℕ) (c : NestedAccepted f) (b k n x : ℤ) where
   -- the bytes before the end
@@ -243,7 +243,7 @@ module _ (f : List ℕ) (c : NestedAccepted f) (b k n x : ℤ) where
   body = bodyOf f
 
   abbrev Lacks : Type 0
-  Lacks = (attributeThere body b k ≡ true) × (a : ℕ) × Met body 4 (headPlace body 4) (natOr 0 b) a × NoEntry body a (kindAmong 5 9 k) n
+  Lacks = (attributeThere body b k ≡ true) × (a : ℕ) × Met body 4 (headOfList body 4) (natOr 0 b) a × NoEntry body a (kindAmong 5 9 k) n
 
   sixteen-lacks : (m : ℕ) → m ≡ 16 → EntryRefused body b k n x m → Lacks
   sixteen-lacks m q (inl a) = absurd (omega (arith, q, a .0))

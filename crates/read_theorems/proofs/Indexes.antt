@@ -19,8 +19,8 @@ use Rattle.records.proofs.Ranges.{order-natural, entry-is}
 use Rattle.variables.specs.Vdr.{variableOf}
 use Rattle.walk.specs.Walk.{typeNumber, valuesNumber, lowerNumber}
 use Rattle.walk.specs.Levels.{mostOf}
-use Rattle.lookup.specs.Indexes.{recordPlace, scanned, indexMet, afterScan, lastIndex, indexed, lowerMet, lowerScan, afterLower, lowered, lowestOf, valuesMet, valuesOf, looked, recordThere, recordRead, lookedUp, recordWay, levelsTold, levelsOf, levelsLooked, levelsWay}
-use Rattle.lookup.specs.declared.indexes.Looked.the-variants.{At, Missing}
+use Rattle.lookup.specs.Indexes.{recordAt, scanned, indexMet, afterScan, lastIndex, indexed, lowerMet, lowerScan, afterLower, lowered, lowestOf, valuesMet, valuesOf, valuesBy, recordThere, recordRead, recordNumber, recordWay, levelsTold, levelsOf, levelsBy, levelsWay}
+use Rattle.lookup.specs.declared.indexes.RecordNumber.the-variants.{There, Missing}
 use Rattle.lookup.specs.declared.indexes.Scan.{Scan}
 use Rattle.lookup.specs.declared.indexes.Scan.the-variants.{Covering, Passed, Broken}
 use Rattle.lookup.specs.declared.indexes.Index.{Index}
@@ -314,7 +314,7 @@ module _ (f : List ℕ) (v : ℕ) (xs : List ℕ) (r : ℤ) where
     pub slot : Slot
     pub member : slot ∈ lowestEntries f xs
     pub covered : CoveredBy f (recordRead f v r) slot
-    pub is : at ≡ recordPlace (entryIs f slot) (recordRead f v r) bytes
+    pub is : at ≡ recordAt (entryIs f slot) (recordRead f v r) bytes
 
   abbrev pub Lost : ℕ → Type 0
   Lost m = ((m ≡ 16) × (recordThere f v r ≡ false)) ⊎ ((m ≡ 17) × (recordThere f v r ≡ true) × NoneCovers f xs (recordRead f v r))
@@ -396,7 +396,7 @@ module _ (f : List ℕ) (k v : ℕ) (xs : List ℕ) (vdr : VdrParts f k v) (list
 
     pub record-on : (left : ℕ) → length (indexOffsets f xs) ≤ left
         → RecordOn f v xs r (variableOf f k v .bytes) (recordWay f v (variableOf f k v .bytes) r left)
-    unfolding recordWay lookedUp
+    unfolding recordWay recordNumber
     record-on left h = go (recordThere f v r) refl
       where
         on : recordThere f v r ≡ true → (i : Index) → On i → RecordOn f v xs r (variableOf f k v .bytes) (valuesOf f (recordRead f v r) (variableOf f k v .bytes) i)
@@ -408,16 +408,16 @@ module _ (f : List ℕ) (k v : ℕ) (xs : List ℕ) (vdr : VdrParts f k v) (list
               slot = a .slot;
               member = a .member;
               covered = a .covered;
-              is = ap (λ (y : Entry). recordPlace y (recordRead f v r) (variableOf f k v .bytes)) (a .is);
+              is = ap (λ (y : Entry). recordAt y (recordRead f v r) (variableOf f k v .bytes)) (a .is);
             })
 
         go : (b : Bool) → recordThere f v r ≡ b
-            → RecordOn f v xs r (variableOf f k v .bytes) (looked f v (variableOf f k v .bytes) left (cond b (At (recordRead f v r)) Missing))
+            → RecordOn f v xs r (variableOf f k v .bytes) (valuesBy f v (variableOf f k v .bytes) left (cond b (There (recordRead f v r)) Missing))
         go true e = on e (lowestOf f (recordRead f v r) (indexed f (recordRead f v r) (v + 20) 0 left)) (lowest-way left h)
         go false e = inl (refl, e)
 
     pub levels-on : (left : ℕ) → length (indexOffsets f xs) ≤ left → LevelsOn f v xs r (levelsWay f v r left)
-    unfolding levelsWay lookedUp
+    unfolding levelsWay recordNumber
     levels-on left h = go (recordThere f v r) refl
       where
         told : recordThere f v r ≡ true → (top : Entry) (i : Index) → On i → LevelsOn f v xs r (levelsTold f (recordRead f v r) top i)
@@ -428,6 +428,6 @@ module _ (f : List ℕ) (k v : ℕ) (xs : List ℕ) (vdr : VdrParts f k v) (list
         on e (Covered y rest) a = told e y (lowered levelsBelow f (recordRead f v r) y rest) a
         on e (Halted m) a = inr (a .0, e, a .1)
 
-        go : (b : Bool) → recordThere f v r ≡ b → LevelsOn f v xs r (levelsLooked f v left (cond b (At (recordRead f v r)) Missing))
+        go : (b : Bool) → recordThere f v r ≡ b → LevelsOn f v xs r (levelsBy f v left (cond b (There (recordRead f v r)) Missing))
         go true e = on e (indexed f (recordRead f v r) (v + 20) 0 left) (lowest-way left h)
         go false e = inl (refl, e)

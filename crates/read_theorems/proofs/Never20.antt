@@ -20,7 +20,7 @@ use Rattle.answers.specs.Answers.{numberOf, valueRead, entryValue, padRead}
 use Rattle.answers.proofs.Telling.{Tells}
 use Rattle.answers.specs.declared.Read.{Read}
 use Rattle.answers.specs.declared.Read.the-variants.{Value, Refused}
-use Rattle.descriptors.specs.Descriptors.{fieldNumber, nameNumber, isShown, fieldOn, variableField, attributeField, entryField, rowField, dimensionSize, dimensionsOn, variableDimensions, sizeOn, variableSize, varianceOn, variableVariance, variableLevels, nameOn, variableName, attributeName, said, fileField}
+use Rattle.descriptors.specs.Descriptors.{fieldNumber, nameNumber, isShown, fieldOn, variableField, attributeField, entryField, rowField, dimensionSize, dimensionsOn, variableDimensions, sizeOn, variableSize, varianceOn, variableVariance, variableLevels, nameOn, variableName, attributeName, fileFieldIn, fileField}
 use Rattle.descriptors.specs.declared.Field.{Field}
 use Rattle.descriptors.specs.declared.Field.the-variants.{Is, Refused as NoField}
 use Rattle.read_theorems.specs.Reading.{ValueShown, PadShown, LevelsShown, NeverTwenty, Never20, reserved, padAt, padRight, RecordRefused, ValueRefused, LevelsRefused, PadRefused, GivenOrRefused, ShownOrRefused}
@@ -116,8 +116,8 @@ module _ (f : List ℕ) (n : NestedAccepted f) where
   is-or true z s h e = omega arith
   is-or false z s h e = h e
 
-  said-goes : (what : ℕ) → fieldNumber (said body what) ≢ 20
-  said-goes what = is-or (eqb what 0) _ _ (is-or (leb what 5) _ _ (λ e. omega arith))
+  file-field-goes : (what : ℕ) → fieldNumber (fileFieldIn body what) ≢ 20
+  file-field-goes what = is-or (eqb what 0) _ _ (is-or (leb what 5) _ _ (λ e. omega arith))
 
   levels-go : (k j r : ℤ) (s : Field) → ShownOrRefused (LevelsShown body k j r) (LevelsRefused body k j r) s → fieldNumber s ≢ 20
   levels-go k j r (Is x) t = λ e. omega arith
@@ -148,7 +148,7 @@ module _ (f : List ℕ) (n : NestedAccepted f) where
     ofLevels = λ k j r. levels-go k j r (variableLevels f k j r) (reads-right f n .levels k j r);
     variableNamed = λ k j. name-goes 64 (variableWay f k j) (variable-goes k j);
     attributeNamed = λ j. name-goes 52 (attributeWay f j) (attribute-goes j);
-    ofFile = λ what. rw (opens f n) (is-or (eqb what 6) _ _ (said-goes what));
+    ofFile = λ what. rw (opens f n) (is-or (eqb what 6) _ _ (file-field-goes what));
   }
 
 -- THE THEOREM

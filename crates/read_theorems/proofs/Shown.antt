@@ -26,8 +26,8 @@ use Rattle.variables.specs.declared.vdr.Variable.{Variable}
 use Rattle.variables.specs.declared.place.Place.the-variants.{At, Wrong}
 use Rattle.values.specs.declared.value.Answer.{Answer}
 use Rattle.values.specs.declared.value.Decoded.the-variants.{Given}
-use Rattle.lookup.specs.Lists.{opened, landsOn, meets, wantedAt, kindAmong, headPlace, entriesPlace, variableWay, entryWay}
-use Rattle.lookup.specs.Indexes.{recordPlace, recordThere, recordRead, recordWay, levelsWay}
+use Rattle.lookup.specs.Lists.{opened, landsOn, meets, wantedAt, kindAmong, headOfList, headOfEntries, variableWay, entryWay}
+use Rattle.lookup.specs.Indexes.{recordAt, recordThere, recordRead, recordWay, levelsWay}
 use Rattle.lookup.specs.declared.lists.Wanted.{Wanted}
 use Rattle.lookup.specs.declared.lists.Way.{Way}
 use Rattle.lookup.specs.declared.lists.Way.the-variants.{Found, Stopped}
@@ -37,7 +37,7 @@ use Rattle.lookup.specs.declared.indexes.Levels.{Levels}
 use Rattle.lookup.specs.declared.indexes.Levels.the-variants.{Are, Unknown}
 use Rattle.descriptors.specs.Descriptors.{levelsField, levelsOn, variableLevels}
 use Rattle.descriptors.specs.declared.Field.{Field}
-use Rattle.answers.specs.Answers.{encodingAt, rowMajority, elementThere, elementAt, elementOf, elementRead, atPlace, inRecord, inValues, inVariable, valueOn, valueRead, entryOn, entryValue, padIn, padOn, padRead}
+use Rattle.answers.specs.Answers.{fileEncoding, rowMajority, elementThere, elementAt, elementOf, elementRead, atPlace, inRecord, inValues, inVariable, valueOn, valueRead, entryOn, entryValue, padIn, padOn, padRead}
 use Rattle.answers.specs.declared.Read.the-variants.{Refused}
 use Rattle.read_theorems.specs.Reading.{Met, ElementShown, ValueShown, EntryShown, PadShown, LevelsShown, ValuesShown, reserved, inRecordAt, valueAt, entryAt, padAt, questionRight, padRight, ShownOrRefused}
 use Rattle.variables.proofs.Capped.{capped-small}
@@ -59,14 +59,14 @@ pub list-met : (f : List ℕ) (t p n o : ℕ) → nth f p n ≡ o → ((h : ℕ)
 list-met f t p n o e g = record { place = sym (nth-same f p n) ∙ e; rules = λ h l. ap (meets f t) (sym (nth-same f p h)) ∙ g h l }
 
 -- ---- the encoding of a file that opens
-cdr-ordered : (f : List ℕ) → cdrRight f ≡ true → 1 ≤ encodingOf (encodingAt f) .order
+cdr-ordered : (f : List ℕ) → cdrRight f ≡ true → 1 ≤ encodingOf (fileEncoding f) .order
 unfolding cdrRight
 cdr-ordered f e =
     let order = leb 1 (encodingOf (natAt f 28) .order) in
     let before = typedAt f 8 (pos 1) && eqb (sizeAt f 8) 304 && isAt f 20 (pos 2) in
     leb-true 1 (encodingOf (natAt f 28) .order) (both before order (both (before && order) (ltb (bigAt f 32 4) 4) e .0) .1)
 
-pub ordered : (f : List ℕ) → opened f ≡ true → 1 ≤ encodingOf (encodingAt (bodyOf f)) .order
+pub ordered : (f : List ℕ) → opened f ≡ true → 1 ≤ encodingOf (fileEncoding (bodyOf f)) .order
 ordered f e = let b = bodyOf f in cdr-ordered b (opening-passes b (opening-body f (opened-parts f e .1)) .cdr)
 
 module _ (f : List ℕ) where
@@ -94,7 +94,7 @@ module _ (f : List ℕ) where
         reached = w;
         lies = lands-lies f 7 (namedBy f s) lands;
         size = eqb-true (sizeAt f (namedBy f s)) (8 + (lastOf f s - firstOf f s + 1) * bytes) size;
-        is = sym (subst (λ (e : Entry). recordPlace e (recordRead f v r) bytes ≡ at) (w .is) (t .is));
+        is = sym (subst (λ (e : Entry). recordAt e (recordRead f v r) bytes ≡ at) (w .is) (t .is));
       }
 
 -- an element in its value, the value in its record, the record in the values
@@ -133,11 +133,11 @@ vdr-sized f o e =
 module _ (f : List ℕ) (at t : ℕ) (a : Answer) (e : elementOf f at t ≡ Given a) where
   element-shown : ElementShown f at t a
   element-shown =
-      let d = subst (Decodes f at (natAt f t) (encodingAt f)) e (decodes f at (natAt f t) (encodingAt f)) in
+      let d = subst (Decodes f at (natAt f t) (fileEncoding f)) e (decodes f at (natAt f t) (fileEncoding f)) in
       record { offset = d .offset; decoded = e; bits = d .bits; vax = d .vax }
 
   pub given-plain : reserved f at t ≡ false
-  given-plain = subst (Decodes f at (natAt f t) (encodingAt f)) e (decodes f at (natAt f t) (encodingAt f)) .plain
+  given-plain = subst (Decodes f at (natAt f t) (fileEncoding f)) e (decodes f at (natAt f t) (fileEncoding f)) .plain
 
 -- ---- A VALUE OF A VARIABLE, in the bytes f, whose encoding has an order: Fact of every answer, N of every number that a refusal gives
 bytes-are : (f : List ℕ) (t v : ℕ) → variableOf f t v .fault ≡ 0 → variableOf f t v .bytes ≡ recordBytes f v (layoutOf f t v)
@@ -148,7 +148,7 @@ found-fault : (f : List ℕ) (k n : ℤ) (v : ℕ) → ToVariable k n f v → va
 found-fault f k n v found = variable-kept f v (eqZ k (pos 3)) (meets-parts f (kindAmong 3 8 k) v (listed-met f (kindAmong 3 8 k) n v (found .listed)) .1) .1
 
 module _ (f : List ℕ) (k n r : ℤ) (is : List ℤ) (x : ℤ) (Fact : Answer → Type 0) (N : ℕ → Type 0) where
-  module _ (order : 1 ≤ encodingOf (encodingAt f) .order) (v : ℕ) (found : ToVariable k n f v) where
+  module _ (order : 1 ≤ encodingOf (fileEncoding f) .order) (v : ℕ) (found : ToVariable k n f v) where
     abbrev l : Layout
     l = layoutOf f (kindAmong 3 8 k) v
 
@@ -183,7 +183,7 @@ module _ (f : List ℕ) (k n r : ℤ) (is : List ℤ) (x : ℤ) (Fact : Answer �
           kind = found .kind;
           number = found .listed .least;
           vdr = v;
-          variable = list-met f (kindAmong 3 8 k) (headPlace f (kindAmong 3 8 k)) (natOr 0 n) v (found .listed .is) (found .listed .met);
+          variable = list-met f (kindAmong 3 8 k) (headOfList f (kindAmong 3 8 k)) (natOr 0 n) v (found .listed .is) (found .listed .met);
           there = there;
           way = loc .reached .way;
           slot = slot;
@@ -302,7 +302,7 @@ aedr-parts f e h =
     )
 
 pub entry-meets : (f : List ℕ) (b k : ℤ) (w : Wanted) (e : ℕ) → ToEntry b k w f e → meets f (kindAmong 5 9 k) e ≡ true
-entry-meets f b k w e t = first-met f (kindAmong 5 9 k) w (t .adr + entriesPlace (kindAmong 5 9 k)) 0 e (t .entry)
+entry-meets f b k w e t = first-met f (kindAmong 5 9 k) w (headOfEntries (t .adr) (kindAmong 5 9 k)) 0 e (t .entry)
 
 -- an entry that was met: its elements have a size, and those that are there lie in it
 module _ (f : List ℕ) (k : ℤ) (e : ℕ) (m : meets f (kindAmong 5 9 k) e ≡ true) where
@@ -330,7 +330,7 @@ entryReserved f x e = reserved (bodyOf f) (entryAt (bodyOf f) e x) (e + 16)
 
 -- an entry that was found, by its number or its place
 module _ (f : List ℕ) (b k : ℤ) (w : Wanted) (x : ℤ) (Fact : Answer → Type 0) (N : ℕ → Type 0) where
-  in-entry : 1 ≤ encodingOf (encodingAt f) .order → (e : ℕ) → ToEntry b k w f e
+  in-entry : 1 ≤ encodingOf (fileEncoding f) .order → (e : ℕ) → ToEntry b k w f e
       → ((a : Answer) → elementThere f (e + 24) x ≡ true → elementOf f (entryAt f e x) (e + 16) ≡ Given a → Fact a)
       → (elementThere f (e + 24) x ≡ false → N 18)
       → (elementThere f (e + 24) x ≡ true → reserved f (entryAt f e x) (e + 16) ≡ true → N 22)
@@ -366,14 +366,14 @@ module _ (f : List ℕ) (b k : ℤ) (w : Wanted) (x : ℤ) where
         kind = t .kind;
         number = t .attribute .least;
         adr = t .adr;
-        attribute = list-met f 4 (headPlace f 4) (natOr 0 b) (t .adr) (t .attribute .is) (t .attribute .met);
+        attribute = list-met f 4 (headOfList f 4) (natOr 0 b) (t .adr) (t .attribute .is) (t .attribute .met);
         aedr = e;
         place = t .entry .place;
-        entry = list-met f (kindAmong 5 9 k) (t .adr + entriesPlace (kindAmong 5 9 k)) (t .entry .place) e (t .entry .is) (t .entry .met);
+        entry = list-met f (kindAmong 5 9 k) (headOfEntries (t .adr) (kindAmong 5 9 k)) (t .entry .place) e (t .entry .is) (t .entry .met);
         first = ap (λ (i : ℕ). wantedAt f w i e) (sym (zero-add (t .entry .place))) ∙ t .entry .wanted;
         earlier = λ g l.
-            ap (λ (o : ℕ). wantedAt f w g o) (sym (nth-same f (t .adr + entriesPlace (kindAmong 5 9 k)) g))
-            ∙ ap (λ (i : ℕ). wantedAt f w i (nth f (t .adr + entriesPlace (kindAmong 5 9 k)) g)) (sym (zero-add g)) ∙ t .entry .earlier g l;
+            ap (λ (o : ℕ). wantedAt f w g o) (sym (nth-same f (headOfEntries (t .adr) (kindAmong 5 9 k)) g))
+            ∙ ap (λ (i : ℕ). wantedAt f w i (nth f (headOfEntries (t .adr) (kindAmong 5 9 k)) g)) (sym (zero-add g)) ∙ t .entry .earlier g l;
         element = h;
         inside = record { begins = omega arith; ends = omega (arith, j) };
         shown = element-shown f (entryAt f e x) (e + 16) a d;
@@ -407,7 +407,7 @@ pad-behind f k o = go (eqb k 8) refl
     go false e = omega (arith, r-layout f k o e .2)
 
 module _ (f : List ℕ) (k n x : ℤ) (Fact : Answer → Type 0) (N : ℕ → Type 0) where
-  in-pad : 1 ≤ encodingOf (encodingAt f) .order → (v : ℕ) → ToVariable k n f v
+  in-pad : 1 ≤ encodingOf (fileEncoding f) .order → (v : ℕ) → ToVariable k n f v
       → ((a : Answer) → PadShown f k n x a → padRight f v x ≡ true → reserved f (padAt f v x) (v + 12) ≡ false → Fact a)
       → (padRight f v x ≡ false → N 18) → (padRight f v x ≡ true → reserved f (padAt f v x) (v + 12) ≡ true → N 22)
       → Tells Fact N (padIn f v (variableOf f (kindAmong 3 8 k) v) x)
@@ -447,7 +447,7 @@ module _ (f : List ℕ) (k n x : ℤ) (Fact : Answer → Type 0) (N : ℕ → Ty
             kind = t .kind;
             number = t .listed .least;
             vdr = v;
-            variable = list-met f (kindAmong 3 8 k) (headPlace f (kindAmong 3 8 k)) (natOr 0 n) v (t .listed .is) (t .listed .met);
+            variable = list-met f (kindAmong 3 8 k) (headOfList f (kindAmong 3 8 k)) (natOr 0 n) v (t .listed .is) (t .listed .met);
             pad = e;
             element = h;
             inside = record { begins = omega (arith, ends e, pad-behind f (kindAmong 3 8 k) v); ends = omega (arith, ends e, inside h) };
@@ -478,7 +478,7 @@ levels-counted f k n r v t m l =
       kind = t .kind;
       number = t .listed .least;
       vdr = v;
-      variable = list-met f (kindAmong 3 8 k) (headPlace f (kindAmong 3 8 k)) (natOr 0 n) v (t .listed .is) (t .listed .met);
+      variable = list-met f (kindAmong 3 8 k) (headOfList f (kindAmong 3 8 k)) (natOr 0 n) v (t .listed .is) (t .listed .met);
       there = l .way .there;
       way = w .way;
       counted = ap pos many;

@@ -16,6 +16,7 @@ use Rattle.values.specs.Values.{isVax, reservedFloat}
 use Rattle.values.specs.Agreement.{Agrees, VaxGiven}
 use Rattle.values.specs.declared.value.Answer.{Answer}
 use Rattle.values.specs.declared.value.Decoded.the-variants.{Given}
+use Rattle.records.specs.Layout.{nextAt, nrVarsAt, numAttrAt, nzVarsAt, entryTypeAt, entryNumAt, entryElementsAt, entryValueAt, dataTypeAt, maxRecAt, headOfIndex, varFlagsAt, elementsAt, valuesAt}
 use Rattle.records.specs.Rules.{sizeAt, typedAt}
 use Rattle.records.specs.Opening.{gdrAt, bodyOf, Unpadded}
 use Rattle.records.specs.Attributes.{elementSize}
@@ -26,7 +27,7 @@ use Rattle.variables.specs.Place.{elementPlace, placed}
 use Rattle.checker.specs.Step.{answerOf}
 use Rattle.demands.specs.Acceptance.{_∈_, Each, Linked, IndexRight}
 use Rattle.demands.specs.Demands.{endStage}
-use Rattle.lookup.specs.Lists.{meets, wantedAt, headPlace, entriesPlace, ofKinds, kindAmong, variableWay, entryWay}
+use Rattle.lookup.specs.Lists.{meets, wantedAt, headOfList, headOfEntries, ofKinds, kindAmong, variableWay, entryWay}
 use Rattle.lookup.specs.Indexes.{recordVaries, recordThere, recordRead, indexMet, lowerMet, recordWay}
 use Rattle.lookup.specs.declared.lists.Wanted.{Wanted}
 use Rattle.lookup.specs.declared.lists.Wanted.the-variants.{Number}
@@ -34,7 +35,7 @@ use Rattle.lookup.specs.declared.lists.Way.{Way}
 use Rattle.lookup.specs.declared.lists.Way.the-variants.{Found, Stopped}
 use Rattle.lookup.specs.declared.indexes.Values.{Values}
 use Rattle.lookup.specs.declared.indexes.Values.the-variants.{Record, Refused as NoRecord}
-use Rattle.answers.specs.Answers.{numberOf, encodingAt, rowMajority, elementThere, elementAt, elementOf, valueRead, entryValue, entryRead, padRead}
+use Rattle.answers.specs.Answers.{numberOf, fileEncoding, rowMajority, elementThere, elementAt, elementOf, valueRead, entryValue, entryRead, padRead}
 use Rattle.answers.specs.declared.Read.{Read}
 use Rattle.answers.specs.declared.Read.the-variants.{Value, Refused}
 use Rattle.descriptors.specs.Descriptors.{fieldNumber, nameNumber, variableField, attributeField, entryField, dimensionSize, variableSize, variableVariance, variableLevels, variableName, attributeName, fileField}
@@ -53,7 +54,7 @@ PlainAccepts f = (m : List ℕ) × (length f ≤ length m) × (answerOf (endStag
 -- "the list from its head to the wanted place": the n-th record, from 0, of the list whose head link stands at p
 abbrev pub nthRecord : List ℕ → ℕ → ℕ → ℕ
 nthRecord f p zero = linkAt f p
-nthRecord f p (suc n) = nthRecord f (linkAt f p + 8) n
+nthRecord f p (suc n) = nthRecord f (nextAt (linkAt f p)) n
 
 -- the record of type t at o was met as the n-th of the list whose head link stands at p
 pub record Met (f : List ℕ) (t p n o : ℕ) : Type 0 where
@@ -81,8 +82,8 @@ pub record IndexWay (f : List ℕ) (v r : ℕ) : Type 0 where
   -- "the index chain to the covering entry": entry `top .entry` of the VXR `top .vxr`, a used one, and the VXR one of the chain
   pub top : Slot
   pub place : ℕ
-  pub chained : nthRecord f (v + 20) place ≡ top .vxr
-  pub rules : (h : ℕ) → h ≤ place → indexMet f (nthRecord f (v + 20) h) ≡ true
+  pub chained : nthRecord f (headOfIndex v) place ≡ top .vxr
+  pub rules : (h : ℕ) → h ≤ place → indexMet f (nthRecord f (headOfIndex v) h) ≡ true
   pub used : top .entry < usedAt f (top .vxr)
   -- "A lookup goes down level by level": "eight levels, top included", each by a lower record that keeps its rule and has no next
   pub below : List Slot
@@ -92,14 +93,14 @@ pub record IndexWay (f : List ℕ) (v r : ℕ) : Type 0 where
   -- each of its entries covers the record
   pub covered : (s : Slot) → s ∈ (top ∷ below) → CoveredBy f r s
 
--- ---- AN ELEMENT: its offset and its decoding, by the place t of its data type
+-- ---- AN ELEMENT: its offset and its decoding, by the offset t of its data type
 
 -- a float of that data type in encoding 3, 14 or 15, and one whose bytes at an offset are the reserved operand
 abbrev pub vaxFloat : List ℕ → ℕ → Bool
-vaxFloat f t = isVax (typeOf (natAt f t) .kind) (encodingOf (encodingAt f) .float)
+vaxFloat f t = isVax (typeOf (natAt f t) .kind) (encodingOf (fileEncoding f) .float)
 
 abbrev pub reserved : List ℕ → ℕ → ℕ → Bool
-reserved f at t = reservedFloat f at (typeOf (natAt f t) .kind) (encodingOf (encodingAt f) .float)
+reserved f at t = reservedFloat f at (typeOf (natAt f t) .kind) (encodingOf (fileEncoding f) .float)
 
 -- the answer a is the element at an offset
 pub record ElementShown (f : List ℕ) (at t : ℕ) (a : Answer) : Type 0 where
@@ -110,23 +111,23 @@ pub record ElementShown (f : List ℕ) (at t : ℕ) (a : Answer) : Type 0 where
   -- the bits are those of the value, where the numbers of f are bytes, as those of every file are
   pub bits : OfBytes f → Agrees (a .value) (a .bits)
   -- #102: "Turn F_FLOAT, D_FLOAT and G_FLOAT .. into doubles"
-  pub vax : vaxFloat f t ≡ true → VaxGiven f at (typeOf (natAt f t) .kind) (encodingOf (encodingAt f) .float) a
+  pub vax : vaxFloat f t ≡ true → VaxGiven f at (typeOf (natAt f t) .kind) (encodingOf (fileEncoding f) .float) a
 
 -- where layout and majority put element x of the value at the indices `is`: in the record that begins at o, of the VDR at v, of kind k
 abbrev pub inRecordAt : List ℕ → ℕ → ℕ → ℕ → List ℤ → ℤ → ℕ
-inRecordAt f k v o is x = elementAt f (o + elementPlace f (layoutOf f k v) (rowMajority f) is * valueBytes f v) (v + 12) x
+inRecordAt f k v o is x = elementAt f (o + elementPlace f (layoutOf f k v) (rowMajority f) is * valueBytes f v) (dataTypeAt v) x
 
 -- in record r, which the lowest entry s covers: "VVR (7). Size 8 + (Last - First + 1) × record bytes"
 abbrev pub valueAt : List ℕ → ℕ → ℕ → Slot → ℕ → List ℤ → ℤ → ℕ
-valueAt f k v s r is x = inRecordAt f k v (namedBy f s + 8 + (r - firstOf f s) * recordBytes f v (layoutOf f k v)) is x
+valueAt f k v s r is x = inRecordAt f k v (valuesAt (namedBy f s) + (r - firstOf f s) * recordBytes f v (layoutOf f k v)) is x
 
 -- "data type 16, .. elements 24 .., value from 48": element x of the entry at e
 abbrev pub entryAt : List ℕ → ℕ → ℤ → ℕ
-entryAt f e x = elementAt f (e + 48) (e + 16) x
+entryAt f e x = elementAt f (entryValueAt e) (entryTypeAt e) x
 
 -- "Pad value last if bit 1 is set": it ends with the VDR at v
 abbrev pub padAt : List ℕ → ℕ → ℤ → ℕ
-padAt f v x = elementAt f (v + sizeAt f v - valueBytes f v) (v + 12) x
+padAt f v x = elementAt f (v + sizeAt f v - valueBytes f v) (dataTypeAt v) x
 
 -- n bytes from an offset lie in the record at o, behind its first h bytes
 pub record LiesIn (f : List ℕ) (o h offset n : ℕ) : Type 0 where
@@ -140,7 +141,7 @@ pub record ValueShown (f : List ℕ) (k n r : ℤ) (is : List ℤ) (x : ℤ) (a 
   pub number : leZ (pos 0) n ≡ true
   -- the VDR, of that kind and number
   pub vdr : ℕ
-  pub variable : Met f (kindAmong 3 8 k) (headPlace f (kindAmong 3 8 k)) (natOr 0 n) vdr
+  pub variable : Met f (kindAmong 3 8 k) (headOfList f (kindAmong 3 8 k)) (natOr 0 n) vdr
   -- "A record number from 0 to MaxRec is looked up; with record variance clear any number from 0 reads record 0"
   pub there : recordThere f vdr r ≡ true
   -- the way through the index, and the lowest entry that it comes to
@@ -154,9 +155,9 @@ pub record ValueShown (f : List ℕ) (k n r : ℤ) (is : List ℤ) (x : ℤ) (a 
   pub size : sizeAt f (namedBy f slot) ≡ 8 + (lastOf f slot - firstOf f slot + 1) * recordBytes f vdr (layoutOf f (kindAmong 3 8 k) vdr)
   -- "dimension index or element out of range, or wrong number of indices" is 18
   pub indices : placed f (layoutOf f (kindAmong 3 8 k) vdr) is ≡ true
-  pub element : elementThere f (vdr + 48) x ≡ true
-  pub inside : LiesIn f (namedBy f slot) 8 (valueAt f (kindAmong 3 8 k) vdr slot (recordRead f vdr r) is x) (elementSize f (vdr + 12))
-  pub shown : ElementShown f (valueAt f (kindAmong 3 8 k) vdr slot (recordRead f vdr r) is x) (vdr + 12) a
+  pub element : elementThere f (elementsAt vdr) x ≡ true
+  pub inside : LiesIn f (namedBy f slot) 8 (valueAt f (kindAmong 3 8 k) vdr slot (recordRead f vdr r) is x) (elementSize f (dataTypeAt vdr))
+  pub shown : ElementShown f (valueAt f (kindAmong 3 8 k) vdr slot (recordRead f vdr r) is x) (dataTypeAt vdr) a
 
 -- what is shown for element x of the entry that is wanted, by its number or its place, of kind k, of attribute b
 pub record EntryShown (f : List ℕ) (b k : ℤ) (w : Wanted) (x : ℤ) (a : Answer) : Type 0 where
@@ -164,34 +165,34 @@ pub record EntryShown (f : List ℕ) (b k : ℤ) (w : Wanted) (x : ℤ) (a : Ans
   pub kind : ofKinds 5 9 k ≡ true
   pub number : leZ (pos 0) b ≡ true
   pub adr : ℕ
-  pub attribute : Met f 4 (headPlace f 4) (natOr 0 b) adr
+  pub attribute : Met f 4 (headOfList f 4) (natOr 0 b) adr
   -- "for an entry, the ADR's list to the first of that number": the entry is a wanted one, none before it is
   pub aedr : ℕ
   pub place : ℕ
-  pub entry : Met f (kindAmong 5 9 k) (adr + entriesPlace (kindAmong 5 9 k)) place aedr
+  pub entry : Met f (kindAmong 5 9 k) (headOfEntries adr (kindAmong 5 9 k)) place aedr
   pub first : wantedAt f w place aedr ≡ true
-  pub earlier : (h : ℕ) → h < place → wantedAt f w h (nthRecord f (adr + entriesPlace (kindAmong 5 9 k)) h) ≡ false
-  pub element : elementThere f (aedr + 24) x ≡ true
-  pub inside : LiesIn f aedr 48 (entryAt f aedr x) (elementSize f (aedr + 16))
-  pub shown : ElementShown f (entryAt f aedr x) (aedr + 16) a
+  pub earlier : (h : ℕ) → h < place → wantedAt f w h (nthRecord f (headOfEntries adr (kindAmong 5 9 k)) h) ≡ false
+  pub element : elementThere f (entryElementsAt aedr) x ≡ true
+  pub inside : LiesIn f aedr 48 (entryAt f aedr x) (elementSize f (entryTypeAt aedr))
+  pub shown : ElementShown f (entryAt f aedr x) (entryTypeAt aedr) a
 
 -- what is shown for element x of the pad value of the variable of kind k and number n
 pub record PadShown (f : List ℕ) (k n x : ℤ) (a : Answer) : Type 0 where
   pub kind : ofKinds 3 8 k ≡ true
   pub number : leZ (pos 0) n ≡ true
   pub vdr : ℕ
-  pub variable : Met f (kindAmong 3 8 k) (headPlace f (kindAmong 3 8 k)) (natOr 0 n) vdr
-  pub pad : bitAt f (vdr + 28) 2 ≡ true
-  pub element : elementThere f (vdr + 48) x ≡ true
-  pub inside : LiesIn f vdr 128 (padAt f vdr x) (elementSize f (vdr + 12))
-  pub shown : ElementShown f (padAt f vdr x) (vdr + 12) a
+  pub variable : Met f (kindAmong 3 8 k) (headOfList f (kindAmong 3 8 k)) (natOr 0 n) vdr
+  pub pad : bitAt f (varFlagsAt vdr) 2 ≡ true
+  pub element : elementThere f (elementsAt vdr) x ≡ true
+  pub inside : LiesIn f vdr 128 (padAt f vdr x) (elementSize f (dataTypeAt vdr))
+  pub shown : ElementShown f (padAt f vdr x) (dataTypeAt vdr) a
 
 -- what is shown as the number of levels that the index of the variable of kind k and number n has on the way to record r
 pub record LevelsShown (f : List ℕ) (k n r : ℤ) (levels : ℤ) : Type 0 where
   pub kind : ofKinds 3 8 k ≡ true
   pub number : leZ (pos 0) n ≡ true
   pub vdr : ℕ
-  pub variable : Met f (kindAmong 3 8 k) (headPlace f (kindAmong 3 8 k)) (natOr 0 n) vdr
+  pub variable : Met f (kindAmong 3 8 k) (headOfList f (kindAmong 3 8 k)) (natOr 0 n) vdr
   pub there : recordThere f vdr r ≡ true
   -- one entry a level
   pub way : IndexWay f vdr (recordRead f vdr r)
@@ -235,19 +236,19 @@ placeThere f p n = leZ (pos 0) n && ltZ n (fieldAt f p)
 
 -- "kinds are record types 3, 8"; GDR: "NrVars 24, .. NzVars 40"
 abbrev pub variableThere : List ℕ → ℤ → ℤ → Bool
-variableThere f k n = ofKinds 3 8 k && placeThere f (gdrAt f + cond (eqZ k (pos 3)) 24 40) n
+variableThere f k n = ofKinds 3 8 k && placeThere f (cond (eqZ k (pos 3)) (nrVarsAt (gdrAt f)) (nzVarsAt (gdrAt f))) n
 
 -- "kinds are record types .. 5, 9"; GDR: "NumAttr 28"
 abbrev pub attributeThere : List ℕ → ℤ → ℤ → Bool
-attributeThere f b k = ofKinds 5 9 k && placeThere f (gdrAt f + 28) b
+attributeThere f b k = ofKinds 5 9 k && placeThere f (numAttrAt (gdrAt f)) b
 
 -- a pad value, and an element of it that is there
 abbrev pub padRight : List ℕ → ℕ → ℤ → Bool
-padRight f v x = bitAt f (v + 28) 2 && elementThere f (v + 48) x
+padRight f v x = bitAt f (varFlagsAt v) 2 && elementThere f (elementsAt v) x
 
 -- as many indices as dimensions, each right, and an element that is there
 abbrev pub questionRight : List ℕ → ℕ → ℕ → List ℤ → ℤ → Bool
-questionRight f t v is x = placed f (layoutOf f t v) is && elementThere f (v + 48) x
+questionRight f t v is x = placed f (layoutOf f t v) is && elementThere f (elementsAt v) x
 
 -- ---- COVERED ONCE, and every number exactly where it is due
 
@@ -273,7 +274,7 @@ pub record NumbersExact (f b : List ℕ) (k n : ℤ) (v : ℕ) (vxrs : List ℕ)
   -- "it is the reserved operand, refused with 22"
   pub operand : (r : ℤ) → recordThere b v r ≡ true → (s : Slot) → s ∈ lowestEntries b vxrs → CoveredBy b (recordRead b v r) s → (is : List ℤ) (x : ℤ)
       → (numberOf (valueRead f k n r is x) ≡ 22)
-      ↔ ((questionRight b (kindAmong 3 8 k) v is x && reserved b (valueAt b (kindAmong 3 8 k) v s (recordRead b v r) is x) (v + 12)) ≡ true)
+      ↔ ((questionRight b (kindAmong 3 8 k) v is x && reserved b (valueAt b (kindAmong 3 8 k) v s (recordRead b v r) is x) (dataTypeAt v)) ≡ true)
   -- 16 and 17 of the number of levels
   pub noLevels : (r : ℤ) → (fieldNumber (variableLevels f k n r) ≡ 16) ↔ (recordThere b v r ≡ false)
   pub gapLevels : (r : ℤ) → recordThere b v r ≡ true → (fieldNumber (variableLevels f k n r) ≡ 17) ↔ NoneCovers b vxrs (recordRead b v r)
@@ -303,14 +304,14 @@ Fifteen = (f : List ℕ) → PlainAccepts f → NoSuch f
 -- the entries of type t of the ADR at a are those listed, and none has the number n
 pub record NoEntry (f : List ℕ) (a t : ℕ) (n : ℤ) : Type 0 where
   pub entries : List ℕ
-  pub linked : Linked f (λ e. e) (a + entriesPlace t) entries
-  pub none : Each entries (λ earlier e. isAt f (e + 20) n ≡ false)
+  pub linked : Linked f (λ e. e) (headOfEntries a t) entries
+  pub none : Each entries (λ earlier e. isAt f (entryNumAt e) n ≡ false)
 
 -- 16 of an entry: "no such .. entry number"
 abbrev pub NoEntryNumber : Type 0
 NoEntryNumber = (f : List ℕ) → PlainAccepts f → (b k n x : ℤ)
     → (numberOf (entryRead f b k n x) ≡ 16)
-    ↔ ((attributeThere (bodyOf f) b k ≡ true) × (a : ℕ) × Met (bodyOf f) 4 (headPlace (bodyOf f) 4) (natOr 0 b) a × NoEntry (bodyOf f) a (kindAmong 5 9 k) n)
+    ↔ ((attributeThere (bodyOf f) b k ≡ true) × (a : ℕ) × Met (bodyOf f) 4 (headOfList (bodyOf f) 4) (natOr 0 b) a × NoEntry (bodyOf f) a (kindAmong 5 9 k) n)
 
 -- a fact of what a way along a list has found, at o, and of where a way through an index has found a record; none holds of a way that stopped
 abbrev pub FoundWith : (ℕ → ℕ → Type 0) → Way → Type 0
@@ -335,18 +336,18 @@ pub record ElementsExact (f : List ℕ) : Type 0 where
   pub valueOperand : (k n r : ℤ) (is : List ℤ) (x : ℤ)
       → (numberOf (valueRead f k n r is x) ≡ 22)
       ↔ RecordFound f k n r (λ v o.
-      (questionRight (bodyOf f) (kindAmong 3 8 k) v is x && reserved (bodyOf f) (inRecordAt (bodyOf f) (kindAmong 3 8 k) v o is x) (v + 12)) ≡ true)
+      (questionRight (bodyOf f) (kindAmong 3 8 k) v is x && reserved (bodyOf f) (inRecordAt (bodyOf f) (kindAmong 3 8 k) v o is x) (dataTypeAt v)) ≡ true)
   -- of the entry at e, wanted by its number or by its place
   pub entryWrong : (b k : ℤ) (w : Wanted) (x : ℤ)
-      → (numberOf (entryValue f b k w x) ≡ 18) ↔ FoundWith (λ e left. elementThere (bodyOf f) (e + 24) x ≡ false) (entryWay f b k w)
+      → (numberOf (entryValue f b k w x) ≡ 18) ↔ FoundWith (λ e left. elementThere (bodyOf f) (entryElementsAt e) x ≡ false) (entryWay f b k w)
   pub entryOperand : (b k : ℤ) (w : Wanted) (x : ℤ)
       → (numberOf (entryValue f b k w x) ≡ 22)
-      ↔ FoundWith (λ e left. (elementThere (bodyOf f) (e + 24) x && reserved (bodyOf f) (entryAt (bodyOf f) e x) (e + 16)) ≡ true) (entryWay f b k w)
+      ↔ FoundWith (λ e left. (elementThere (bodyOf f) (entryElementsAt e) x && reserved (bodyOf f) (entryAt (bodyOf f) e x) (entryTypeAt e)) ≡ true) (entryWay f b k w)
   -- of the VDR at v: "pad value as elements (18 if there is none)"
   pub padWrong : (k n x : ℤ) → (numberOf (padRead f k n x) ≡ 18) ↔ FoundWith (λ v left. padRight (bodyOf f) v x ≡ false) (variableWay f k n)
   pub padOperand : (k n x : ℤ)
       → (numberOf (padRead f k n x) ≡ 22)
-      ↔ FoundWith (λ v left. (padRight (bodyOf f) v x && reserved (bodyOf f) (padAt (bodyOf f) v x) (v + 12)) ≡ true) (variableWay f k n)
+      ↔ FoundWith (λ v left. (padRight (bodyOf f) v x && reserved (bodyOf f) (padAt (bodyOf f) v x) (dataTypeAt v)) ≡ true) (variableWay f k n)
 
 abbrev pub ElementsRefused : Type 0
 ElementsRefused = (f : List ℕ) → ElementsExact f
@@ -355,8 +356,8 @@ ElementsRefused = (f : List ℕ) → ElementsExact f
 -- clear all from 0, if MaxRec is not -1, and record 0
 pub record LooksUp (f : List ℕ) (v : ℕ) (r : ℤ) : Type 0 where
   pub varying : recordVaries f v ≡ true
-      → (recordThere f v r ≡ (leZ (pos 0) r && leZ r (fieldAt f (v + 16)))) × (recordRead f v r ≡ natOr 0 r)
-  pub fixed : recordVaries f v ≡ false → (recordThere f v r ≡ (leZ (pos 0) r && atLeast f (v + 16) (pos 0))) × (recordRead f v r ≡ 0)
+      → (recordThere f v r ≡ (leZ (pos 0) r && leZ r (fieldAt f (maxRecAt v)))) × (recordRead f v r ≡ natOr 0 r)
+  pub fixed : recordVaries f v ≡ false → (recordThere f v r ≡ (leZ (pos 0) r && atLeast f (maxRecAt v) (pos 0))) × (recordRead f v r ≡ 0)
 
 abbrev pub RecordsThere : Type 0
 RecordsThere = (f : List ℕ) (v : ℕ) (r : ℤ) → LooksUp f v r
@@ -366,13 +367,13 @@ RecordsThere = (f : List ℕ) (v : ℕ) (r : ℤ) → LooksUp f v r
 -- the top chain of the index of the VDR at v is vxrs, and none of its lowest entries covers r
 pub record InGap (f : List ℕ) (v r : ℕ) : Type 0 where
   pub vxrs : List ℕ
-  pub linked : Linked f (λ x. x) (v + 20) vxrs
+  pub linked : Linked f (λ x. x) (headOfIndex v) vxrs
   pub none : NoneCovers f vxrs r
 
 -- and one covers r
 pub record InRange (f : List ℕ) (v r : ℕ) : Type 0 where
   pub vxrs : List ℕ
-  pub linked : Linked f (λ x. x) (v + 20) vxrs
+  pub linked : Linked f (λ x. x) (headOfIndex v) vxrs
   pub slot : Slot
   pub lowest : slot ∈ lowestEntries f vxrs
   pub covers : CoveredBy f r slot
@@ -388,44 +389,44 @@ RecordRefused f t v r is x m =
     ⊎ (((m ≡ 18) × (recordThere f v r ≡ true) × InRange f v (recordRead f v r) × (questionRight f t v is x ≡ false))
     -- 22: "the reserved operand"
     ⊎ ((m ≡ 22) × (recordThere f v r ≡ true) × (i : InRange f v (recordRead f v r)) × (questionRight f t v is x ≡ true)
-    × (reserved f (valueAt f t v (i .slot) (recordRead f v r) is x) (v + 12) ≡ true))))
+    × (reserved f (valueAt f t v (i .slot) (recordRead f v r) is x) (dataTypeAt v) ≡ true))))
 
 abbrev pub ValueRefused : List ℕ → ℤ → ℤ → ℤ → List ℤ → ℤ → ℕ → Type 0
 ValueRefused f k n r is x m =
     -- 15: "no such variable"
     ((m ≡ 15) × (variableThere f k n ≡ false))
-    ⊎ ((variableThere f k n ≡ true) × (v : ℕ) × Met f (kindAmong 3 8 k) (headPlace f (kindAmong 3 8 k)) (natOr 0 n) v
+    ⊎ ((variableThere f k n ≡ true) × (v : ℕ) × Met f (kindAmong 3 8 k) (headOfList f (kindAmong 3 8 k)) (natOr 0 n) v
     × RecordRefused f (kindAmong 3 8 k) v r is x m)
 
 -- and why a number of levels is
 abbrev pub LevelsRefused : List ℕ → ℤ → ℤ → ℤ → ℕ → Type 0
 LevelsRefused f k n r m =
     ((m ≡ 15) × (variableThere f k n ≡ false))
-    ⊎ ((variableThere f k n ≡ true) × (v : ℕ) × Met f (kindAmong 3 8 k) (headPlace f (kindAmong 3 8 k)) (natOr 0 n) v
+    ⊎ ((variableThere f k n ≡ true) × (v : ℕ) × Met f (kindAmong 3 8 k) (headOfList f (kindAmong 3 8 k)) (natOr 0 n) v
     × (((m ≡ 16) × (recordThere f v r ≡ false)) ⊎ ((m ≡ 17) × (recordThere f v r ≡ true) × InGap f v (recordRead f v r))))
 
 abbrev pub PadRefused : List ℕ → ℤ → ℤ → ℤ → ℕ → Type 0
 PadRefused f k n x m =
     -- 15: "no such variable"
     ((m ≡ 15) × (variableThere f k n ≡ false))
-    ⊎ ((variableThere f k n ≡ true) × (v : ℕ) × Met f (kindAmong 3 8 k) (headPlace f (kindAmong 3 8 k)) (natOr 0 n) v
+    ⊎ ((variableThere f k n ≡ true) × (v : ℕ) × Met f (kindAmong 3 8 k) (headOfList f (kindAmong 3 8 k)) (natOr 0 n) v
     -- "pad value as elements (18 if there is none)"; 18: "element out of range"
     × (((m ≡ 18) × (padRight f v x ≡ false))
     -- 22: "the reserved operand"
-    ⊎ ((m ≡ 22) × (padRight f v x ≡ true) × (reserved f (padAt f v x) (v + 12) ≡ true))))
+    ⊎ ((m ≡ 22) × (padRight f v x ≡ true) × (reserved f (padAt f v x) (dataTypeAt v) ≡ true))))
 
 abbrev pub EntryRefused : List ℕ → ℤ → ℤ → ℤ → ℤ → ℕ → Type 0
 EntryRefused f b k n x m =
     -- 15: "no such .. attribute"
     ((m ≡ 15) × (attributeThere f b k ≡ false))
-    ⊎ ((attributeThere f b k ≡ true) × (a : ℕ) × Met f 4 (headPlace f 4) (natOr 0 b) a
+    ⊎ ((attributeThere f b k ≡ true) × (a : ℕ) × Met f 4 (headOfList f 4) (natOr 0 b) a
     -- 16: "no such .. entry number"
     × (((m ≡ 16) × NoEntry f a (kindAmong 5 9 k) n)
-    ⊎ ((e : ℕ) × (place : ℕ) × Met f (kindAmong 5 9 k) (a + entriesPlace (kindAmong 5 9 k)) place e × (isAt f (e + 20) n ≡ true)
+    ⊎ ((e : ℕ) × (place : ℕ) × Met f (kindAmong 5 9 k) (headOfEntries a (kindAmong 5 9 k)) place e × (isAt f (entryNumAt e) n ≡ true)
     -- 18: "element out of range"
-    × (((m ≡ 18) × (elementThere f (e + 24) x ≡ false))
+    × (((m ≡ 18) × (elementThere f (entryElementsAt e) x ≡ false))
     -- 22: "the reserved operand"
-    ⊎ ((m ≡ 22) × (elementThere f (e + 24) x ≡ true) × (reserved f (entryAt f e x) (e + 16) ≡ true))))))
+    ⊎ ((m ≡ 22) × (elementThere f (entryElementsAt e) x ≡ true) × (reserved f (entryAt f e x) (entryTypeAt e) ≡ true))))))
 
 -- ---- DEMAND 2, its second half: "From an accepted file the reader gives the value that layout and encoding give, or the named refusal"
 

@@ -102,3 +102,24 @@ pub const VALUES: usize = 8;
 
 // UIR.
 pub const PREVIOUS: usize = 12;
+
+// Those of the above that the reader adds to an offset into its slice.
+pub const NEXT_USIZE: usize = NEXT as usize;
+
+pub const HEAD_OF_R_VARIABLES_USIZE: usize = HEAD_OF_R_VARIABLES as usize;
+
+pub const HEAD_OF_Z_VARIABLES_USIZE: usize = HEAD_OF_Z_VARIABLES as usize;
+
+pub const HEAD_OF_ATTRIBUTES_USIZE: usize = HEAD_OF_ATTRIBUTES as usize;
+
+pub const HEAD_OF_GR_ENTRIES_USIZE: usize = HEAD_OF_GR_ENTRIES as usize;
+
+pub const HEAD_OF_Z_ENTRIES_USIZE: usize = HEAD_OF_Z_ENTRIES as usize;
+
+pub const HEAD_OF_INDEX_USIZE: usize = HEAD_OF_INDEX as usize;
+
+pub const NR_VARS_USIZE: usize = NR_VARS as usize;
+
+pub const NUM_ATTR_USIZE: usize = NUM_ATTR as usize;
+
+pub const NZ_VARS_USIZE: usize = NZ_VARS as usize;

@@ -25,7 +25,7 @@ use Rattle.values.specs.Values.{rawAt, valueOf, bitsOf, isVax, isNothing, decod
 use Rattle.values.specs.declared.value.Value.{Value}
 use Rattle.values.specs.declared.value.Value.the-variants.{Signed, Unsigned, Single, Double, Code}
 use Rattle.lookup.specs.Lists.{opened, allowance, landsOn, vdrKept, ruleKept, meets, lastLink, sought, placeWay, variableWay}
-use Rattle.lookup.specs.Indexes.{recordThere, recordRead, lookedUp, scanned, indexMet, lastIndex, indexed, lowerMet, lowered, valuesMet, recordWay}
+use Rattle.lookup.specs.Indexes.{recordThere, recordRead, recordNumber, scanned, indexMet, lastIndex, indexed, lowerMet, lowered, valuesMet, recordWay}
 use Rattle.answers.specs.declared.Read.{Read}
 use Rattle.answers.specs.declared.Read.the-variants.{Value as Given, Refused}
 use Rattle.answers.specs.Answers.{elementThere, elementRead, inRecord, inVariable, valueRead}
@@ -223,7 +223,7 @@ unfolding bigAt endOf fieldAt isAt atLeast atMost inOrder sameAt eachWithin natA
     varNumber chainTally attrNumber valuesNumber lowerNumber entriesTally numNumber entryNumber oneMore unusedNumber isNone mostOf roomBelow turnBy cleared marked startAt unclaimedAt
     followedAt leftFrom leftOf holderOf faultAt openNumber swept linkNumber turned stepBy runOf littleAt placeAfter elementPlace indicesRight
     rowFits placed placeOf rawAt valueOf bitsOf isVax isNothing decodedOf opened allowance landsOn vdrKept ruleKept meets
-    lastLink sought placeWay variableWay recordThere recordRead lookedUp scanned indexMet lastIndex indexed lowerMet lowered valuesMet
+    lastLink sought placeWay variableWay recordThere recordRead recordNumber scanned indexMet lastIndex indexed lowerMet lowered valuesMet
     recordWay elementThere elementRead inRecord inVariable valueRead wordsOf fileBy fileOf indexTo variableBy variable levels deep padded plane fileA fileB
     fileC fileD fileE fileF fileG fileH fileI fileJ fileL fileM marksAre ends checks isSigned gives refuses reads allOf
     rows

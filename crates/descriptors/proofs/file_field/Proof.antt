@@ -43,14 +43,14 @@ returns-2 c =
     let small : length f - length b < 2147483648 = omega (arith, o .short, o .part) in
     rw (← c .before .before .before .opens .ensures .0, not-false (c .before .before .before .opens .result) (c .before .before .if1 .left), eq-eqb _ _ (c .if2 .taken), toZ-pos w32 small, e)
 
-said-of-requires : tie.Need-said-of-requires
-said-of-requires c κs =
+file-field-in-requires : tie.Need-file-field-in-requires
+file-field-in-requires c κs =
     let o = opened-part (c .before .before .before .before .before .args .f .now) (c .before .body .result .now) (c .before .body .ensures) (c .before .before .before .opens .ensures .1 (not-false _ (c .before .before .if1 .left))) in
     omega (arith, o .gdr)
 
 returns-3 : tie.Need-returns-3
 unfolding fileField
-returns-3 c = simp (c .said-of .ensures, ne-eqb _ _ (c .before .if2 .left), not-false (c .before .before .before .before .opens .result) (c .before .before .before .if1 .left), ← c .before .before .before .before .opens .ensures .0, c .before .before .body .ensures)
+returns-3 c = simp (c .file-field-in .ensures, ne-eqb _ _ (c .before .if2 .left), not-false (c .before .before .before .before .opens .result) (c .before .before .before .if1 .left), ← c .before .before .before .before .opens .ensures .0, c .before .before .body .ensures)
 
 pub file-field-spec : {M : Type 1} → statement M
 file-field-spec =
@@ -62,5 +62,5 @@ file-field-spec =
     sub-t8
     cast-t9
     returns-2
-    said-of-requires
+    file-field-in-requires
     returns-3)

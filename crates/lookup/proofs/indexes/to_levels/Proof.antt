@@ -1,13 +1,13 @@
 use mathlib.Core.Path.{_≡_}
 use mir.Syntax.{w64}
 use mir.Facts.{toZ-ofZ}
-use Rattle.lookup.specs.Indexes.{lookedUp, levelsWay}
+use Rattle.lookup.specs.Indexes.{recordNumber, levelsWay}
 use borrow.Author.Needs.{needs}
 use Rattle.lookup.proofs.indexes.to_levels.Statement.{statement}
 use Rattle.lookup.proofs.indexes.to_levels.Tie as tie
 
-looked-up-requires : tie.Need-looked-up-requires
-looked-up-requires c κs = search needs
+record-number-requires : tie.Need-record-number-requires
+record-number-requires c κs = search needs
 
 enum-known-n : tie.Need-enum-known-n
 enum-known-n c = search needs
@@ -28,8 +28,8 @@ returns : tie.Need-returns
 unfolding levelsWay
 returns c =
     let a = c .before .before .before .before .before .before .before in
-    let n = c .before .before .before .before .before .looked-up in
-    let e : n .result ≡ lookedUp (a .args .f .now) (a .args .v) (a .args .r) = rw (toZ-ofZ {w = w64} (a .fits .r)) at (n .ensures) in
+    let n = c .before .before .before .before .before .record-number in
+    let e : n .result ≡ recordNumber (a .args .f .now) (a .args .v) (a .args .r) = rw (toZ-ofZ {w = w64} (a .fits .r)) at (n .ensures) in
     let t = rw (c .before .before .before .n .given .1) at e in
     (rw (← t, c .levels-of .ensures .0, c .before .seek-record .ensures .0), c .levels-of .ensures .1)
 
@@ -37,8 +37,8 @@ returns-2 : tie.Need-returns-2
 unfolding levelsWay
 returns-2 c =
     let a = c .before .before .before .before in
-    let n = c .before .before .looked-up in
-    let e : n .result ≡ lookedUp (a .args .f .now) (a .args .v) (a .args .r) = rw (toZ-ofZ {w = w64} (a .fits .r)) at (n .ensures) in
+    let n = c .before .before .record-number in
+    let e : n .result ≡ recordNumber (a .args .f .now) (a .args .v) (a .args .r) = rw (toZ-ofZ {w = w64} (a .fits .r)) at (n .ensures) in
     let t = rw (c .enum-told .given .1) at e in
     (rw (← t), tt)
 
@@ -46,7 +46,7 @@ pub to-levels-spec : {M : Type 1} → statement M
 to-levels-spec =
     tie.close
     (tie.spec
-    looked-up-requires
+    record-number-requires
     enum-known-n
     add-seek-record
     seek-record-requires

@@ -17,14 +17,8 @@ to-place-requires c κs = search needs
 enum-known-way : tie.Need-enum-known-way
 enum-known-way c = search needs
 
-cast-seek : tie.Need-cast-seek
-cast-seek c = search needs
-
-entries-place-requires : tie.Need-entries-place-requires
-entries-place-requires c κs = search needs
-
-add-seek : tie.Need-add-seek
-add-seek c = search needs
+head-of-entries-requires : tie.Need-head-of-entries-requires
+head-of-entries-requires c κs = search needs
 
 seek-requires : tie.Need-seek-requires
 seek-requires c κs =
@@ -32,7 +26,7 @@ seek-requires c κs =
     let b = a .args .b .now in
     let e = rw (toZ-ofZ {w = w64} (a .fits .attribute)) at (sym (c .before .before .before .before .to-place .ensures) ∙ c .before .before .way .given .1) in
     let m = subst (Finds (λ o. meets b 4 o ≡ true)) e (place-finds b 4 (a .args .attribute) (a .args .allowed)) in
-    omega (arith, attribute-inside b (c .before .before .way .given .0 .0) m, c .entries-place .ensures .1)
+    omega (arith, attribute-inside b (c .before .before .way .given .0 .0) m, c .head-of-entries .ensures .1)
 
 enum-known-way-2 : tie.Need-enum-known-way-2
 enum-known-way-2 c = search needs
@@ -41,7 +35,7 @@ returns : tie.Need-returns
 returns c =
     let a = c .before .before .before .before .before .before .before in
     let e = rw (toZ-ofZ {w = w64} (a .fits .attribute)) at (sym (c .before .before .before .before .before .to-place .ensures) ∙ c .before .before .before .way .given .1) in
-    rw e (c .seek .ensures ∙ rw (c .before .entries-place .ensures .0))
+    rw e (c .seek .ensures ∙ rw (c .before .head-of-entries .ensures .0))
 
 returns-2 : tie.Need-returns-2
 returns-2 c =
@@ -55,9 +49,7 @@ to-listed-spec =
     (tie.spec
     to-place-requires
     enum-known-way
-    cast-seek
-    entries-place-requires
-    add-seek
+    head-of-entries-requires
     seek-requires
     enum-known-way-2
     returns

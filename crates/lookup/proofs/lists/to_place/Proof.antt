@@ -13,8 +13,8 @@ returns c = let a = c .before .before in sym (place-below (a .args .b .now) (a .
 cast-t6 : tie.Need-cast-t6
 cast-t6 c = let a = c .before .before in cast-nat w64 0 (a .args .n) (a .fits .n) tt (c .if1 .left)
 
-head-requires : tie.Need-head-requires
-head-requires c κs = search needs
+head-of-list-requires : tie.Need-head-of-list-requires
+head-of-list-requires c κs = search needs
 
 seek-requires : tie.Need-seek-requires
 seek-requires c κs = search needs
@@ -22,9 +22,9 @@ seek-requires c κs = search needs
 returns-2 : tie.Need-returns-2
 returns-2 c =
     let a = c .before .before .before .before in
-    let h = rw (is-nat w64 0 (a .args .n) (a .fits .n) (c .before .before .if1 .left), c .before .head .ensures .0) at (c .seek .ensures) in
+    let h = rw (is-nat w64 0 (a .args .n) (a .fits .n) (c .before .before .if1 .left), c .before .head-of-list .ensures .0) at (c .seek .ensures) in
     h ∙ sym (place-at (a .args .b .now) (a .args .t) (a .args .n) (a .args .left) (rw (toZ-ofZ {w = w64} (a .fits .n)) at (c .before .before .if1 .left)))
 
 pub to-place-spec : {M : Type 1} → statement M
 to-place-spec =
-    tie.close (tie.spec returns cast-t6 head-requires seek-requires returns-2)
+    tie.close (tie.spec returns cast-t6 head-of-list-requires seek-requires returns-2)

@@ -2,8 +2,8 @@ use Prim.Native.Nat.{_-_, _≤_, _<_}
 use native.Mathlib.Omega.{arith}
 use Rattle.lookup.proofs.Offsets.{within}
 use borrow.Author.Needs.{needs}
-use Rattle.lookup.proofs.indexes.record_place.Statement.{statement}
-use Rattle.lookup.proofs.indexes.record_place.Tie as tie
+use Rattle.lookup.proofs.indexes.record_at.Statement.{statement}
+use Rattle.lookup.proofs.indexes.record_at.Tie as tie
 
 sub-before : tie.Need-sub-before
 sub-before c = search needs
@@ -47,7 +47,7 @@ returns c =
     let k : a .args .bytes ≤ 4294967295 = omega (arith, a .fits .bytes .fits) in
     (search needs, omega (arith, within (a .args .r - a .args .e .first) (a .args .bytes) h k, a .pre .link))
 
-pub record-place-spec : {M : Type 1} → statement M
-record-place-spec =
+pub record-at-spec : {M : Type 1} → statement M
+record-at-spec =
     tie.close
     (tie.spec sub-before cast-before cast-result add-result mul-result add-result-2 returns)

@@ -2,8 +2,8 @@ use Rattle.records.specs.Opening.{gdrAt}
 use borrow.Author.Tests.{eq-eqb, ne-eqb}
 use native.Mathlib.Omega.{arith}
 use borrow.Author.Needs.{needs}
-use Rattle.descriptors.proofs.said_place.Statement.{statement}
-use Rattle.descriptors.proofs.said_place.Tie as tie
+use Rattle.descriptors.proofs.file_field_at.Statement.{statement}
+use Rattle.descriptors.proofs.file_field_at.Tie as tie
 
 link-at-requires : tie.Need-link-at-requires
 link-at-requires c κs = search needs
@@ -42,8 +42,8 @@ returns-5 : tie.Need-returns-5
 unfolding gdrAt
 returns-5 c = (simp (ne-eqb _ _ (c .if4 .left), ne-eqb _ _ (c .before .if3 .left), ne-eqb _ _ (c .before .before .if2 .left), ne-eqb _ _ (c .before .before .before .if1 .left), c .before .before .before .before .link-at .ensures .0), omega (arith, c .before .before .before .before .before .before .pre, c .before .before .before .before .link-at .ensures .0))
 
-pub said-place-spec : {M : Type 1} → statement M
-said-place-spec =
+pub file-field-at-spec : {M : Type 1} → statement M
+file-field-at-spec =
     tie.close
     (tie.spec
     link-at-requires

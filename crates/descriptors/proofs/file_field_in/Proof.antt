@@ -4,8 +4,8 @@ use mir.Val.{SFits}
 use mir.Syntax.{w32}
 use native.Mathlib.Omega.{arith}
 use borrow.Author.Needs.{needs}
-use Rattle.descriptors.proofs.said_of.Statement.{statement}
-use Rattle.descriptors.proofs.said_of.Tie as tie
+use Rattle.descriptors.proofs.file_field_in.Statement.{statement}
+use Rattle.descriptors.proofs.file_field_in.Tie as tie
 
 bit-requires : tie.Need-bit-requires
 bit-requires c κs = search needs
@@ -21,8 +21,8 @@ returns c =
 returns-2 : tie.Need-returns-2
 returns-2 c = simp (ne-eqb _ _ (c .before .if1 .left), lt-leb _ _ (c .if2 .taken))
 
-said-place-requires : tie.Need-said-place-requires
-said-place-requires c κs = search needs
+file-field-at-requires : tie.Need-file-field-at-requires
+file-field-at-requires c κs = search needs
 
 field-requires : tie.Need-field-requires
 field-requires c κs = search needs
@@ -30,16 +30,16 @@ field-requires c κs = search needs
 returns-3 : tie.Need-returns-3
 returns-3 c =
     let s : SFits w32 (c .field .result) = record { sfits = c .field .ok } in
-    rw (ne-eqb _ _ (c .before .before .before .if1 .left), le-leb _ _ (c .before .before .if2 .left), toZ-ofZ {w = w32} s, c .field .ensures, c .before .said-place .ensures .0)
+    rw (ne-eqb _ _ (c .before .before .before .if1 .left), le-leb _ _ (c .before .before .if2 .left), toZ-ofZ {w = w32} s, c .field .ensures, c .before .file-field-at .ensures .0)
 
-pub said-of-spec : {M : Type 1} → statement M
-said-of-spec =
+pub file-field-in-spec : {M : Type 1} → statement M
+file-field-in-spec =
     tie.close
     (tie.spec
     bit-requires
     majority-of-requires
     returns
     returns-2
-    said-place-requires
+    file-field-at-requires
     field-requires
     returns-3)

@@ -2,8 +2,8 @@ use Rattle.records.specs.Opening.{gdrAt}
 use borrow.Author.Tests.{eq-eqb, ne-eqb}
 use native.Mathlib.Omega.{arith}
 use borrow.Author.Needs.{needs}
-use Rattle.lookup.proofs.lists.head.Statement.{statement}
-use Rattle.lookup.proofs.lists.head.Tie as tie
+use Rattle.lookup.proofs.lists.head_of_list.Statement.{statement}
+use Rattle.lookup.proofs.lists.head_of_list.Tie as tie
 
 link-at-requires : tie.Need-link-at-requires
 link-at-requires c κs = search needs
@@ -32,8 +32,8 @@ returns-3 : tie.Need-returns-3
 unfolding gdrAt
 returns-3 c = (simp (ne-eqb _ _ (c .if2 .left), ne-eqb _ _ (c .before .if1 .left), c .before .before .link-at .ensures .0), omega (arith, c .before .before .link-at .ensures .0))
 
-pub head-spec : {M : Type 1} → statement M
-head-spec =
+pub head-of-list-spec : {M : Type 1} → statement M
+head-of-list-spec =
     tie.close
     (tie.spec
     link-at-requires
