@@ -2,20 +2,24 @@
 use mathlib.Core.Path.{_≡_, refl, sym, ap, _∙_}
 use mathlib.Core.Logic.{_⊎_, inl, inr}
 use mathlib.Core.Bool.{Bool, true, false, and-true, or-true, _&&_, _||_}
+use mathlib.Core.Option.{Option, none, some}
 use mathlib.Core.List.{List, [], _∷_, _++_}
 use Prim.Native.Nat.{_≤_}
 use native.Mathlib.Omega.{arith}
 use lib.Dec.{leb, eqb}
 use borrow.Author.Tests.{leb-true, le-leb, eqb-true}
 use Rattle.walk.specs.Bounds.{SmallLevel, SmallLevels}
-use Rattle.walk.specs.Levels.{noLevel, noLevels, isNone, pushed, popped}
-use Rattle.walk.specs.declared.places.Level.{Level}
-use Rattle.walk.specs.declared.places.Levels.{Levels}
-use Rattle.walk.specs.declared.places.Walk as W
-use Rattle.walk.specs.declared.places.Walk.the-variants.{Start, Vars, Chain, Entry, Attrs, Entries, Unused}
-use Rattle.checker.specs.Saved.{offsetRange, countRange, levelThere, noneThere, levelList, noneOf, levelsStand, levelsRange}
 use Rattle.format.proofs.Tests.{both, either, every}
-use Rattle.checker.proofs.Placed.{Placed}
+use Rattle.walk.specs.Levels.{noLevel, noLevels, isNone, pushed, popped, indexed}
+use Rattle.walk.specs.Ranges.{levelRanges, allIn}
+use Rattle.walk.specs.declared.positions.Var.{Var}
+use Rattle.walk.specs.declared.positions.Level.{Level}
+use Rattle.walk.specs.declared.positions.Levels.{Levels}
+use Rattle.walk.specs.declared.positions.Walk as W
+use Rattle.walk.specs.declared.positions.Walk.the-variants.{Start}
+use Rattle.walk.proofs.Closed.{all-in, in-all}
+use Rattle.checker.specs.Saved.{levelThere, noneThere, levelList, noneOf, levelsStand, levelsBelong, levelsRange}
+use Rattle.checker.proofs.Placed.{PlacedBy, Placed}
 
 -- ---- tested from the last level up
 -- none says whether there is none of ls, there whether they are levels and behind them none
@@ -87,14 +91,11 @@ back-there (l ∷ ls) e = go (back-there ls) (cases l ls e)
 -- ---- one level
 there-parts : (l : Level) → levelThere l ≡ true → SmallLevel l × (1 ≤ l .next)
 there-parts l e =
-    let q = every (offsetRange (l .vxr) ∷ leb 1 (l .next) ∷ countRange (l .next) ∷ offsetRange (l .last) ∷ []) e in (
-      (leb-true (l .vxr) 2147483647 (q 0), leb-true (l .next) 2147483648 (q 2), leb-true (l .last) 2147483647 (q 3)),
-      leb-true 1 (l .next) (q 1),
-    )
+    let p = both (leb 1 (l .next)) (allIn (levelRanges l)) e in
+    (in-all (levelRanges l) (p .1), leb-true 1 (l .next) (p .0))
 
 pub small-there : (l : Level) → SmallLevel l → 1 ≤ l .next → levelThere l ≡ true
-small-there l s n =
-    rw (le-leb (l .vxr) 2147483647 (s .0), le-leb 1 (l .next) n, le-leb (l .next) 2147483648 (s .1), le-leb (l .last) 2147483647 (s .2))
+small-there l s n = rw (le-leb 1 (l .next) n) (all-in (levelRanges l) s)
 
 none-parts : (l : Level) → noneThere l ≡ true → (l .vxr ≡ 0) × (l .next ≡ 0) × (l .last ≡ 0)
 none-parts l e =
@@ -106,7 +107,7 @@ head-small l ls e = go (cases l ls e)
   where
     go : Cases l ls → SmallLevel l
     go (inl h) = there-parts l (h .0) .0
-    go (inr h) = let z = none-parts l (both (noneThere l) (noneOf ls) h .0) in (omega arith, omega arith, omega arith)
+    go (inr h) = let z = none-parts l (both (noneThere l) (noneOf ls) h .0) in (omega arith, (omega arith, (omega arith, tt)))
 
 abbrev AllSmall : List Level → Type 0
 AllSmall [] = Unit {0}
@@ -139,7 +140,7 @@ none-tested l ls = go (levelsStand (l ∷ ls)) (isNone l) (noneOf (l ∷ ls)) (�
     go false z true h a b = a refl
     go false z false h a b = refl
 
--- ---- the levels above a place of the walk
+-- ---- the levels above a position of the walk
 pub record Above (up : Levels) (w : W.Walk) : Type 0 where
   pub there : levelsStand (levelList up) ≡ true
   pub placed : Placed (up .a) w
@@ -152,27 +153,20 @@ module _ (up : Levels) where
   abbrev behind : List Level
   behind = up .b ∷ up .c ∷ up .d ∷ up .e ∷ up .f ∷ up .g ∷ []
 
-  none-above : (w : W.Walk) → Placed (up .a) w → noneOf (levelList up) ≡ true → Above up w
-  none-above w p e = record { there = none-there (levelList up) e; placed = p }
-
   -- in their ranges, and back
   pub range-above : (w : W.Walk) → levelsRange up w ≡ true → Above up w
-  range-above Start e = none-above Start (none-head (up .a) behind e) e
-  range-above (Vars k p n g) e = none-above (Vars k p n g) (none-head (up .a) behind e) e
-  range-above (Chain u p x floor c) e = record { there = e; placed = tt }
-  range-above (Entry u x i floor c) e = record { there = e; placed = tt }
-  range-above (Attrs p n) e = none-above (Attrs p n) (none-head (up .a) behind e) e
-  range-above (Entries k a n p g h) e = none-above (Entries k a n p g h) (none-head (up .a) behind e) e
-  range-above (Unused p b) e = none-above (Unused p b) (none-head (up .a) behind e) e
+  range-above w e = record { there = go (indexed w) e .0; placed = go (indexed w) e .1 }
+    where
+      go : (u : Option Var) → levelsBelong up u ≡ true → (levelsStand (levelList up) ≡ true) × PlacedBy (up .a) u
+      go none e = (none-there (levelList up) e, none-head (up .a) behind e)
+      go (some u) e = (e, tt)
 
   pub above-range : (w : W.Walk) → Above up w → levelsRange up w ≡ true
-  above-range Start h = head-none (up .a) behind (h .placed) (h .there)
-  above-range (Vars k p n g) h = head-none (up .a) behind (h .placed) (h .there)
-  above-range (Chain u p x floor c) h = h .there
-  above-range (Entry u x i floor c) h = h .there
-  above-range (Attrs p n) h = head-none (up .a) behind (h .placed) (h .there)
-  above-range (Entries k a n p g e) h = head-none (up .a) behind (h .placed) (h .there)
-  above-range (Unused p b) h = head-none (up .a) behind (h .placed) (h .there)
+  above-range w h = go (indexed w) (h .placed)
+    where
+      go : (u : Option Var) → PlacedBy (up .a) u → levelsBelong up u ≡ true
+      go none p = head-none (up .a) behind p (h .there)
+      go (some u) p = h .there
 
   -- one level down, one up
   pub pushed-there : (l : Level) → SmallLevel l → 1 ≤ l .next → levelsStand (levelList up) ≡ true → levelsStand (levelList (pushed l up)) ≡ true

@@ -8,9 +8,9 @@ use lib.Dec.{leb, eqb}
 use mathlib.Core.Bool.{Bool}
 use borrow.Author.Tests.{leb-true, eqb-true}
 use Rattle.checker.specs.declared.state.Stage.{Stage}
-use Rattle.checker.specs.declared.state.Stage.the-variants.{Fresh, Sweep, Walking, Done, Strange}
+use Rattle.checker.specs.declared.state.Stage.the-variants.{Fresh, Sweep, Walking, Done, OutOfRange}
 use Rattle.checker.specs.Saved.{stageRange}
-use Rattle.checker.specs.Ready.{Ready, VerdictFits, Told, Loaded}
+use Rattle.checker.specs.Bounds.{Ready, VerdictFits, IsVerdict, Loaded}
 use Rattle.checker.proofs.Above.{levels-small}
 use Rattle.checker.proofs.Sound.{SoundBy}
 
@@ -19,10 +19,10 @@ ranged-fits l Fresh e = tt
 ranged-fits l (Sweep o) e = tt
 ranged-fits l (Walking w up) e = tt
 ranged-fits l (Done v p) e = absurd (true≢false (sym e))
-ranged-fits l Strange e = tt
+ranged-fits l OutOfRange e = tt
 
-told-small : (v : ℕ) → Told v → v ≤ 23
-told-small v t = go (leb v 14) (eqb v 20) refl refl (t .in-range)
+verdict-small : (v : ℕ) → IsVerdict v → v ≤ 23
+verdict-small v t = go (leb v 14) (eqb v 20) refl refl (t .in-range)
   where
     go : (a b : Bool) → leb v 14 ≡ a → eqb v 20 ≡ b → (a || b || eqb v 23) ≡ true → v ≤ 23
     go true b h k e = omega (arith, leb-true v 14 h)
@@ -33,12 +33,12 @@ pub loaded-fits : (n : ℕ) (g : Stage) → Loaded n g → VerdictFits g
 loaded-fits n Fresh h = tt
 loaded-fits n (Sweep o) h = tt
 loaded-fits n (Walking w up) h = tt
-loaded-fits n (Done v p) h = told-small v (h .1 .told)
-loaded-fits n Strange h = tt
+loaded-fits n (Done v p) h = verdict-small v (h .1 .verdict)
+loaded-fits n OutOfRange h = tt
 
 pub sound-ready : (Odd : ℕ → List ℕ → Type 0) (f : List ℕ) (n : ℕ) (m : List ℕ) (g : Stage) → SoundBy Odd f n m g → Ready f m g
 sound-ready Odd f n m Fresh h = tt
 sound-ready Odd f n m (Sweep o) h = record { marks = h .0 .3; short = h .0 .2 }
 sound-ready Odd f n m (Walking w up) h = (record { marks = h .0 .3; short = h .0 .2 }, h .1, levels-small up (h .2 .there))
-sound-ready Odd f n m (Done v p) h = told-small v (h .1 .told)
-sound-ready Odd f n m Strange h = tt
+sound-ready Odd f n m (Done v p) h = verdict-small v (h .1 .verdict)
+sound-ready Odd f n m OutOfRange h = tt

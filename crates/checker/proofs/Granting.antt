@@ -8,30 +8,30 @@ use lib.ListN.{length}
 use lib.IntN.{ℤ, pos}
 use borrow.Author.Tests.{ne-eqb}
 use Rattle.checker.specs.declared.state.Stage.{Stage}
-use Rattle.checker.specs.declared.state.Stage.the-variants.{Fresh, Sweep, Walking, Done, Strange}
+use Rattle.checker.specs.declared.state.Stage.the-variants.{Fresh, Sweep, Walking, Done, OutOfRange}
 use Rattle.checker.specs.declared.state.State.{State}
-use Rattle.checker.specs.Step.{conf, Run, finished, answerOf, placeIn, runOf}
+use Rattle.checker.specs.Step.{conf, Run, finished, answerOf, locationIn, runOf}
 use Rattle.checker.specs.Saved.{save, load}
 use Rattle.checker.specs.Grant.{granted, otherFile, worked, grantBy, grantOf}
 use Rattle.checker.proofs.Cases.{right-length, idle}
 
--- a check that is not finished has no place
-pub running-place : (g : Stage) → finished g ≡ false → placeIn g ≡ 0
-running-place Fresh e = refl
-running-place (Sweep o) e = refl
-running-place (Walking w up) e = refl
-running-place (Done v p) e = absurd (true≢false e)
-running-place Strange e = refl
+-- a check that is not finished has no location
+pub running-location : (g : Stage) → finished g ≡ false → locationIn g ≡ 0
+running-location Fresh e = refl
+running-location (Sweep o) e = refl
+running-location (Walking w up) e = refl
+running-location (Done v p) e = absurd (true≢false e)
+running-location OutOfRange e = refl
 
 module _ (f m l : List ℕ) (n : ℕ) (long : length l ≡ 34) (s : State) (is : s ≡ load l) where
   by-state : grantBy f m l n s ≡ grantOf f m l n
   by-state = ap (λ (t : State). grantBy f m l n t) is ∙ sym (right-length f m l n long)
 
-  pub of-finished : finished (s .stage) ≡ true → (a : ℤ) (p : ℕ) → a ≡ answerOf (s .stage) → p ≡ placeIn (s .stage) → granted a p 0 l m ≡ grantOf f m l n
+  pub of-finished : finished (s .stage) ≡ true → (a : ℤ) (p : ℕ) → a ≡ answerOf (s .stage) → p ≡ locationIn (s .stage) → granted a p 0 l m ≡ grantOf f m l n
   of-finished e a p h q = rw (h, q) (sym (idle f m l n s (inl e)) ∙ by-state)
 
   pub of-none : n ≡ 0 → finished (s .stage) ≡ false → (a : ℤ) → a ≡ answerOf (s .stage) → granted a 0 0 l m ≡ grantOf f m l n
-  of-none e o a h = rw h (rw (running-place (s .stage) o) at (sym (idle f m l n s (inr e)) ∙ by-state))
+  of-none e o a h = rw h (rw (running-location (s .stage) o) at (sym (idle f m l n s (inr e)) ∙ by-state))
 
   module _ (running : finished (s .stage) ≡ false) (some : n ≡ 0 → ⊥) where
     other : otherFile f m (s .length) ≡ true → grantBy f m l n s ≡ granted (pos 21) 0 0 l m
@@ -53,7 +53,7 @@ module _ (f m l : List ℕ) (n : ℕ) (long : length l ≡ 34) (s : State) (is :
         → r ≡ lentRun
         → (a : ℤ) (p : ℕ)
         → a ≡ answerOf (r .at .state .stage)
-        → p ≡ placeIn (r .at .state .stage)
+        → p ≡ locationIn (r .at .state .stage)
         → (l′ : List ℕ)
         → l′ ≡ save (r .at .state)
         → granted a p (worked r .steps) l′ (r .at .marks) ≡ grantOf f m l n

@@ -20,26 +20,26 @@ use Rattle.records.specs.declared.index.Entry as I
 use Rattle.variables.specs.declared.vdr.Variable.{Variable}
 use Rattle.variables.specs.declared.vdr.Layout.{Layout}
 use Rattle.variables.specs.Vdr.{carriedOf, vdrFields, headOf, countPlace, countRight, layoutOf, sizeExact, dimensionsRight, recordBytes, vdrFault, dimensioned, variableOf}
-use Rattle.walk.specs.Walk.{typeNumber, followed, gdrNamed, fieldNumber, tallied, tallyPlace, numNumber, varsTally, varNumber, chainTally, valuesNumber, lowerNumber, attrNumber, entriesTally, entryNumber, unusedNumber, lowerTurn, valuesTurn, entryTurn, turnBy}
+use Rattle.walk.specs.Walk.{typeNumber, gdrNamed, fieldNumber, overBy, afterVars, varsList, lowerOver, lowerNext, chainList, attrsList, entriesList, unusedList, Listing, listStep, tallied, tallyPlace, numNumber, varsTally, varNumber, chainTally, valuesNumber, lowerNumber, attrNumber, entriesTally, entryNumber, unusedNumber, lowerStep, valuesStep, entryStep, walkStepBy}
 use Rattle.walk.specs.Levels.{isNone, mostOf}
-use Rattle.walk.specs.declared.places.Level.{Level}
-use Rattle.walk.specs.declared.places.Var.{Var}
-use Rattle.walk.specs.declared.places.Walk as W
-use Rattle.walk.specs.declared.places.Walk.the-variants.{Start, Vars, Chain, Entry, Attrs, Entries, Unused}
-use Rattle.walk.specs.declared.places.Turn as T
-use Rattle.walk.specs.declared.places.Turn.the-variants.{Over, End, Take, Down, Up}
-use Rattle.walk.proofs.Closed.{link-keeps}
+use Rattle.walk.specs.declared.positions.Level.{Level}
+use Rattle.walk.specs.declared.positions.Var.{Var}
+use Rattle.walk.specs.declared.positions.Walk as W
+use Rattle.walk.specs.declared.positions.Walk.the-variants.{Start, Vars, Chain, Entry, Attrs, Entries, Unused}
+use Rattle.walk.specs.declared.positions.Step as T
+use Rattle.walk.specs.declared.positions.Step.the-variants.{Over, End, Take, Down, Up}
+use Rattle.walk.proofs.Leads.{link-keeps, list-keeps}
 
 -- the numbers of a step of the walk; those of a link have their fact together with the record that it leads to
-abbrev pub TurnNumbers : (ℕ → Type 0) → (ℕ → Type 0) → (ℕ → ℕ → Type 0) → T.Turn → Type 0
-TurnNumbers E L Q (Over w v) = L v
-TurnNumbers E L Q (End v) = L v
-TurnNumbers E L Q (Take w early t typed late) = E early × Q t typed × Q t late
-TurnNumbers E L Q (Down w t typed l) = Q t typed
-TurnNumbers E L Q (Up w) = Unit {0}
+abbrev pub StepNumbers : (ℕ → Type 0) → (ℕ → Type 0) → (ℕ → ℕ → Type 0) → T.Step → Type 0
+StepNumbers E L Q (Over w v) = L v
+StepNumbers E L Q (End v) = L v
+StepNumbers E L Q (Take w early t typed late) = E early × Q t typed × Q t late
+StepNumbers E L Q (Down w t typed l) = Q t typed
+StepNumbers E L Q (Up w) = Unit {0}
 
-pub record TurnHas (E L : ℕ → Type 0) (Q : ℕ → ℕ → Type 0) (t : T.Turn) : Type 0 where
-  pub told : TurnNumbers E L Q t
+pub record StepHas (E L : ℕ → Type 0) (Q : ℕ → ℕ → Type 0) (t : T.Step) : Type 0 where
+  pub has : StepNumbers E L Q t
 
 module _ (f : List ℕ) (E L : ℕ → Type 0) (Q : ℕ → ℕ → Type 0) (early-0 : E 0) (early-12 : E 12) (early-20 : E 20) (ends-0 : L 0) (ends-11 : L 11)
     (ends-12 : L 12) (ends-20 : L 20) (has-0 : (t : ℕ) → Q t 0) (has-8 : (t : ℕ) → Q t 8) (has-10 : (t : ℕ) → Q t 10) (has-11 : (t : ℕ) → Q t 11)
@@ -55,16 +55,16 @@ module _ (f : List ℕ) (E L : ℕ → Type 0) (Q : ℕ → ℕ → Type 0) (ear
   ends-first vs h = first-has L ends-0 vs h
 
   record EntryHas (e : I.Entry) : Type 0 where
-    told : E (e .fault)
+    has : E (e .fault)
 
-  over-told : {v : ℕ} {w : W.Walk} → L v → TurnHas E L Q (Over w v)
-  over-told h = record { told = h }
+  over-has : {v : ℕ} {w : W.Walk} → L v → StepHas E L Q (Over w v)
+  over-has h = record { has = h }
 
-  end-told : {v : ℕ} → L v → TurnHas E L Q (End v)
-  end-told h = record { told = h }
+  end-has : {v : ℕ} → L v → StepHas E L Q (End v)
+  end-has h = record { has = h }
 
-  take-told : {early t typed late : ℕ} {w : W.Walk} → E early → Q t typed → Q t late → TurnHas E L Q (Take w early t typed late)
-  take-told a b c = record { told = (a, b, c) }
+  take-has : {early t typed late : ℕ} {w : W.Walk} → E early → Q t typed → Q t late → StepHas E L Q (Take w early t typed late)
+  take-has a b c = record { has = (a, b, c) }
 
   -- ---- before a link, and at a list's end
   ends-field : (p : ℕ) (z : ℤ) → L (fieldNumber f p z)
@@ -99,9 +99,9 @@ module _ (f : List ℕ) (E L : ℕ → Type 0) (Q : ℕ → ℕ → Type 0) (ear
       let first = firstPlace x i in
       let last = lastPlace x (entriesAt f x) i in
       let offset = offsetPlace x (entriesAt f x) i in
-      cond-keeps EntryHas (ltb (endOf f) (first + 4)) (record { told = early-20 })
+      cond-keeps EntryHas (ltb (endOf f) (first + 4)) (record { has = early-20 })
       (cond-keeps EntryHas (eqb (rangeNumber f first last offset floor most) 0)
-      (record { told = early-0 }) (record { told = early-range first last offset floor most }))
+      (record { has = early-0 }) (record { has = early-range first last offset floor most }))
 
   ends-entries : (k a n greatest : ℕ) → L (entriesTally f k a n greatest)
   unfolding entriesTally
@@ -119,10 +119,10 @@ module _ (f : List ℕ) (E L : ℕ → Type 0) (Q : ℕ → ℕ → Type 0) (ear
     has-first vs h = first-has (Q t) (has-0 t) vs h
 
     record VarHas (v : Variable) : Type 0 where
-      told : Q t (v .fault)
+      has : Q t (v .fault)
 
     var-fault : (v : ℕ) → Q t v → VarHas (vdrFault v)
-    var-fault v h = record { told = h }
+    var-fault v h = record { has = h }
 
     var-cond : (b : Bool) {x y : Variable} → VarHas x → VarHas y → VarHas (cond b x y)
     var-cond b p q = cond-keeps VarHas b p q
@@ -147,7 +147,7 @@ module _ (f : List ℕ) (E L : ℕ → Type 0) (Q : ℕ → ℕ → Type 0) (ear
         (var-cond (ltb (endOf f) (l .sizes + 4 * l .count)) (var-fault 20 (has-20 t))
         (var-cond (ltb (endOf f) (l .variances + 4 * l .count)) (var-fault 20 (has-20 t))
         (var-cond (dimensionsRight f l)
-        (var-cond (ltb 2147483647 (recordBytes f o l)) (var-fault 10 (has-10 t)) (record { told = (has-0 t) }))
+        (var-cond (ltb 2147483647 (recordBytes f o l)) (var-fault 10 (has-10 t)) (record { has = (has-0 t) }))
         (var-fault 10 (has-10 t)))))
         (var-fault 10 (has-10 t))
 
@@ -173,7 +173,7 @@ module _ (f : List ℕ) (E L : ℕ → Type 0) (Q : ℕ → ℕ → Type 0) (ear
     unfolding varNumber
     has-var k n =
         has-first (carriedOf f t ∷ variableOf f k t .fault ∷ unless 11 (isAt f (t + 52) (pos n)) ∷ [])
-        (has-carried, (has-variable k t .told, (has-unless 11 (isAt f (t + 52) (pos n)) (has-11 t), tt)))
+        (has-carried, (has-variable k t .has, (has-unless 11 (isAt f (t + 52) (pos n)) (has-11 t), tt)))
 
     has-vxr : (o : ℕ) → Q t (vxrRule f o)
     unfolding vxrRule
@@ -187,7 +187,7 @@ module _ (f : List ℕ) (E L : ℕ → Type 0) (Q : ℕ → ℕ → Type 0) (ear
     unfolding valuesNumber
     has-values v e h =
         has-first (reachOf f (e .link) 8 ∷ v .fault ∷ vvrRule f (e .link) (e .last - e .first + 1) (v .bytes) ∷ [])
-        (has-reach (e .link) 8, (h .told, (has-vvr (e .link) (e .last - e .first + 1) (v .bytes), tt)))
+        (has-reach (e .link) 8, (h .has, (has-vvr (e .link) (e .last - e .first + 1) (v .bytes), tt)))
 
     has-lower : (o : ℕ) → Q t (lowerNumber f o)
     unfolding lowerNumber
@@ -216,47 +216,45 @@ module _ (f : List ℕ) (E L : ℕ → Type 0) (Q : ℕ → ℕ → Type 0) (ear
 
   -- ---- a step of the walk
   -- a link of an index, to lower records or to values
-  has-entry : (room : Bool) (u : Var) (x i : ℕ) (c : Bool) (e : I.Entry) → E (e .fault) → TurnHas E L Q (entryTurn f u x i c room e)
+  has-entry : (room : Bool) (u : Var) (x i : ℕ) (c : Bool) (e : I.Entry) → E (e .fault) → StepHas E L Q (entryStep f u x i c room e)
   has-entry room u x i c e fault = go (indexAt f (e .link)) refl
     where
       o : ℕ
       o = e .link
 
-      go : (b : Bool) → indexAt f (e .link) ≡ b → TurnHas E L Q (cond b (lowerTurn f u x i c room e) (valuesTurn f u x i c e))
+      go : (b : Bool) → indexAt f (e .link) ≡ b → StepHas E L Q (cond b (lowerStep f u x i c room e) (valuesStep f u x i c e))
       go true h =
           let deep = has-unless o 23 room (has-23 o h) in
-          cond-keeps (TurnHas E L Q) (eqb (e .fault) 0 && eqb (lowerNumber f o) 0) (record { told = deep }) (take-told fault deep (has-lower o o))
+          cond-keeps (StepHas E L Q) (eqb (e .fault) 0 && eqb (lowerNumber f o) 0) (record { has = deep }) (take-has fault deep (has-lower o o))
       go false h =
-          take-told fault (has-type o o (pos 7)) (has-values o (variableOf f (u .kind) (u .vdr)) e (has-variable o (u .kind) (u .vdr)))
+          take-has fault (has-type o o (pos 7)) (has-values o (variableOf f (u .kind) (u .vdr)) e (has-variable o (u .kind) (u .vdr)))
 
-  pub has-turn : (near : Level) (room : Bool) (w : W.Walk) → TurnHas E L Q (turnBy f near room w)
-  unfolding turnBy followed
-  has-turn near room Start =
+  -- a link of a list
+  list-has : (p : ℕ) (l : Listing) → StepHas E L Q (l .over) → ((o : ℕ) → Q o (l .number o)) → StepHas E L Q (listStep f p l)
+  list-has p l over number =
+      list-keeps f p (StepHas E L Q) l (end-has ends-20) over (λ o h. take-has early-0 (has-type o o (l .typed)) (number o))
+
+  over-gdr : (v : ℕ) (w : W.Walk) → L v → StepHas E L Q (overBy f v w)
+  over-gdr v w h = cond-keeps (StepHas E L Q) (gdrNamed f) {x = Over w v} {y = End 20} (over-has h) (end-has ends-20)
+
+  pub step-has : (near : Level) (room : Bool) (w : W.Walk) → StepHas E L Q (walkStepBy f near room w)
+  unfolding walkStepBy lowerNext
+  step-has near room Start =
       let o = gdrAt f in
-      cond-keeps (TurnHas E L Q) (gdrNamed f) (take-told early-0 (has-type o o (pos 2)) (has-0 o)) (end-told ends-20)
-  has-turn near room (Vars k p n greatest) =
-      let o = linkAt f p in
-      link-keeps f (TurnHas E L Q) p (end-told ends-20)
-      (cond-keeps (TurnHas E L Q) (gdrNamed f) (over-told (ends-vars k n greatest)) (end-told ends-20))
-      (take-told early-0 (has-type o o (pos k)) (has-var o k n))
-  has-turn near room (Chain u p x floor covered) =
-      let o = linkAt f p in
-      link-keeps f (TurnHas E L Q) p (end-told ends-20)
-      (cond-keeps (TurnHas E L Q) (isNone near) (over-told (ends-chain (u .vdr) x covered))
-      (cond-keeps (TurnHas E L Q) (ltb (endOf f) (near .vxr + 20)) (end-told ends-20) (record { told = tt })))
-      (cond-keeps (TurnHas E L Q) (isNone near) (take-told early-0 (has-type o o (pos 6)) (has-vxr o o)) (end-told ends-11))
-  has-turn near room (Entry u x i floor covered) =
-      has-entry room u x i covered (entryOf f x i floor (mostOf near)) (early-entry x i floor (mostOf near) .told)
-  has-turn near room (Attrs p n) =
-      let o = linkAt f p in
-      link-keeps f (TurnHas E L Q) p (end-told ends-20)
-      (cond-keeps (TurnHas E L Q) (gdrNamed f) (over-told (ends-field (gdrAt f + 28) (pos n))) (end-told ends-20))
-      (take-told early-0 (has-type o o (pos 4)) (has-attr o n o))
-  has-turn near room (Entries k a n p e greatest) =
-      let o = linkAt f p in
-      link-keeps f (TurnHas E L Q) p (end-told ends-20) (over-told (ends-entries k a e greatest))
-      (take-told early-0 (has-type o o (pos k)) (has-aedr o a o))
-  has-turn near room (Unused p b) =
-      let o = linkAt f p in
-      link-keeps f (TurnHas E L Q) p (end-told ends-20) (end-told ends-0)
-      (take-told early-0 (has-type o o (negsuc 0)) (has-unused o b o))
+      cond-keeps (StepHas E L Q) (gdrNamed f) (take-has early-0 (has-type o o (pos 2)) (has-0 o)) (end-has ends-20)
+  step-has near room (Vars k p n greatest) =
+      list-has p (varsList f k n greatest) (over-gdr (varsTally f k n greatest) (afterVars f k) (ends-vars k n greatest)) (λ o. has-var o k n)
+  step-has near room (Chain u p last floor c) =
+      cond-keeps (StepHas E L Q) (isNone near)
+      (list-has p (chainList f u last floor c) (over-has (ends-chain (u .vdr) last c)) (λ o. has-vxr o o))
+      (link-keeps f p (StepHas E L Q) {over = lowerOver f u near c} {taken = λ o. End 11} (end-has ends-20)
+      (cond-keeps (StepHas E L Q) (ltb (endOf f) (near .vxr + 20)) {x = End 20} (end-has ends-20) (record { has = tt }))
+      (λ o h. end-has ends-11))
+  step-has near room (Entry u x i floor covered) =
+      has-entry room u x i covered (entryOf f x i floor (mostOf near)) (early-entry x i floor (mostOf near) .has)
+  step-has near room (Attrs p n) =
+      list-has p (attrsList f n) (over-gdr (fieldNumber f (gdrAt f + 28) (pos n)) (Unused (gdrAt f + 44) 0) (ends-field (gdrAt f + 28) (pos n)))
+      (λ o. has-attr o n o)
+  step-has near room (Entries k a n p e greatest) =
+      list-has p (entriesList f k a n e greatest) (over-has (ends-entries k a e greatest)) (λ o. has-aedr o a o)
+  step-has near room (Unused p b) = list-has p (unusedList f b) (end-has ends-0) (λ o. has-unused o b o)

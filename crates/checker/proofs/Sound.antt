@@ -1,6 +1,6 @@
 -- The states that a grant works on: what every step keeps of them, and that each is loaded as it was saved. Assumes nothing.
 use mathlib.Core.Path.{_≡_, refl, sym, ap, _∙_}
-use mathlib.Core.Logic.{inl, inr, _≢_}
+use mathlib.Core.Logic.{_≢_, inl, inr}
 use mathlib.Core.Bool.{Bool, true, false, cond, not, true≢false, and-false, _&&_, _||_}
 use mathlib.Core.List.{List, [], _∷_}
 use Prim.Native.Nat.{ℕ, _+_, _≤_}
@@ -14,144 +14,30 @@ use Rattle.records.specs.Opening.{tooLong, bodyOf}
 use Rattle.format.proofs.Tests.{both, every}
 use Rattle.records.proofs.Bodies.{opening-passes, body-le}
 use Rattle.marks.specs.Marks.{marked}
-use Rattle.walk.specs.Bounds.{VarKind, EntryKind, SmallVar, Within}
+use Rattle.walk.specs.Ranges.{rangesOf}
+use Rattle.walk.specs.Bounds.{Within}
 use Rattle.walk.specs.Levels.{noLevels, roomBelow}
-use Rattle.walk.specs.Walk.{turnOf}
-use Rattle.walk.specs.declared.places.Levels.{Levels}
-use Rattle.walk.specs.declared.places.Var.{Var}
-use Rattle.walk.specs.declared.places.Walk as W
-use Rattle.walk.specs.declared.places.Walk.the-variants.{Start, Vars, Chain, Entry, Attrs, Entries, Unused}
-use Rattle.walk.specs.declared.places.Turn as T
-use Rattle.walk.specs.declared.places.Turn.the-variants.{Over, End, Take, Down, Up}
-use Rattle.walk.proofs.Closed.{NextWithin, within-turn}
+use Rattle.walk.specs.Walk.{walkStep}
+use Rattle.walk.specs.declared.positions.Levels.{Levels}
+use Rattle.walk.specs.declared.positions.Walk as W
+use Rattle.walk.specs.declared.positions.Walk.the-variants.{Start}
+use Rattle.walk.specs.declared.positions.Step as T
+use Rattle.walk.specs.declared.positions.Step.the-variants.{Over, End, Take, Down, Up}
+use Rattle.walk.proofs.Closed.{all-in, in-all, NextWithin, step-within}
 use Rattle.checker.specs.declared.state.Stage.{Stage}
-use Rattle.checker.specs.declared.state.Stage.the-variants.{Fresh, Sweep, Walking, Done, Strange}
+use Rattle.checker.specs.declared.state.Stage.the-variants.{Fresh, Sweep, Walking, Done, OutOfRange}
 use Rattle.checker.specs.declared.state.State.{State}
 use Rattle.checker.specs.Step.{Conf, conf, Run, fresh, finished, stepOf, runOf}
-use Rattle.checker.specs.Saved.{save, lengthRange, offsetRange, linkRange, countRange, varRange, walkRange, levelsStand, levelList, levelsRange}
+use Rattle.checker.specs.Saved.{save, lengthRange, walkRange, levelsStand, levelList, levelsRange}
 use Rattle.checker.specs.Grant.{otherFile, worked, grantBy, grantOf}
-use Rattle.checker.proofs.Placed.{NextPlaced, placed-turn}
+use Rattle.checker.proofs.Placed.{NextPlaced, step-placed}
 use Rattle.checker.proofs.Above.{Above, top-above, range-above, above-range, pushed-there, popped-there, levels-small}
-use Rattle.checker.proofs.Outcomes.{TurnGoes, Goes, step-by}
+use Rattle.checker.proofs.Outcomes.{StepGoes, Goes, step-by}
 use Rattle.checker.proofs.Passed.{opened, tiled, marked-length}
-use Rattle.checker.proofs.Runs.{run-none, run-over, run-keeps}
+use Rattle.checker.proofs.PlainRuns.{run-none, run-over, run-keeps}
 use Rattle.checker.proofs.Loads.{load-save, length-save}
 use Rattle.checker.proofs.Cases.{Case, idles, refuses, works, case-of, right-length}
-use Rattle.checker.specs.Ready.{Kept, Loaded}
-
--- ---- ranges
-var-range : (k : ℕ) → VarKind k → (eqb k 3 || eqb k 8) ≡ true
-var-range k (inl e) = rw e
-var-range k (inr e) = rw e
-
-entry-range : (k : ℕ) → EntryKind k → (eqb k 5 || eqb k 9) ≡ true
-entry-range k (inl e) = rw e
-entry-range k (inr e) = rw e
-
-var-kind : (k : ℕ) → (eqb k 3 || eqb k 8) ≡ true → VarKind k
-var-kind k e = go (eqb k 3) refl e
-  where
-    go : (b : Bool) → eqb k 3 ≡ b → (b || eqb k 8) ≡ true → VarKind k
-    go true h e = inl (eqb-true k 3 h)
-    go false h e = inr (eqb-true k 8 e)
-
-entry-kind : (k : ℕ) → (eqb k 5 || eqb k 9) ≡ true → EntryKind k
-entry-kind k e = go (eqb k 5) refl e
-  where
-    go : (b : Bool) → eqb k 5 ≡ b → (b || eqb k 9) ≡ true → EntryKind k
-    go true h e = inl (eqb-true k 5 h)
-    go false h e = inr (eqb-true k 9 e)
-
--- a place of the walk whose numbers are in their ranges is in range
-in-range : (w : W.Walk) → Within w → walkRange w ≡ true
-in-range Start h = refl
-in-range (Vars k p n g) h =
-    let s = h .small in
-    rw (var-range k (h .kinds), le-leb p 2147483711 (s .0), le-leb n 2147483648 (s .1), le-leb g 2147483648 (s .2))
-in-range (Chain u p x floor c) h =
-    let s = h .small in
-    rw (
-      var-range (u .kind) (h .kinds),
-      le-leb (u .vdr) 2147483647 (s .0 .0),
-      le-leb (u .place) 2147483647 (s .0 .1),
-      le-leb (u .greatest) 2147483648 (s .0 .2),
-      le-leb p 2147483711 (s .1),
-      le-leb x 2147483647 (s .2),
-      le-leb floor 2147483648 (s .3),
-    )
-in-range (Entry u x i floor c) h =
-    let s = h .small in
-    rw (
-      var-range (u .kind) (h .kinds),
-      le-leb (u .vdr) 2147483647 (s .0 .0),
-      le-leb (u .place) 2147483647 (s .0 .1),
-      le-leb (u .greatest) 2147483648 (s .0 .2),
-      le-leb x 2147483647 (s .1),
-      le-leb i 2147483647 (s .2),
-      le-leb floor 2147483648 (s .3),
-    )
-in-range (Attrs p n) h = let s = h .small in rw (le-leb p 2147483711 (s .0), le-leb n 2147483648 (s .1))
-in-range (Entries k a n p e g) h =
-    let s = h .small in
-    rw (
-      entry-range k (h .kinds),
-      le-leb a 2147483647 (s .0),
-      le-leb n 2147483647 (s .1),
-      le-leb p 2147483711 (s .2),
-      le-leb e 2147483648 (s .3),
-      le-leb g 2147483648 (s .4),
-    )
-in-range (Unused p b) h = let s = h .small in rw (le-leb p 2147483711 (s .0), le-leb b 2147483647 (s .1))
-
-var-within : (u : Var) → varRange u ≡ true → VarKind (u .kind) × SmallVar u
-var-within u e =
-    let r = every ((eqb (u .kind) 3 || eqb (u .kind) 8) ∷ offsetRange (u .vdr) ∷ offsetRange (u .place) ∷ countRange (u .greatest) ∷ []) e in (
-      var-kind (u .kind) (r 0),
-      (leb-true (u .vdr) 2147483647 (r 1), leb-true (u .place) 2147483647 (r 2), leb-true (u .greatest) 2147483648 (r 3)),
-    )
-
--- and the other way round
-range-within : (w : W.Walk) → walkRange w ≡ true → Within w
-range-within Start e = record { kinds = tt; small = tt }
-range-within (Vars k p n g) e =
-    let r = every ((eqb k 3 || eqb k 8) ∷ linkRange p ∷ countRange n ∷ countRange g ∷ []) e in
-    record {
-      kinds = var-kind k (r 0);
-      small = (leb-true p 2147483711 (r 1), leb-true n 2147483648 (r 2), leb-true g 2147483648 (r 3));
-    }
-range-within (Chain u p x floor c) e =
-    let r = every (varRange u ∷ linkRange p ∷ offsetRange x ∷ countRange floor ∷ []) e in
-    let v = var-within u (r 0) in
-    record {
-      kinds = v .0;
-      small = (v .1, leb-true p 2147483711 (r 1), leb-true x 2147483647 (r 2), leb-true floor 2147483648 (r 3));
-    }
-range-within (Entry u x i floor c) e =
-    let r = every (varRange u ∷ offsetRange x ∷ offsetRange i ∷ countRange floor ∷ []) e in
-    let v = var-within u (r 0) in
-    record {
-      kinds = v .0;
-      small = (v .1, leb-true x 2147483647 (r 1), leb-true i 2147483647 (r 2), leb-true floor 2147483648 (r 3));
-    }
-range-within (Attrs p n) e =
-    let r = both (linkRange p) (countRange n) e in
-    record { kinds = tt; small = (leb-true p 2147483711 (r .0), leb-true n 2147483648 (r .1)) }
-range-within (Entries k a n p e g) h =
-    let kind = eqb k 5 || eqb k 9 in
-    let t = every (kind ∷ offsetRange a ∷ offsetRange n ∷ linkRange p ∷ countRange e ∷ countRange g ∷ []) h in
-    record {
-      kinds = entry-kind k (t 0);
-      small = (
-        leb-true a 2147483647 (t 1),
-        leb-true n 2147483647 (t 2),
-        leb-true p 2147483711 (t 3),
-        leb-true e 2147483648 (t 4),
-        leb-true g 2147483648 (t 5),
-      );
-    }
-range-within (Unused p b) e =
-    let r = both (linkRange p) (offsetRange b) e in
-    record { kinds = tt; small = (leb-true p 2147483711 (r .0), leb-true b 2147483647 (r .1)) }
+use Rattle.checker.specs.Bounds.{IsOutcome, Loaded}
 
 -- ---- a check that goes on
 -- the opening has noted the file's length, and the marks are long enough
@@ -163,8 +49,8 @@ abbrev pub SoundBy : (ℕ → List ℕ → Type 0) → List ℕ → ℕ → List
 SoundBy Odd f n m Fresh = n ≡ 0
 SoundBy Odd f n m (Sweep o) = Noted f n m × (8 ≤ o) × (o ≤ 2147483647)
 SoundBy Odd f n m (Walking w up) = Noted f n m × Within w × Above up w
-SoundBy Odd f n m (Done v p) = (n ≡ 0) × Kept v p
-SoundBy Odd f n m Strange = Odd n m
+SoundBy Odd f n m (Done v p) = (n ≡ 0) × IsOutcome v p
+SoundBy Odd f n m OutOfRange = Odd n m
 
 pub record Sound (Odd : ℕ → List ℕ → Type 0) (f : List ℕ) (c : Conf) : Type 0 where
   pub sound : SoundBy Odd f (c .state .length) (c .marks) (c .state .stage)
@@ -194,23 +80,23 @@ module _ (Odd : ℕ → List ℕ → Type 0) (f : List ℕ) where
       claimed : (t : ℕ) → Noted f n m → Noted f n (set m t 2)
       claimed t a = (a .0, a .1, a .2, rw (length-set m t 2) (a .3))
 
-      turn : (up : Levels) (t : T.Turn)
+      step : (up : Levels) (t : T.Step)
           → Noted f n m
           → levelsStand (levelList up) ≡ true
           → NextWithin t
           → NextPlaced (up .a) t
-          → TurnGoes (Sound Odd f) b m n up t
-      turn up (Over w v) a e b p = record { sound = (a, b, record { there = e; placed = p }) }
-      turn up (End v) a e b p = tt
-      turn up (Take w early t typed late) a e b p =
+          → StepGoes (Sound Odd f) b m n up t
+      step up (Over w v) a e b p = record { sound = (a, b, record { there = e; placed = p }) }
+      step up (End v) a e b p = tt
+      step up (Take w early t typed late) a e b p =
           λ x. record { sound = (claimed t a, b, record { there = e; placed = p (x .early-passed) (x .late-passed) }) }
-      turn up (Down w t typed l) a e b p =
+      step up (Down w t typed l) a e b p =
           λ x. record { sound = (claimed t a, b .0, record { there = pushed-there up l (b .1) (b .2) e; placed = p }) }
-      turn up (Up w) a e b p = record { sound = (a, b, record { there = popped-there up e; placed = p (up .b) }) }
+      step up (Up w) a e b p = record { sound = (a, b, record { there = popped-there up e; placed = p (up .b) }) }
 
       swept : (m : List ℕ) (o : ℕ) → Noted f n m → 8 ≤ o → o ≤ 2147483647 → (b : Bool)
           → SoundBy Odd f n m (cond b (Walking Start noLevels) (Sweep o))
-      swept m o a b d true = (a, record { kinds = tt; small = tt }, top-above)
+      swept m o a b d true = (a, record { all = tt }, top-above)
       swept m o a b d false = (a, b, d)
 
       goes : (s : Stage) → SoundBy Odd f n m s → Goes (Sound Odd f) f m n s
@@ -230,10 +116,10 @@ module _ (Odd : ℕ → List ℕ → Type 0) (f : List ℕ) where
           let near = up .a in
           let room = roomBelow up in
           let there = g .2 .there in
-          turn up (turnOf b up w) (g .0) there
-          (within-turn b near room w (levels-small up there .0) (g .1) .next-within) (placed-turn b near room w (g .2 .placed) .next-placed)
+          step up (walkStep b up w) (g .0) there
+          (step-within b near room w (levels-small up there .0) (g .1) .next-within) (step-placed b near room w (g .2 .placed) .next-placed)
       goes (Done v p) g = tt
-      goes Strange g = tt
+      goes OutOfRange g = tt
 
   pub sound-run : (c : Conf) → Sound Odd f c → (k : ℕ) → Sound Odd f (runOf f c k .at)
   sound-run c h k = run-keeps f (Sound Odd f) sound-step c h k
@@ -245,9 +131,9 @@ module _ (Odd : ℕ → List ℕ → Type 0) (f : List ℕ) where
   sound-stage : (n : ℕ) (m : List ℕ) (s : Stage) → SoundBy Odd f n m s → Loaded n s
   sound-stage n m Fresh h = rw h
   sound-stage n m (Sweep o) h = rw (in-length n m (h .0), le-leb 8 o (h .1), le-leb o 2147483647 (h .2))
-  sound-stage n m (Walking w up) h = rw (in-length n m (h .0), in-range w (h .1)) (above-range up w (h .2))
+  sound-stage n m (Walking w up) h = rw (in-length n m (h .0), all-in (rangesOf w) (h .1 .all)) (above-range up w (h .2))
   sound-stage n m (Done v p) h = h
-  sound-stage n m Strange h = tt
+  sound-stage n m OutOfRange h = tt
 
   pub sound-loaded : (c : Conf) → Sound Odd f c → Loaded (c .state .length) (c .state .stage)
   sound-loaded c h = sound-stage (c .state .length) (c .marks) (c .state .stage) (h .sound)
@@ -277,15 +163,15 @@ module _ (f : List ℕ) where
   loaded-by : (n : ℕ) (m : List ℕ) (s : Stage) → Loaded n s → Own f n m → SoundBy (Own f) f n m s
   loaded-by n m Fresh h e = eqb-true n 0 h
   loaded-by n m (Sweep o) h e =
-      let p = both (lengthRange n && leb 8 o) (offsetRange o) h in
+      let p = both (lengthRange n && leb 8 o) (leb o 2147483647) h in
       let q = both (lengthRange n) (leb 8 o) (p .0) in
       (noted-lent n m (q .0) e, leb-true 8 o (q .1), leb-true o 2147483647 (p .1))
   loaded-by n m (Walking w up) h e =
       let p = both (lengthRange n && walkRange w) (levelsRange up w) h in
       let q = both (lengthRange n) (walkRange w) (p .0) in
-      (noted-lent n m (q .0) e, range-within w (q .1), range-above up w (p .1))
+      (noted-lent n m (q .0) e, record { all = in-all (rangesOf w) (q .1) }, range-above up w (p .1))
   loaded-by n m (Done v p) h e = h
-  loaded-by n m Strange h e = e
+  loaded-by n m OutOfRange h e = e
 
   -- whatever numbers were loaded, made up or not, the check goes on with its own file and marks
   pub loaded-sound : (s : State) (m : List ℕ) → Loaded (s .length) (s .stage) → Own f (s .length) m → Sound (Own f) f (conf s m)
@@ -301,7 +187,7 @@ module _ (f : List ℕ) where
   sound-own n m (Sweep o) h = noted-own n m (h .0)
   sound-own n m (Walking w up) h = noted-own n m (h .0)
   sound-own n m (Done v p) h = rw (h .0)
-  sound-own n m Strange h = h
+  sound-own n m OutOfRange h = h
 
   -- a grant on its numbers works, be it of 0 or after the end
   pub sound-works : (c : Conf) → Sound (Own f) f c → (n : ℕ) → grantOf f (c .marks) (save (c .state)) n ≡ worked (runOf f c n)

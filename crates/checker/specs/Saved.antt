@@ -4,17 +4,19 @@ use mathlib.Core.Bool.{Bool, true, false, cond, _&&_, _||_}
 use mathlib.Core.List.{List, [], _∷_, _++_}
 use lib.ListN.{length, getD}
 use lib.Dec.{leb, eqb}
-use Rattle.walk.specs.Levels.{noLevels}
-use Rattle.walk.specs.declared.places.Level.{Level}
-use Rattle.walk.specs.declared.places.Levels.{Levels}
-use Rattle.walk.specs.declared.places.Var.{Var}
-use Rattle.walk.specs.declared.places.Walk as W
-use Rattle.walk.specs.declared.places.Walk.the-variants.{Start, Vars, Chain, Entry, Attrs, Entries, Unused}
-use Rattle.faults.specs.Fault.{keptPlace}
+use mathlib.Core.Option.{Option, none, some}
+use Rattle.walk.specs.Ranges.{inRange, offset, rangesOf, levelRanges, allIn}
+use Rattle.walk.specs.Levels.{noLevels, indexed}
+use Rattle.walk.specs.declared.positions.Level.{Level}
+use Rattle.walk.specs.declared.positions.Levels.{Levels}
+use Rattle.walk.specs.declared.positions.Var.{Var}
+use Rattle.walk.specs.declared.positions.Walk as W
+use Rattle.walk.specs.declared.positions.Walk.the-variants.{Start, Vars, Chain, Entry, Attrs, Entries, Unused}
+use Rattle.faults.specs.Fault.{savedLocation}
 use Rattle.checker.specs.declared.state.Stage.{Stage}
-use Rattle.checker.specs.declared.state.Stage.the-variants.{Fresh, Sweep, Walking, Done, Strange}
+use Rattle.checker.specs.declared.state.Stage.the-variants.{Fresh, Sweep, Walking, Done, OutOfRange}
 use Rattle.checker.specs.declared.state.State.{State}
-use Rattle.checker.specs.Step.{placeIn, done}
+use Rattle.checker.specs.Step.{locationIn, done}
 
 -- how many numbers a saved state has
 abbrev pub stateLength : ℕ
@@ -39,7 +41,7 @@ saveStage l Fresh = 0 ∷ l ∷ 0 ∷ 0 ∷ 0 ∷ 0 ∷ 0 ∷ 0 ∷ 0 ∷ 0 ∷ 
 saveStage l (Sweep o) = 0 ∷ l ∷ 1 ∷ 0 ∷ o ∷ 0 ∷ 0 ∷ 0 ∷ 0 ∷ 0 ∷ 0 ∷ 0 ∷ []
 saveStage l (Walking w up) = saveWalk l w
 saveStage l (Done v p) = suc v ∷ l ∷ 0 ∷ 0 ∷ 0 ∷ 0 ∷ 0 ∷ 0 ∷ 0 ∷ 0 ∷ 0 ∷ 0 ∷ []
-saveStage l Strange = 0 ∷ l ∷ 9 ∷ 0 ∷ 0 ∷ 0 ∷ 0 ∷ 0 ∷ 0 ∷ 0 ∷ 0 ∷ 0 ∷ []
+saveStage l OutOfRange = 0 ∷ l ∷ 9 ∷ 0 ∷ 0 ∷ 0 ∷ 0 ∷ 0 ∷ 0 ∷ 0 ∷ 0 ∷ 0 ∷ []
 
 -- the index records above the one that is walked; elsewhere there is none
 abbrev pub levelsIn : Stage → Levels
@@ -47,7 +49,7 @@ levelsIn Fresh = noLevels
 levelsIn (Sweep o) = noLevels
 levelsIn (Walking w up) = up
 levelsIn (Done v p) = noLevels
-levelsIn Strange = noLevels
+levelsIn OutOfRange = noLevels
 
 abbrev pub saveLevel : Level → List ℕ
 saveLevel l = l .vxr ∷ l .next ∷ l .last ∷ []
@@ -57,42 +59,24 @@ abbrev pub saveLevels : Levels → List ℕ
 saveLevels s =
     saveLevel (s .a) ++ (saveLevel (s .b) ++ (saveLevel (s .c) ++ (saveLevel (s .d) ++ (saveLevel (s .e) ++ (saveLevel (s .f) ++ saveLevel (s .g))))))
 
--- all thirty-four; the last is the place: "Every refusal of a grant, a repeated one too"
+-- all thirty-four; the last is the location: "Every refusal of a grant, a repeated one too"
 abbrev pub saveNumbers : ℕ → Stage → List ℕ
-saveNumbers l g = saveStage l g ++ (saveLevels (levelsIn g) ++ (placeIn g ∷ []))
+saveNumbers l g = saveStage l g ++ (saveLevels (levelsIn g) ++ (locationIn g ∷ []))
 
 unfoldable pub save : State → List ℕ
 save s = saveNumbers (s .length) (s .stage)
 
--- ---- ranges
--- a length that an opening notes; an offset, a place in a list or an entry; where a link stands; a count, or a number + 1
+-- ---- ranges: those of the walk's own numbers are specs/Ranges.antt of the walk
+-- a length that an opening notes
 abbrev pub lengthRange : ℕ → Bool
 lengthRange n = leb 372 n && leb n 2147483647
 
-abbrev pub offsetRange : ℕ → Bool
-offsetRange o = leb o 2147483647
-
-abbrev pub linkRange : ℕ → Bool
-linkRange p = leb p 2147483711
-
-abbrev pub countRange : ℕ → Bool
-countRange n = leb n 2147483648
-
-abbrev pub varRange : Var → Bool
-varRange u = (eqb (u .kind) 3 || eqb (u .kind) 8) && offsetRange (u .vdr) && offsetRange (u .place) && countRange (u .greatest)
-
 abbrev pub walkRange : W.Walk → Bool
-walkRange Start = true
-walkRange (Vars k p n g) = (eqb k 3 || eqb k 8) && linkRange p && countRange n && countRange g
-walkRange (Chain u p x floor c) = varRange u && linkRange p && offsetRange x && countRange floor
-walkRange (Entry u x i floor c) = varRange u && offsetRange x && offsetRange i && countRange floor
-walkRange (Attrs p n) = linkRange p && countRange n
-walkRange (Entries k a n p e g) = (eqb k 5 || eqb k 9) && offsetRange a && offsetRange n && linkRange p && countRange e && countRange g
-walkRange (Unused p b) = linkRange p && offsetRange b
+walkRange w = allIn (rangesOf w)
 
 -- a level that is there; one that is not
 abbrev pub levelThere : Level → Bool
-levelThere l = offsetRange (l .vxr) && leb 1 (l .next) && countRange (l .next) && offsetRange (l .last)
+levelThere l = leb 1 (l .next) && allIn (levelRanges l)
 
 abbrev pub noneThere : Level → Bool
 noneThere l = eqb (l .vxr) 0 && eqb (l .next) 0 && eqb (l .last) 0
@@ -109,22 +93,20 @@ abbrev pub levelsStand : List Level → Bool
 levelsStand [] = true
 levelsStand (l ∷ ls) = (levelThere l && levelsStand ls) || noneOf (l ∷ ls)
 
--- levels stand above an index record alone
+-- levels stand above an index record alone, that of some variable
+abbrev pub levelsBelong : Levels → Option Var → Bool
+levelsBelong up none = noneOf (levelList up)
+levelsBelong up (some u) = levelsStand (levelList up)
+
 abbrev pub levelsRange : Levels → W.Walk → Bool
-levelsRange up Start = noneOf (levelList up)
-levelsRange up (Vars k p n g) = noneOf (levelList up)
-levelsRange up (Chain u p x floor c) = levelsStand (levelList up)
-levelsRange up (Entry u x i floor c) = levelsStand (levelList up)
-levelsRange up (Attrs p n) = noneOf (levelList up)
-levelsRange up (Entries k a n p e g) = noneOf (levelList up)
-levelsRange up (Unused p b) = noneOf (levelList up)
+levelsRange up w = levelsBelong up (indexed w)
 
 abbrev pub stageRange : ℕ → Stage → Bool
 stageRange l Fresh = eqb l 0
-stageRange l (Sweep o) = lengthRange l && leb 8 o && offsetRange o
+stageRange l (Sweep o) = lengthRange l && leb 8 o && inRange (offset o)
 stageRange l (Walking w up) = lengthRange l && walkRange w && levelsRange up w
 stageRange l (Done v p) = false
-stageRange l Strange = false
+stageRange l OutOfRange = false
 
 -- ---- load
 -- the variable that the numbers would tell of
@@ -150,12 +132,12 @@ levelsBy s =
 abbrev pub walkingBy : List ℕ → W.Walk → Stage
 walkingBy s w = Walking w (levelsBy s)
 
--- the place of the walk in a list, by the phase
+-- the position of the walk in a list, by the phase
 abbrev pub laterBy : List ℕ → ℕ → Stage
 laterBy s phase =
     cond (eqb phase 6) (walkingBy s (Attrs (getD s 4 0) (getD s 5 0)))
     (cond (eqb phase 7) (walkingBy s (Entries (getD s 3 0) (getD s 7 0) (getD s 5 0) (getD s 4 0) (getD s 9 0) (getD s 10 0)))
-    (cond (eqb phase 8) (walkingBy s (Unused (getD s 4 0) (getD s 8 0))) Strange))
+    (cond (eqb phase 8) (walkingBy s (Unused (getD s 4 0) (getD s 8 0))) OutOfRange))
 
 abbrev pub listBy : List ℕ → ℕ → Stage
 listBy s phase =
@@ -176,9 +158,9 @@ sameNumbers (x ∷ xs) (y ∷ ys) = eqb x y && sameNumbers xs ys
 
 -- the numbers are those of that stage: each in its range, and those without a place in it 0
 abbrev pub checked : List ℕ → ℕ → Stage → Stage
-checked s l g = cond (stageRange l g && sameNumbers (saveNumbers l g) s) g Strange
+checked s l g = cond (stageRange l g && sameNumbers (saveNumbers l g) s) g OutOfRange
 
--- "finished": the verdict number alone says so, 0 to 14, 20 and 23; of the others the place is looked at, where the verdict has one
+-- "finished": the verdict number alone says so, 0 to 14, 20 and 23; of the others the location is looked at, where the verdict has one
 abbrev pub verdictRange : ℕ → Bool
 verdictRange v = leb v 14 || eqb v 20 || eqb v 23
 
@@ -187,4 +169,4 @@ unfoldable pub load : List ℕ → State
 load s =
     let v = getD s 0 0 - 1 in
     cond (eqb (getD s 0 0) 0) (record { length = getD s 1 0; stage = checked s (getD s 1 0) (stageBy s (getD s 2 0)) })
-    (cond (verdictRange v) (done v (keptPlace v (getD s 33 0))) (record { length = getD s 1 0; stage = Strange }))
+    (cond (verdictRange v) (done v (savedLocation v (getD s 33 0))) (record { length = getD s 1 0; stage = OutOfRange }))

@@ -1,12 +1,12 @@
 // Grants of steps on a saved state.
 ghost use mathlib.Core.Path.{_≡_};
 ghost use Rattle.checker.specs.Step.{answerOf};
-ghost use Rattle.checker.specs.Ready.{VerdictFits};
+ghost use Rattle.checker.specs.Bounds.{VerdictFits};
 ghost use Rattle.checker.specs.Grant.{granted, otherFile, grantOf, begun, beginOf};
+use crate::runs;
 use crate::saved;
 use crate::state::Stage;
 use crate::state::State;
-use crate::stretches;
 
 // -1 for a check that is not finished, or its verdict.
 fn answer(g: Stage) -> i32
@@ -17,8 +17,11 @@ fn answer(g: Stage) -> i32
         Stage::Fresh => -1,
         Stage::Sweep { at: _ } => -1,
         Stage::Walking { walk: _, up: _ } => -1,
-        Stage::Done { verdict, place: _ } => verdict as i32,
-        Stage::Strange => -1,
+        Stage::Done {
+            verdict,
+            location: _,
+        } => verdict as i32,
+        Stage::OutOfRange => -1,
     }
 }
 
@@ -45,27 +48,27 @@ pub fn begin(state: &mut [u32]) -> i32
     -1
 }
 
-// A grant of steps on a saved state: what it answers, in steps how many it made, and in place where the record at fault is.
+// A grant of steps on a saved state: what it answers, in steps how many it made, and in location where the record at fault is.
 pub fn grant(
     file: &[u8],
     marks: &mut [u8],
     state: &mut [u32],
     grant: u64,
     steps: &mut u64,
-    place: &mut u64,
+    location: &mut u64,
 ) -> i32
-    ensures { λ r. ⌜ granted r (now (place .exit)) (now (steps .exit)) (now (state .exit)) (now (marks .exit))
+    ensures { λ r. ⌜ granted r (now (location .exit)) (now (steps .exit)) (now (state .exit)) (now (marks .exit))
         ≡ grantOf (now (file .entry)) (now (marks .entry)) (now (state .entry)) grant ⌝ }
 {
     *steps = 0;
-    *place = 0;
+    *location = 0;
     if state.len() != 34 {
         return 20;
     }
     let s = saved::load_state(state);
     let g = s.stage;
-    if stretches::is_finished(g) {
-        *place = saved::place_in(g) as u64;
+    if runs::is_finished(g) {
+        *location = saved::location_in(g) as u64;
         return answer(g);
     }
     if grant == 0 {
@@ -74,11 +77,11 @@ pub fn grant(
     if other_file(file, marks, s.length) {
         return 21;
     }
-    let ran = stretches::run(file, marks, s, grant);
+    let ran = runs::run(file, marks, s, grant);
     let t = ran.state;
     saved::save_state(state, t);
     *steps = ran.made;
     let h = t.stage;
-    *place = saved::place_in(h) as u64;
+    *location = saved::location_in(h) as u64;
     answer(h)
 }

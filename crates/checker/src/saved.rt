@@ -3,18 +3,19 @@ ghost use mathlib.Core.Path.{_≡_};
 ghost use mathlib.Core.List.{[], _∷_, _++_};
 ghost use Prim.Native.Nat.{_+_, _≤_};
 ghost use lib.ListN.{length, take};
-ghost use Rattle.checker.specs.Ready.{VerdictFits};
-ghost use Rattle.checker.specs.Step.{placeIn};
-ghost use Rattle.checker.specs.Saved.{bit, saveWalk, saveStage, levelsIn, saveLevels, save, varRange, walkRange, levelThere, noneThere, levelList, noneOf, levelsStand, levelsRange, stageRange, varBy, levelBy, levelsBy, walkingBy, laterBy, listBy, stageBy, sameNumbers, checked, load};
+ghost use Rattle.checker.specs.Bounds.{VerdictFits};
+ghost use Rattle.checker.specs.Step.{locationIn};
+ghost use Rattle.walk.specs.Ranges.{varRanges, allIn};
+ghost use Rattle.checker.specs.Saved.{bit, saveWalk, saveStage, levelsIn, saveLevels, save, walkRange, levelThere, noneThere, levelList, noneOf, levelsStand, levelsRange, stageRange, varBy, levelBy, levelsBy, walkingBy, laterBy, listBy, stageBy, sameNumbers, checked, load};
 use crate::state::Stage;
 use crate::state::State;
 use crate::steps;
 use faults::fault;
 use walk::levels;
-use walk::places::Level;
-use walk::places::Levels;
-use walk::places::Var;
-use walk::places::Walk;
+use walk::positions::Level;
+use walk::positions::Levels;
+use walk::positions::Var;
+use walk::positions::Walk;
 
 // 1 for true, 0 for false.
 fn bit_of(b: bool) -> u32
@@ -23,7 +24,7 @@ fn bit_of(b: bool) -> u32
     if b { 1 } else { 0 }
 }
 
-// The numbers of a place of the walk.
+// The numbers of a position of the walk.
 fn walk_numbers(l: u32, w: Walk) -> [u32; 12]
     ensures { λ r. ⌜ r ≡ saveWalk l w ⌝ }
 {
@@ -97,8 +98,11 @@ fn stage_numbers(l: u32, g: Stage) -> [u32; 12]
         Stage::Fresh => [0, l, 0, 0, 0, 0, 0, 0, 0, 0, 0, 0],
         Stage::Sweep { at } => [0, l, 1, 0, at, 0, 0, 0, 0, 0, 0, 0],
         Stage::Walking { walk, up: _ } => walk_numbers(l, walk),
-        Stage::Done { verdict, place: _ } => [verdict + 1, l, 0, 0, 0, 0, 0, 0, 0, 0, 0, 0],
-        Stage::Strange => [0, l, 9, 0, 0, 0, 0, 0, 0, 0, 0, 0],
+        Stage::Done {
+            verdict,
+            location: _,
+        } => [verdict + 1, l, 0, 0, 0, 0, 0, 0, 0, 0, 0, 0],
+        Stage::OutOfRange => [0, l, 9, 0, 0, 0, 0, 0, 0, 0, 0, 0],
     }
 }
 
@@ -111,26 +115,29 @@ fn levels_in(g: Stage) -> Levels
         Stage::Sweep { at: _ } => levels::no_levels(),
         Stage::Walking { walk: _, up } => up,
         Stage::Done { .. } => levels::no_levels(),
-        Stage::Strange => levels::no_levels(),
+        Stage::OutOfRange => levels::no_levels(),
     }
 }
 
-// The place of a refusal, or 0.
-pub fn place_in(g: Stage) -> u32
-    ensures { λ r. ⌜ r ≡ placeIn g ⌝ }
+// The location of a refusal, or 0.
+pub fn location_in(g: Stage) -> u32
+    ensures { λ r. ⌜ r ≡ locationIn g ⌝ }
 {
     match g {
         Stage::Fresh => 0,
         Stage::Sweep { at: _ } => 0,
         Stage::Walking { walk: _, up: _ } => 0,
-        Stage::Done { verdict: _, place } => place,
-        Stage::Strange => 0,
+        Stage::Done {
+            verdict: _,
+            location,
+        } => location,
+        Stage::OutOfRange => 0,
     }
 }
 
 // The numbers of a variable are in their ranges.
 fn var_range(u: Var) -> bool
-    ensures { λ r. ⌜ r ≡ varRange u ⌝ }
+    ensures { λ r. ⌜ r ≡ allIn (varRanges u) ⌝ }
 {
     ((u.kind == 3) | (u.kind == 8))
         & (u.vdr <= 2147483647)
@@ -138,7 +145,7 @@ fn var_range(u: Var) -> bool
         & (u.greatest <= 2147483648)
 }
 
-// The numbers of a place of the walk are in their ranges.
+// The numbers of a position of the walk are in their ranges.
 fn walk_range(w: Walk) -> bool
     ensures { λ r. ⌜ r ≡ walkRange w ⌝ }
 {
@@ -197,7 +204,7 @@ fn walk_range(w: Walk) -> bool
 fn level_there(l: Level) -> bool
     ensures { λ r. ⌜ r ≡ levelThere l ⌝ }
 {
-    (l.vxr <= 2147483647) & (1 <= l.next) & (l.next <= 2147483648) & (l.last <= 2147483647)
+    (1 <= l.next) & ((l.vxr <= 2147483647) & (l.next <= 2147483648) & (l.last <= 2147483647))
 }
 
 // The numbers of one that is not.
@@ -268,7 +275,7 @@ fn stage_range(l: u32, g: Stage) -> bool
         Stage::Sweep { at } => known & (8 <= at) & (at <= 2147483647),
         Stage::Walking { walk, up } => known & walk_range(walk) & levels_range(up, walk),
         Stage::Done { .. } => false,
-        Stage::Strange => false,
+        Stage::OutOfRange => false,
     }
 }
 
@@ -285,7 +292,7 @@ fn var_of(s: &[u32]) -> Var
     }
 }
 
-// The level that the numbers from a place on tell of.
+// The level that the numbers from a place in the list on tell of.
 fn level_of(s: &[u32], p: usize) -> Level
     requires { ⌜ p + 3 ≤ length (now s) ⌝ }
     ensures { λ r. ⌜ r ≡ levelBy (now (s .entry)) p ⌝ }
@@ -320,7 +327,7 @@ fn levels_of(s: &[u32]) -> Levels
     }
 }
 
-// The place of the walk in a list that the numbers tell of, by their phase.
+// The position of the walk in a list that the numbers tell of, by their phase.
 fn list_of(s: &[u32], phase: u32) -> Stage
     requires { ⌜ length (now s) ≡ 34 ⌝ }
     ensures { λ r. ⌜ r ≡ listBy (now (s .entry)) phase ⌝ }
@@ -399,7 +406,7 @@ fn later_list_of(s: &[u32], phase: u32) -> Stage
             },
         );
     }
-    Stage::Strange
+    Stage::OutOfRange
 }
 
 // A stage of the walk, with the levels that the numbers tell of.
@@ -451,7 +458,7 @@ fn checked_stage(s: &[u32], l: u32, g: Stage) -> Stage
     ensures { λ r. ⌜ r ≡ checked (now (s .entry)) l g ⌝ }
 {
     if !stage_range(l, g) {
-        return Stage::Strange;
+        return Stage::OutOfRange;
     }
     let mut own = [0u32; 34];
     save_state(
@@ -462,7 +469,7 @@ fn checked_stage(s: &[u32], l: u32, g: Stage) -> Stage
         },
     );
     if !same_numbers(&own, s) {
-        return Stage::Strange;
+        return Stage::OutOfRange;
     }
     g
 }
@@ -472,28 +479,28 @@ pub fn load_state(s: &[u32]) -> State
     requires { ⌜ length (now s) ≡ 34 ⌝ }
     ensures { λ r. ⌜ r ≡ load (now (s .entry)) ⌝ }
 {
-    let told = s[0];
+    let first = s[0];
     let l = s[1];
-    if told == 0 {
+    if first == 0 {
         return State {
             length: l,
             stage: checked_stage(s, l, stage_of(s, s[2])),
         };
     }
-    let verdict = told - 1;
+    let verdict = first - 1;
     if (verdict <= 14) | (verdict == 20) | (verdict == 23) {
-        return steps::finished(verdict, fault::kept_place(verdict, s[33]));
+        return steps::finished(verdict, fault::saved_location(verdict, s[33]));
     }
     State {
         length: l,
-        stage: Stage::Strange,
+        stage: Stage::OutOfRange,
     }
 }
 
-// The numbers of the levels and the place into a slice, behind the first twelve.
-fn save_rest(s: &mut [u32], up: Levels, place: u32)
+// The numbers of the levels and the location into a slice, behind the first twelve.
+fn save_rest(s: &mut [u32], up: Levels, location: u32)
     requires { ⌜ length (now s) ≡ 34 ⌝ }
-    ensures { λ _. ⌜ now (s .exit) ≡ take 12 (now (s .entry)) ++ (saveLevels up ++ (place ∷ [])) ⌝ }
+    ensures { λ _. ⌜ now (s .exit) ≡ take 12 (now (s .entry)) ++ (saveLevels up ++ (location ∷ [])) ⌝ }
 {
     let a = up.a;
     let b = up.b;
@@ -523,7 +530,7 @@ fn save_rest(s: &mut [u32], up: Levels, place: u32)
     s[30] = g.vxr;
     s[31] = g.next;
     s[32] = g.last;
-    s[33] = place;
+    s[33] = location;
 }
 
 // The numbers of a state into a slice.
@@ -533,7 +540,7 @@ pub fn save_state(s: &mut [u32], t: State)
 {
     let g = t.stage;
     let a = stage_numbers(t.length, g);
-    save_rest(s, levels_in(g), place_in(g));
+    save_rest(s, levels_in(g), location_in(g));
     let mut i = 0;
     while i < 12 {
         s[i] = a[i];

@@ -1,16 +1,16 @@
--- What the walk costs: at each place, the links that are still to come from the records on the way to it. Assumes nothing.
+-- What the walk costs: at each position, the links that are still to come from the records on the way to it. Assumes nothing.
 use mathlib.Core.Path.{_≡_, refl}
 use mathlib.Core.Bool.{Bool, true, false, cond, _&&_, _||_}
 use mathlib.Core.List.{List, [], _∷_}
-use Prim.Native.Nat.{ℕ, suc, _+_, _-_, _≤_, _<_, max}
+use Prim.Native.Nat.{ℕ, suc, _+_, _-_, _≤_, _<_}
 use native.Mathlib.Omega.{arith}
 use lib.Dec.{ltb, eqb}
-use lib.IntN.{pos, negsuc}
+use lib.IntN.{pos}
 use borrow.Author.Tests.{ltb-true, eqb-true, eqb-false, ne-eqb}
-use Rattle.format.specs.Fields.{endOf, linkAt, isAt, afterAt}
 use Rattle.format.specs.Numbers.{unless}
 use Rattle.format.proofs.Tests.{cond-keeps}
 use Rattle.format.proofs.Numbers.{unless-zero, zeros}
+use Rattle.format.specs.Fields.{endOf, isAt}
 use Rattle.records.specs.Rules.{sizeAt}
 use Rattle.records.specs.Opening.{gdrAt}
 use Rattle.records.specs.Attributes.{adrRight, adrRule, aedrRight, aedrRule}
@@ -18,17 +18,17 @@ use Rattle.records.specs.Index.{usedAt, vxrRight, vxrRule, indexAt, entryOf}
 use Rattle.records.specs.Unused.{uirRule}
 use Rattle.records.specs.declared.index.Entry.{Entry}
 use Rattle.variables.specs.Vdr.{carriedOf, headOf, variableOf}
-use Rattle.walk.specs.Walk.{turnBy, turnOf, typeNumber, takes, followed, gdrNamed, fieldNumber, varsTally, afterVars, varNumber, intoIndex, varsOver, varTaken, chainOver, entered, indexOver, vxrTaken, indexTaken, covers, valuesNumber, entryRefused, valuesTurn, lowerNumber, lowerTurn, entryTurn, attrNumber, attrsOver, attrTaken, afterEntries, entriesOver, oneMore, numNumber, entryNumber, entryTaken, unusedNumber, unusedTaken}
+use Rattle.walk.specs.Walk.{walkStepBy, walkStep, typeNumber, takes, gdrNamed, fieldNumber, overBy, varsTally, afterVars, varNumber, varsList, entered, lowerOver, lowerNext, chainList, chainStep, covers, valuesNumber, entryRefused, valuesStep, lowerNumber, lowerStep, entryStep, attrNumber, attrsList, afterEntries, entriesList, numNumber, entryNumber, unusedNumber, unusedList, Listing, listStep}
 use Rattle.walk.specs.Levels.{isNone, mostOf, roomBelow, pushed, popped}
-use Rattle.walk.specs.declared.places.Var.{Var}
-use Rattle.walk.specs.declared.places.Level.{Level}
-use Rattle.walk.specs.declared.places.Levels.{Levels}
-use Rattle.walk.specs.declared.places.Walk as W
-use Rattle.walk.specs.declared.places.Walk.the-variants.{Start, Vars, Chain, Entry as AtEntry, Attrs, Entries, Unused}
-use Rattle.walk.specs.declared.places.Turn as T
-use Rattle.walk.specs.declared.places.Turn.the-variants.{Over, End, Down, Up}
-use Rattle.walk.proofs.Closed.{link-keeps}
-use Rattle.demands.proofs.Places.{Place, top, moveBy}
+use Rattle.walk.specs.declared.positions.Var.{Var}
+use Rattle.walk.specs.declared.positions.Level.{Level}
+use Rattle.walk.specs.declared.positions.Levels.{Levels}
+use Rattle.walk.specs.declared.positions.Walk as W
+use Rattle.walk.specs.declared.positions.Walk.the-variants.{Start, Vars, Chain, Entry as AtEntry, Attrs, Entries, Unused}
+use Rattle.walk.specs.declared.positions.Step as T
+use Rattle.walk.specs.declared.positions.Step.the-variants.{Over, End, Down, Up}
+use Rattle.walk.proofs.Leads.{link-keeps, list-keeps}
+use Rattle.demands.proofs.Positions.{Position, top, moveBy}
 use Rattle.demands.proofs.Bound.{Pays, Paid, weightOf}
 use Rattle.demands.proofs.Records.{judged-reads, adr-size, aedr-size, vxr-size, vdr-reads}
 
@@ -52,7 +52,7 @@ owedBy f l = cond (isNone l) 0 (suc (usedAt f (l .vxr) - l .next))
 abbrev owed : List ℕ → Levels → ℕ
 owed f s = owedBy f (s .a) + (owedBy f (s .b) + (owedBy f (s .c) + (owedBy f (s .d) + (owedBy f (s .e) + (owedBy f (s .f) + owedBy f (s .g))))))
 
-abbrev pub cost : List ℕ → Place → ℕ
+abbrev pub cost : List ℕ → Position → ℕ
 cost f p = own f (p .walk) + owed f (p .up)
 
 pub start-cost : (f : List ℕ) → cost f (top Start) ≡ 1
@@ -150,49 +150,54 @@ module _ (f : List ℕ) where
       go false = omega arith
 
   module _ (up : Levels) where
-    abbrev Pay : ℕ → T.Turn → Type 0
+    abbrev Pay : ℕ → T.Step → Type 0
     Pay c t = Pays (cost f) (weightOf f) (c + owed f up) (moveBy up t)
 
     pay-takes : (c b t k l : ℕ) (next : W.Walk) → (l ≡ 0 → own f next < c + weightOf f t) → Pay c (takes b t k l next)
     pay-takes c b t k l next h = λ eb ek el. rw (eb, el) (omega (arith, h el))
 
-    pay-followed : (c p : ℕ) (zero : T.Turn) (taken : ℕ → T.Turn) → Pay c zero → ((o : ℕ) → Pay c (taken o)) → Pay c (followed f p zero taken)
-    unfolding followed
-    pay-followed c p zero taken x y =
-        link-keeps f (Pay c) p {x = zero} {y = taken (linkAt f p)} tt x (y (linkAt f p))
+    -- a link of a list
+    pay-list : (c p : ℕ) (l : Listing) → Pay c (l .over) → ((o : ℕ) → l .number o ≡ 0 → own f (l .next o) < c + weightOf f o) → Pay c (listStep f p l)
+    pay-list c p l over next =
+        list-keeps f p (Pay c) l tt over (λ o h. pay-takes c 0 o (typeNumber f o (l .typed)) (l .number o) (l .next o) (next o))
 
-    -- the end of the top chain, or of a lower record
-    pay-over : (u : Var) (x : ℕ) (c : Bool) → Pay (suc (ofTwo 8 (u .kind))) (indexOver f u (up .a) x c)
-    pay-over u x c = go (isNone (up .a)) refl (ltb (endOf f) (up .a .vxr + 20))
+    pay-gdr : (c v : ℕ) (w : W.Walk) → own f w < c → Pay c (overBy f v w)
+    pay-gdr c v w h = cond-keeps (Pay c) (gdrNamed f) {x = Over w v} {y = End 20} (omega arith) tt
+
+    -- the next of a lower record
+    pay-lower-next : (u : Var) (p : ℕ) (c : Bool) → isNone (up .a) ≡ false → Pay (suc (ofTwo 8 (u .kind))) (lowerNext f u (up .a) p c)
+    unfolding lowerNext
+    pay-lower-next u p c e =
+        link-keeps f p (Pay (suc (ofTwo 8 (u .kind)))) {over = lowerOver f u (up .a) c} {taken = λ o. End 11} tt
+        (cond-keeps (Pay (suc (ofTwo 8 (u .kind)))) (ltb (endOf f) (up .a .vxr + 20)) {x = End 20}
+        {y = Up (entered f u (up .a .vxr) (up .a .next) (up .a .last + 1) c)} tt
+        (omega (arith, owed-up up e, entered-cost u (up .a .vxr) (up .a .next) (up .a .last + 1) c)))
+        (λ o h. tt)
+
+    pay-chain : (u : Var) (p last l : ℕ) (c : Bool) → Pay (suc (ofTwo 8 (u .kind))) (chainStep f (up .a) u p last l c)
+    pay-chain u p last l c = go (isNone (up .a)) refl
       where
-        go : (b : Bool) → isNone (up .a) ≡ b → (d : Bool)
-            → Pay (suc (ofTwo 8 (u .kind)))
-            (cond b (chainOver f u x c) (cond d (End 20) (Up (entered f u (up .a .vxr) (up .a .next) (up .a .last + 1) c))))
-        go true e d = omega arith
-        go false e true = tt
-        go false e false = omega (arith, owed-up up e, entered-cost u (up .a .vxr) (up .a .next) (up .a .last + 1) c)
-
-    pay-next : (u : Var) (l : ℕ) (c : Bool) (o : ℕ) → Pay (suc (ofTwo 8 (u .kind))) (indexTaken f u (up .a) l c o)
-    pay-next u l c o =
-        cond-keeps (Pay (suc (ofTwo 8 (u .kind)))) (isNone (up .a)) {x = vxrTaken f u l c o} {y = End 11}
-        (pay-takes (suc (ofTwo 8 (u .kind))) 0 o (typeNumber f o (pos 6)) (vxrRule f o) (entered f u o 0 l c)
-        (λ z. omega (arith, vxr-heavy o z, entered-cost u o 0 l c))) tt
+        go : (b : Bool) → isNone (up .a) ≡ b
+            → Pay (suc (ofTwo 8 (u .kind))) (cond b (listStep f p (chainList f u last l c)) (lowerNext f u (up .a) p c))
+        go true e =
+            pay-list (suc (ofTwo 8 (u .kind))) p (chainList f u last l c) (omega arith) (λ o z. omega (arith, vxr-heavy o z, entered-cost u o 0 l c))
+        go false e = pay-lower-next u p c e
 
     -- an entry that names values, or an index record: that record pays for its entries and its next, the rest stays owed above
     module _ (u : Var) (x i : ℕ) (c : Bool) (e : Entry) where
       abbrev here : ℕ
       here = suc (usedAt f x - suc i) + suc (ofTwo 8 (u .kind))
 
-      pay-values : Pay here (valuesTurn f u x i c e)
+      pay-values : Pay here (valuesStep f u x i c e)
       pay-values =
           pay-takes here (e .fault) (e .link) (typeNumber f (e .link) (pos 7)) (valuesNumber f (variableOf f (u .kind) (u .vdr)) e)
           (entered f u x (i + 1) (e .last + 1) (c || covers f (u .vdr) e))
           (λ z. omega (arith, entered-cost u x (i + 1) (e .last + 1) (c || covers f (u .vdr) e)))
 
-      pay-lower : Pay here (lowerTurn f u x i c (roomBelow up) e)
+      pay-lower : Pay here (lowerStep f u x i c (roomBelow up) e)
       pay-lower = go (eqb (e .fault) 0) refl (eqb (lowerNumber f (e .link)) 0) refl
         where
-          down : T.Turn
+          down : T.Step
           down = Down (entered f u (e .link) 0 (e .first) c) (e .link) (unless 23 (roomBelow up)) (record { vxr = x; next = i + 1; last = e .last })
 
           go : (a : Bool) → eqb (e .fault) 0 ≡ a → (b : Bool) → eqb (lowerNumber f (e .link)) 0 ≡ b
@@ -207,34 +212,27 @@ module _ (f : List ℕ) where
           go true p false q = λ eb ek el. absurd (eqb-false (lowerNumber f (e .link)) 0 q el)
           go false p b q = λ eb ek el. absurd (eqb-false (e .fault) 0 p eb)
 
-      pay-entry : Pay here (entryTurn f u x i c (roomBelow up) e)
+      pay-entry : Pay here (entryStep f u x i c (roomBelow up) e)
       pay-entry =
-          cond-keeps (Pay here) (indexAt f (e .link)) {x = lowerTurn f u x i c (roomBelow up) e} {y = valuesTurn f u x i c e} pay-lower pay-values
+          cond-keeps (Pay here) (indexAt f (e .link)) {x = lowerStep f u x i c (roomBelow up) e} {y = valuesStep f u x i c e} pay-lower pay-values
 
   module _ (gdr : 60 ≤ sizeAt f (gdrAt f)) where
-    pays : (up : Levels) (w : W.Walk) → Pay up (own f w) (turnOf f up w)
-    unfolding turnBy
+    pays : (up : Levels) (w : W.Walk) → Pay up (own f w) (walkStep f up w)
+    unfolding walkStepBy
     pays up Start =
         cond-keeps (Pay up 1) (gdrNamed f) {x = takes 0 (gdrAt f) (typeNumber f (gdrAt f) (pos 2)) 0 (Vars 3 (gdrAt f + 8) 0 0)} {y = End 20}
         (pay-takes up 1 0 (gdrAt f) (typeNumber f (gdrAt f) (pos 2)) 0 (Vars 3 (gdrAt f + 8) 0 0) (λ z. omega arith)) tt
     pays up (Vars k p n g) =
-        pay-followed up (ofTwo 8 k) p (varsOver f k n g) (varTaken f k n g)
-        (cond-keeps (Pay up (ofTwo 8 k)) (gdrNamed f) {x = Over (afterVars f k) (varsTally f k n g)} {y = End 20} (omega (arith, after-vars k)) tt)
-        (λ o. pay-takes up (ofTwo 8 k) 0 o (typeNumber f o (pos k)) (varNumber f k n o) (intoIndex f k n g o) (λ z. omega (arith, vdr-heavy k n o z)))
-    pays up (Chain u p x l c) =
-        pay-followed up (suc (ofTwo 8 (u .kind))) p (indexOver f u (up .a) x c) (indexTaken f u (up .a) l c) (pay-over up u x c) (pay-next up u l c)
+        pay-list up (ofTwo 8 k) p (varsList f k n g) (pay-gdr up (ofTwo 8 k) (varsTally f k n g) (afterVars f k) (after-vars k))
+        (λ o z. omega (arith, vdr-heavy k n o z))
+    pays up (Chain u p last l c) = pay-chain up u p last l c
     pays up (AtEntry u x i l c) = pay-entry up u x i c (entryOf f x i l (mostOf (up .a)))
     pays up (Attrs p n) =
-        pay-followed up 2 p (attrsOver f n) (attrTaken f n)
-        (cond-keeps (Pay up 2) (gdrNamed f) {x = Over (Unused (gdrAt f + 44) 0) (fieldNumber f (gdrAt f + 28) (pos n))} {y = End 20} (omega arith) tt)
-        (λ o. pay-takes up 2 0 o (typeNumber f o (pos 4)) (attrNumber f n o) (Entries 5 o n (o + 12) 0 0) (λ z. omega (arith, adr-heavy n o z)))
+        pay-list up 2 p (attrsList f n) (pay-gdr up 2 (fieldNumber f (gdrAt f + 28) (pos n)) (Unused (gdrAt f + 44) 0) (omega arith))
+        (λ o z. omega (arith, adr-heavy n o z))
     pays up (Entries k a n p e g) =
-        pay-followed up (ofTwo 9 k) p (entriesOver f k a n e g) (entryTaken f k a n e g) (omega (arith, after-entries k a n))
-        (λ o. pay-takes up (ofTwo 9 k) 0 o (typeNumber f o (pos k)) (entryNumber f a o)
-        (Entries k a n (o + 8) (oneMore e) (max (afterAt f (o + 20)) g)) (λ z. omega (arith, aedr-heavy a o z)))
-    pays up (Unused p b) =
-        pay-followed up 1 p (End 0) (unusedTaken f b) tt
-        (λ o. pay-takes up 1 0 o (typeNumber f o (negsuc 0)) (unusedNumber f b o) (Unused (o + 8) o) (λ z. omega (arith, uir-heavy b o z)))
+        pay-list up (ofTwo 9 k) p (entriesList f k a n e g) (omega (arith, after-entries k a n)) (λ o z. omega (arith, aedr-heavy a o z))
+    pays up (Unused p b) = pay-list up 1 p (unusedList f b) tt (λ o z. omega (arith, uir-heavy b o z))
 
     pub paid : Paid f (cost f)
     paid = record { some-cost = λ p. omega (arith, some-own (p .walk)); pays = λ p. pays (p .up) (p .walk) }

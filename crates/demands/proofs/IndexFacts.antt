@@ -26,7 +26,7 @@ use Rattle.format.specs.Numbers.{first, unless}
 use Rattle.format.proofs.Numbers.{unless-zero, zeros}
 use Rattle.format.proofs.FieldRanges.{nat-small}
 use Rattle.demands.proofs.Records.{Reach, reach-makes, Stands, stands-reach, stands-begins, stands-nonzero, judged-reads, judged-makes, type-reads, type-makes, field-reads, field-makes, vxr-size, VdrParts, values-read, vdr-bytes}
-use Rattle.demands.proofs.Turns.{Listed}
+use Rattle.demands.proofs.Lists.{Listed}
 use Rattle.demands.proofs.Trees.{TreeRules}
 use Rattle.demands.proofs.Levels.{levelsOf, most-named, most-top}
 use Rattle.demands.proofs.Nested.{headOr0, entryIs, Carried, carried, Ranged, ValuesGood, indexRules, EntryGood, afterEntry, RowGood, afterRow, chainCarried, chainRules, zero-link}

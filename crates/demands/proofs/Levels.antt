@@ -9,8 +9,8 @@ use borrow.Author.Tests.{ne-eqb}
 use Rattle.records.specs.Index.{noLimit}
 use Rattle.records.specs.Tree.{Slot, lastOf, levelsBelow}
 use Rattle.walk.specs.Levels.{noLevel, noLevels, isNone, mostOf, roomBelow, pushed, popped}
-use Rattle.walk.specs.declared.places.Level.{Level}
-use Rattle.walk.specs.declared.places.Levels.{Levels}
+use Rattle.walk.specs.declared.positions.Level.{Level}
+use Rattle.walk.specs.declared.positions.Levels.{Levels}
 
 -- an entry of the top chain has no limit
 pub most-top : mostOf noLevel ≡ noLimit

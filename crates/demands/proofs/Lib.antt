@@ -1,11 +1,11 @@
 pub mod Plain
 pub mod Goes
-pub mod Turns
-pub mod Places
+pub mod Lists
+pub mod Positions
 pub mod Moves
 pub mod Standing
 pub mod Claims
-pub mod Looked
+pub mod LastStep
 pub mod Sweep
 pub mod Bound
 pub mod Records
@@ -24,5 +24,5 @@ pub mod OneLevel
 pub mod VariableFacts
 pub mod Demand2
 pub mod Demand3
-pub mod Lies
+pub mod Locations
 pub mod Padded

@@ -15,13 +15,13 @@ use Rattle.records.specs.Index.{indexAt}
 use lib.ListN.{getD}
 use Rattle.marks.specs.Marks.{startAt}
 use Rattle.walk.specs.Levels.{roomBelow}
-use Rattle.walk.specs.Walk.{turnOf}
-use Rattle.walk.specs.declared.places.Levels.{Levels}
-use Rattle.walk.specs.declared.places.Turn as T
-use Rattle.walk.specs.declared.places.Turn.the-variants.{Over, End, Take, Down, Up}
+use Rattle.walk.specs.Walk.{walkStep}
+use Rattle.walk.specs.declared.positions.Levels.{Levels}
+use Rattle.walk.specs.declared.positions.Step as T
+use Rattle.walk.specs.declared.positions.Step.the-variants.{Over, End, Take, Down, Up}
 use Rattle.checker.specs.Step.{linkNumber}
-use Rattle.checker.proofs.Numbers.{TurnHas, has-turn}
-use Rattle.demands.proofs.Places.{Place, Move, passes, stops, takes, moveBy, moveOf}
+use Rattle.checker.proofs.Numbers.{first-has, StepHas, step-has}
+use Rattle.demands.proofs.Positions.{Position, Move, passes, stops, takes, moveBy, moveOf}
 
 -- the numbers before the place of a link is looked at
 abbrev pub Early : ℕ → Type 0
@@ -62,17 +62,17 @@ pub record MoveHas (f : List ℕ) (t : Move) : Type 0 where
 none : (f : List ℕ) (t : ℕ) → OfTarget f t 0
 none f t = plain-number f t 0 refl (λ e. omega arith) (λ e. omega arith)
 
-move-has : (f : List ℕ) (up : Levels) (t : T.Turn) → TurnHas Early AtEnd (OfTarget f) t → MoveHas f (moveBy up t)
-move-has f up (Over w v) h = record { has = h .told }
-move-has f up (End v) h = record { has = h .told }
-move-has f up (Take w early t typed late) h = record { has = h .told }
-move-has f up (Down w t typed l) h = record { has = (inl refl, h .told, none f t) }
+move-has : (f : List ℕ) (up : Levels) (t : T.Step) → StepHas Early AtEnd (OfTarget f) t → MoveHas f (moveBy up t)
+move-has f up (Over w v) h = record { has = h .has }
+move-has f up (End v) h = record { has = h .has }
+move-has f up (Take w early t typed late) h = record { has = h .has }
+move-has f up (Down w t typed l) h = record { has = (inl refl, h .has, none f t) }
 move-has f up (Up w) h = record { has = inr (inl refl) }
 
-pub move-numbers : (f : List ℕ) (p : Place) → MoveHas f (moveOf f p)
+pub move-numbers : (f : List ℕ) (p : Position) → MoveHas f (moveOf f p)
 move-numbers f p =
-    move-has f (p .up) (turnOf f (p .up) (p .walk))
-    (has-turn f Early AtEnd (OfTarget f) (inl refl) (inr (inl refl)) (inr (inr refl)) (inr (inl refl)) (inl refl) (inr (inr (inl refl))) (inr (inr (inr refl)))
+    move-has f (p .up) (walkStep f (p .up) (p .walk))
+    (step-has f Early AtEnd (OfTarget f) (inl refl) (inr (inl refl)) (inr (inr refl)) (inr (inl refl)) (inl refl) (inr (inr (inl refl))) (inr (inr (inr refl)))
     (none f) (λ t. plain-number f t 8 refl (λ e. omega arith) (λ e. omega arith)) (λ t. plain-number f t 10 refl (λ e. omega arith) (λ e. omega arith))
     (λ t. plain-number f t 11 refl (λ e. omega arith) (λ e. omega arith)) (λ t h. record { other = refl; flagged = λ e. h; deep = λ e. absurd (omega arith) })
     (λ t. plain-number f t 20 refl (λ e. omega arith) (λ e. omega arith)) (λ t h. record { other = refl; flagged = λ e. absurd (omega arith); deep = λ e. h })

@@ -10,7 +10,7 @@ use native.Mathlib.Omega.{arith}
 use lib.Dec.{ltb, eqb}
 use lib.IntN.{pos, negsuc}
 use lib.ListN.{length}
-use borrow.Author.Tests.{ltb-false, eqb-true, eqb-false, lt-ltb, le-ltb, ne-eqb}
+use borrow.Author.Tests.{eqb-true, eqb-false, lt-ltb, le-ltb}
 use Rattle.format.specs.Fields.{endOf, fieldAt, natOr, isAt, linkAt, afterAt}
 use Rattle.format.proofs.SignedTests.{eqZ-true}
 use Rattle.format.specs.Numbers.{unless}
@@ -22,18 +22,21 @@ use Rattle.records.proofs.Ranges.{EntryParts, entry-is, entry-reads}
 use Rattle.records.specs.declared.index.Entry.{Entry}
 use Rattle.variables.specs.Vdr.{variableOf}
 use Rattle.walk.specs.Levels.{noLevels, isNone, mostOf, roomBelow, popped}
-use Rattle.walk.specs.Walk.{turnBy, typeNumber, takes, followed, overBy, gdrNamed, fieldNumber, varsTally, afterVars, varNumber, intoIndex, chainOver, chainTally, entered, covers, valuesNumber, entryRefused, valuesTurn, lowerNumber, lowerTurn, entryTurn, chainTurn, attrNumber, entriesTally, afterEntries, entriesOver, oneMore, entryNumber, unusedNumber}
-use Rattle.walk.specs.declared.places.Var.{Var}
-use Rattle.walk.specs.declared.places.Levels.{Levels}
-use Rattle.walk.specs.declared.places.Walk as W
-use Rattle.walk.specs.declared.places.Walk.the-variants.{Start, Vars, Chain, Entry as AtEntry, Attrs, Entries, Unused}
-use Rattle.walk.specs.declared.places.Turn as T
-use Rattle.walk.specs.declared.places.Turn.the-variants.{Over, End, Down}
+use Rattle.walk.specs.Walk.{walkStepBy, typeNumber, takes, leadsTo, byLink, Listing, claim, listStep, overBy, gdrNamed, fieldNumber, varsTally, afterVars, varNumber, intoIndex, varsList, chainTally, entered, lowerNext, chainList, chainStep, covers, valuesNumber, entryRefused, valuesStep, lowerNumber, lowerStep, entryStep, attrNumber, attrsList, entriesTally, afterEntries, oneMore, entryNumber, entriesList, unusedNumber, unusedList}
+use Rattle.walk.specs.declared.positions.Var.{Var}
+use Rattle.walk.specs.declared.positions.Levels.{Levels}
+use Rattle.walk.specs.declared.positions.Walk as W
+use Rattle.walk.specs.declared.positions.Walk.the-variants.{Start, Vars, Chain, Entry as AtEntry, Attrs, Entries, Unused}
+use Rattle.walk.specs.declared.positions.Link as L
+use Rattle.walk.specs.declared.positions.Link.the-variants.{Past, Zero, To}
+use Rattle.walk.proofs.Leads.{LinkIs, link-is}
+use Rattle.walk.specs.declared.positions.Step as T
+use Rattle.walk.specs.declared.positions.Step.the-variants.{Over, End, Down}
 use Rattle.demands.specs.Acceptance.{ListedVdr, ListedAdr, offsets, indexOffsets, variableOffsets, attributeOffsets}
 use Rattle.demands.proofs.Records.{judged-reads}
 use Rattle.demands.proofs.Goes.{Ends, Goes, goes-from, goes-to, takes-link, passes-link}
-use Rattle.demands.proofs.Turns.{EndsAt, Leads, Rules, Listed, LinkGoes, LinkEnds, list-leads, none-leads, then-leads, take-leads, claims-as, goes-leads}
-use Rattle.demands.proofs.Places.{Place, place, top, TurnEnds, Steps}
+use Rattle.demands.proofs.Lists.{EndsAt, Leads, Rules, Listed, LinkGoes, LinkEnds, list-leads, none-leads, then-leads, take-leads, claims-as, goes-leads}
+use Rattle.demands.proofs.Positions.{Position, position, top, StepEnds, Steps}
 use Rattle.demands.proofs.Trees.{slot, nextSlot, Row, rowAfter, TreeRules, afterSlot, SlotGood, rows-go}
 use Rattle.demands.proofs.Levels.{levelOf, levelsOf, level-there, room-there, down-up, room-gone}
 
@@ -166,66 +169,71 @@ NestedObeys f y =
     × (Listed f (attrsRules f) [] (gdrAt f + 16) (y .1 .1 .0) × Listed f (unusedRules f) [] (gdrAt f + 44) (y .1 .1 .1))))
 
 -- ---- a step that ends well, shape by shape
-module _ (f : List ℕ) (E : Place → List ℕ → Type 0) (up : Levels) where
-  takes-reads : (b t k l : ℕ) (next : W.Walk) (cs : List ℕ) → TurnEnds E up (takes b t k l next) cs
-      → (b ≡ 0) × (k ≡ 0) × (l ≡ 0) × (ds : List ℕ) × (cs ≡ t ∷ ds) × E (place next up) ds
-  takes-reads b t k l next cs e = (e .0, e .1, e .2, e .3, e .4, subst (λ (w : W.Walk). E (place w up) (e .3)) (rw (e .0, e .2)) (e .5))
+module _ (f : List ℕ) (E : Position → List ℕ → Type 0) (up : Levels) where
+  takes-reads : (b t k l : ℕ) (next : W.Walk) (cs : List ℕ) → StepEnds E up (takes b t k l next) cs
+      → (b ≡ 0) × (k ≡ 0) × (l ≡ 0) × (ds : List ℕ) × (cs ≡ t ∷ ds) × E (position next up) ds
+  takes-reads b t k l next cs e = (e .0, e .1, e .2, e .3, e .4, subst (λ (w : W.Walk). E (position w up) (e .3)) (rw (e .0, e .2)) (e .5))
 
-  takes-makes : (b t k l : ℕ) (next : W.Walk) (cs ds : List ℕ) → b ≡ 0 → k ≡ 0 → l ≡ 0 → cs ≡ t ∷ ds → E (place next up) ds
-      → TurnEnds E up (takes b t k l next) cs
+  takes-makes : (b t k l : ℕ) (next : W.Walk) (cs ds : List ℕ) → b ≡ 0 → k ≡ 0 → l ≡ 0 → cs ≡ t ∷ ds → E (position next up) ds
+      → StepEnds E up (takes b t k l next) cs
   takes-makes b t k l next cs ds eb ek el ec h = (eb, ek, el, ds, ec, rw (eb, el) h)
 
-  -- a turn is not made where a test fails
-  barred-reads : (b : Bool) (t : T.Turn) (cs : List ℕ) → TurnEnds E up (cond b (End 20) t) cs → (b ≡ false) × TurnEnds E up t cs
-  barred-reads true t cs e = let z = e .0 in absurd (omega arith)
-  barred-reads false t cs e = (refl, e)
-
-  allowed-reads : (b : Bool) (t : T.Turn) (cs : List ℕ) → TurnEnds E up (cond b t (End 20)) cs → (b ≡ true) × TurnEnds E up t cs
+  -- a step is not made where a test fails
+  allowed-reads : (b : Bool) (t : T.Step) (cs : List ℕ) → StepEnds E up (cond b t (End 20)) cs → (b ≡ true) × StepEnds E up t cs
   allowed-reads true t cs e = (refl, e)
   allowed-reads false t cs e = let z = e .0 in absurd (omega arith)
 
-  module _ {X : Type 0} (r : Rules X) (bs : List X) (p : ℕ) (over : T.Turn) (typed late : ℕ → ℕ) (next : ℕ → W.Walk) (fin : Option Place) (cs : List ℕ)
-      (good : (o : ℕ) → r .good bs o ↔ ((typed o ≡ 0) × (late o ≡ 0))) (tally : TurnEnds E up over cs ↔ (r .tally bs × EndsAt E fin cs))
+  -- a link of a list l, of which the rules are r: those of a record are that its type and its rule have no number, and its end comes to
+  -- fin if its tally is right
+  module _ {X : Type 0} (r : Rules X) (bs : List X) (p : ℕ) (l : Listing) (fin : Option Position) (cs : List ℕ)
+      (good : (o : ℕ) → r .good bs o ↔ ((typeNumber f o (l .typed) ≡ 0) × (l .number o ≡ 0))) (tally : StepEnds E up (l .over) cs ↔ (r .tally bs × EndsAt E fin cs))
+      (here : r .here bs p ↔ (p + 4 ≤ endOf f))
     where
-      taken : ℕ → T.Turn
-      taken o = takes 0 o (typed o) (late o) (next o)
+      Going : Type 0
+      Going = LinkEnds f r E bs p fin (λ o. position (l .next o) up) cs
 
-      followed-reads : (p + 4 ≤ endOf f → r .here bs p) → TurnEnds E up (followed f p over (λ o. takes 0 o (typed o) (late o) (next o))) cs
-          → LinkEnds f r E bs p fin (λ o. place (next o) up) cs
-      unfolding followed taken
-      followed-reads here e =
-          let a = barred-reads (ltb (endOf f) (p + 4)) (cond (eqb (linkAt f p) 0) over (taken (linkAt f p))) cs e in
-          (here (ltb-false (endOf f) (p + 4) (a .0)), go (eqb (linkAt f p) 0) refl (a .1))
+      link-reads : (k : L.Link) → LinkIs f p k → StepEnds E up (byLink k (l .over) (claim f l)) cs → Going
+      unfolding Going
+      link-reads Past h e = let z = e .0 in absurd (omega arith)
+      link-reads Zero h e = let t = tally .0 e in (here .1 (h .0), inl (h .1, t .0, t .1))
+      link-reads (To o) h e =
+          let t = takes-reads 0 o (typeNumber f o (l .typed)) (l .number o) (l .next o) cs e in
+          let q = sym (h .1) in (
+            here .1 (h .0),
+            inr (
+              subst (λ (x : ℕ). x ≢ 0) q (h .2),
+              subst (r .good bs) q (good o .1 (t .1, t .2)),
+              t .3,
+              subst (λ (x : ℕ). cs ≡ x ∷ t .3) q (t .4),
+              subst (λ (x : ℕ). E (position (l .next x) up) (t .3)) q (t .5),
+            ),
+          )
+
+      link-makes : (k : L.Link) → LinkIs f p k → Going → StepEnds E up (byLink k (l .over) (claim f l)) cs
+      unfolding Going
+      link-makes Past h e = let i = here .0 (e .0) in absurd (omega (arith, h))
+      link-makes Zero h e = go (e .1)
         where
-          go : (b : Bool) → eqb (linkAt f p) 0 ≡ b → TurnEnds E up (cond b over (taken (linkAt f p))) cs
-              → LinkGoes f r E bs p fin (λ o. place (next o) up) cs
-          go true h e = let t = tally .0 e in inl (eqb-true (linkAt f p) 0 h, t .0, t .1)
-          go false h e =
-              let o = linkAt f p in
-              let t = takes-reads 0 o (typed o) (late o) (next o) cs e in
-              inr (eqb-false o 0 h, good o .1 (t .1, t .2), t .3, t .4, t .5)
-
-      followed-makes : (r .here bs p → p + 4 ≤ endOf f) → LinkEnds f r E bs p fin (λ o. place (next o) up) cs
-          → TurnEnds E up (followed f p over (λ o. takes 0 o (typed o) (late o) (next o))) cs
-      unfolding followed taken
-      followed-makes here e = rw (le-ltb (endOf f) (p + 4) (here (e .0))) (go (e .1))
+          go : LinkGoes f r E bs p fin (λ o. position (l .next o) up) cs → StepEnds E up (l .over) cs
+          go (inl g) = tally .1 (g .1, g .2)
+          go (inr g) = absurd (g .0 (h .1))
+      link-makes (To o) h e = go (e .1)
         where
-          go : LinkGoes f r E bs p fin (λ o. place (next o) up) cs
-              → TurnEnds E up (cond (eqb (linkAt f p) 0) over (taken (linkAt f p))) cs
-          go (inl h) = rw (h .0) (tally .1 (h .1, h .2))
-          go (inr h) =
-              let o = linkAt f p in
-              let g = good o .0 (h .1) in
-              rw (ne-eqb o 0 (h .0)) (takes-makes 0 o (typed o) (late o) (next o) cs (h .2) refl (g .0) (g .1) (h .3) (h .4))
+          go : LinkGoes f r E bs p fin (λ o. position (l .next o) up) cs → StepEnds E up (claim f l o) cs
+          go (inl g) = absurd (h .2 (sym (h .1) ∙ g .0))
+          go (inr g) =
+              let k = good o .0 (subst (r .good bs) (h .1) (g .1)) in
+              takes-makes 0 o (typeNumber f o (l .typed)) (l .number o) (l .next o) cs (g .2) refl (k .0) (k .1)
+              (subst (λ (x : ℕ). cs ≡ x ∷ g .2) (h .1) (g .3)) (subst (λ (x : ℕ). E (position (l .next x) up) (g .2)) (h .1) (g .4))
 
-      link-turns : r .here bs p ↔ (p + 4 ≤ endOf f) → TurnEnds E up (followed f p over (λ o. takes 0 o (typed o) (late o) (next o))) cs
-          ↔ LinkEnds f r E bs p fin (λ o. place (next o) up) cs
-      link-turns here = (followed-reads (here .1), followed-makes (here .0))
+      link-steps : StepEnds E up (listStep f p l) cs ↔ LinkEnds f r E bs p fin (λ o. position (l .next o) up) cs
+      unfolding listStep Going
+      link-steps = (link-reads (leadsTo f p) (link-is f p), link-makes (leadsTo f p) (link-is f p))
 
   -- a list of the GDR is over
-  over-turns : (number : ℕ) (next : W.Walk) (cs : List ℕ)
-      → TurnEnds E up (overBy f number next) cs ↔ (((gdrNamed f ≡ true) × (number ≡ 0)) × E (place next up) cs)
-  over-turns number next cs = (
+  over-steps : (number : ℕ) (next : W.Walk) (cs : List ℕ)
+      → StepEnds E up (overBy f number next) cs ↔ (((gdrNamed f ≡ true) × (number ≡ 0)) × E (position next up) cs)
+  over-steps number next cs = (
     λ e. let t = allowed-reads (gdrNamed f) (Over next number) cs e in ((t .0, t .1 .0), t .1 .1),
     λ t. rw (t .0 .0) (t .0 .1, t .1),
   )
@@ -236,61 +244,65 @@ pub zero-link : (f : List ℕ) (p : ℕ) → isAt f p (pos 0) ≡ true → linkA
 unfolding isAt linkAt
 zero-link f p e = ap (natOr 1) (eqZ-true (fieldAt f p) (pos 0) e)
 
-module _ (f : List ℕ) (E : Place → List ℕ → Type 0) (u : Var) (above : List Slot) (c : Carried) (s : Slot) where
+zero-leads : (f : List ℕ) (p : ℕ) → p + 4 ≤ endOf f → isAt f p (pos 0) ≡ true → leadsTo f p ≡ Zero
+unfolding leadsTo
+zero-leads f p h e = rw (le-ltb (endOf f) (p + 4) h, zero-link f p e)
+
+module _ (f : List ℕ) (E : Position → List ℕ → Type 0) (u : Var) (above : List Slot) (c : Carried) (s : Slot) where
   abbrev levels : Levels
   levels = levelsOf f above
 
-  abbrev looked : Entry
-  looked = entryOf f (s .vxr) (s .entry) (c .floor) (mostOf (levels .a))
+  abbrev entryHere : Entry
+  entryHere = entryOf f (s .vxr) (s .entry) (c .floor) (mostOf (levels .a))
 
-  abbrev turnAt : Entry → T.Turn
-  turnAt e = entryTurn f u (s .vxr) (s .entry) (c .covered) (roomBelow levels) e
+  abbrev stepAt : Entry → T.Step
+  stepAt e = entryStep f u (s .vxr) (s .entry) (c .covered) (roomBelow levels) e
 
-  abbrev valuesAt : Entry → T.Turn
-  valuesAt e = valuesTurn f u (s .vxr) (s .entry) (c .covered) e
+  abbrev valuesAt : Entry → T.Step
+  valuesAt e = valuesStep f u (s .vxr) (s .entry) (c .covered) e
 
-  abbrev lowerAt : Entry → T.Turn
-  lowerAt e = lowerTurn f u (s .vxr) (s .entry) (c .covered) (roomBelow levels) e
+  abbrev lowerAt : Entry → T.Step
+  lowerAt e = lowerStep f u (s .vxr) (s .entry) (c .covered) (roomBelow levels) e
 
   -- an entry with a number does not end well
-  faultless : (e : Entry) (cs : List ℕ) → TurnEnds E levels (turnAt e) cs → e .fault ≡ 0
+  faultless : (e : Entry) (cs : List ℕ) → StepEnds E levels (stepAt e) cs → e .fault ≡ 0
   faultless e cs = go (indexAt f (e .link)) (eqb (e .fault) 0) refl
     where
-      go : (a b : Bool) → eqb (e .fault) 0 ≡ b → TurnEnds E levels (cond a (lowerAt e) (valuesAt e)) cs → e .fault ≡ 0
+      go : (a b : Bool) → eqb (e .fault) 0 ≡ b → StepEnds E levels (cond a (lowerAt e) (valuesAt e)) cs → e .fault ≡ 0
       go false b q h = h .0
       go true true q h = eqb-true (e .fault) 0 q
       go true false q h = refused (rw q at h)
         where
-          refused : TurnEnds E levels (entryRefused e (unless 23 (roomBelow levels)) (lowerNumber f (e .link))) cs → e .fault ≡ 0
+          refused : StepEnds E levels (entryRefused e (unless 23 (roomBelow levels)) (lowerNumber f (e .link))) cs → e .fault ≡ 0
           refused h = h .0
 
   -- so its range is right, and it names what it says
-  turn-is : (b : Bool) (cs : List ℕ) → namesIndex f s ≡ b
-      → TurnEnds E levels (turnAt looked) cs ↔ (Ranged f above (c .floor) s × TurnEnds E levels (cond b (lowerAt (entryIs f s)) (valuesAt (entryIs f s))) cs)
-  turn-is b cs q = (
+  step-is : (b : Bool) (cs : List ℕ) → namesIndex f s ≡ b
+      → StepEnds E levels (stepAt entryHere) cs ↔ (Ranged f above (c .floor) s × StepEnds E levels (cond b (lowerAt (entryIs f s)) (valuesAt (entryIs f s))) cs)
+  step-is b cs q = (
     λ e.
-        let r = entry-reads f (s .vxr) (s .entry) (c .floor) (mostOf (levels .a)) (faultless looked cs e) in
-        (r, subst (λ (t : T.Turn). TurnEnds E levels t cs) (same r) e),
-    λ p. subst (λ (t : T.Turn). TurnEnds E levels t cs) (sym (same (p .0))) (p .1),
+        let r = entry-reads f (s .vxr) (s .entry) (c .floor) (mostOf (levels .a)) (faultless entryHere cs e) in
+        (r, subst (λ (t : T.Step). StepEnds E levels t cs) (same r) e),
+    λ p. subst (λ (t : T.Step). StepEnds E levels t cs) (sym (same (p .0))) (p .1),
   )
     where
-      same : Ranged f above (c .floor) s → turnAt looked ≡ cond b (lowerAt (entryIs f s)) (valuesAt (entryIs f s))
+      same : Ranged f above (c .floor) s → stepAt entryHere ≡ cond b (lowerAt (entryIs f s)) (valuesAt (entryIs f s))
       same r =
-          ap turnAt (entry-is f (s .vxr) (s .entry) (c .floor) (mostOf (levels .a)) r)
+          ap stepAt (entry-is f (s .vxr) (s .entry) (c .floor) (mostOf (levels .a)) r)
           ∙ ap (λ (b : Bool). cond b (lowerAt (entryIs f s)) (valuesAt (entryIs f s))) q
 
-  abbrev neighbour : Place
-  neighbour = place (entered f u (s .vxr) (s .entry + 1) (lastOf f s + 1) (c .covered || covers f (u .vdr) (entryIs f s))) levels
+  abbrev neighbour : Position
+  neighbour = position (entered f u (s .vxr) (s .entry + 1) (lastOf f s + 1) (c .covered || covers f (u .vdr) (entryIs f s))) levels
 
-  values-turns : (cs : List ℕ) → namesIndex f s ≡ false
-      → TurnEnds E levels (turnAt looked) cs ↔ (ValuesGood f (u .kind) (u .vdr) above c s × (ds : List ℕ) × (cs ≡ namedBy f s ∷ ds) × E neighbour ds)
-  values-turns cs h = (
+  values-steps : (cs : List ℕ) → namesIndex f s ≡ false
+      → StepEnds E levels (stepAt entryHere) cs ↔ (ValuesGood f (u .kind) (u .vdr) above c s × (ds : List ℕ) × (cs ≡ namedBy f s ∷ ds) × E neighbour ds)
+  values-steps cs h = (
     λ e.
-        let r = turn-is false cs h .0 e in
+        let r = step-is false cs h .0 e in
         let t = takes-reads f E levels 0 (namedBy f s) typed late (neighbour .walk) cs (r .1) in
         (record { range = r .0; typed = t .1; values = t .2 }, t .3, t .4, t .5),
     λ g.
-        turn-is false cs h .1
+        step-is false cs h .1
         (g .0 .range, takes-makes f E levels 0 (namedBy f s) typed late (neighbour .walk) cs (g .1) refl (g .0 .typed) (g .0 .values) (g .2) (g .3)),
   )
     where
@@ -300,45 +312,44 @@ module _ (f : List ℕ) (E : Place → List ℕ → Type 0) (u : Var) (above : L
       late : ℕ
       late = valuesNumber f (variableOf f (u .kind) (u .vdr)) (entryIs f s)
 
-  abbrev inside : Place
-  inside = place (entered f u (namedBy f s) 0 (firstOf f s) (c .covered)) (levelsOf f (s ∷ above))
+  abbrev inside : Position
+  inside = position (entered f u (namedBy f s) 0 (firstOf f s) (c .covered)) (levelsOf f (s ∷ above))
 
-  lower-reads : (cs : List ℕ) → TurnEnds E levels (lowerAt (entryIs f s)) cs
+  lower-reads : (cs : List ℕ) → StepEnds E levels (lowerAt (entryIs f s)) cs
       → (unless 23 (roomBelow levels) ≡ 0) × (lowerNumber f (namedBy f s) ≡ 0) × (ds : List ℕ) × (cs ≡ namedBy f s ∷ ds) × E inside ds
   lower-reads cs = go (eqb (lowerNumber f (namedBy f s)) 0) refl
     where
       go : (b : Bool) → eqb (lowerNumber f (namedBy f s)) 0 ≡ b
-          → TurnEnds E levels
+          → StepEnds E levels
           (cond b (Down (inside .walk) (namedBy f s) (unless 23 (roomBelow levels)) (levelOf f s))
           (entryRefused (entryIs f s) (unless 23 (roomBelow levels)) (lowerNumber f (namedBy f s)))) cs
           → (unless 23 (roomBelow levels) ≡ 0) × (lowerNumber f (namedBy f s) ≡ 0) × (ds : List ℕ) × (cs ≡ namedBy f s ∷ ds) × E inside ds
       go true q e = (e .1, eqb-true (lowerNumber f (namedBy f s)) 0 q, e .3, e .4, e .5)
       go false q e = absurd (eqb-false (lowerNumber f (namedBy f s)) 0 q (e .2))
 
-  lower-turns : (cs : List ℕ) → roomBelow levels ≡ true → namesIndex f s ≡ true
-      → TurnEnds E levels (turnAt looked) cs ↔ (LowerGood f above c s × (ds : List ℕ) × (cs ≡ namedBy f s ∷ ds) × E inside ds)
-  lower-turns cs room h = (
-    λ e. let r = turn-is true cs h .0 e in let t = lower-reads cs (r .1) in (record { range = r .0; lower = t .1 }, t .2, t .3, t .4),
-    λ g. turn-is true cs h .1 (g .0 .range, rw (g .0 .lower, room) (refl, refl, refl, g .1, g .2, g .3)),
+  lower-steps : (cs : List ℕ) → roomBelow levels ≡ true → namesIndex f s ≡ true
+      → StepEnds E levels (stepAt entryHere) cs ↔ (LowerGood f above c s × (ds : List ℕ) × (cs ≡ namedBy f s ∷ ds) × E inside ds)
+  lower-steps cs room h = (
+    λ e. let r = step-is true cs h .0 e in let t = lower-reads cs (r .1) in (record { range = r .0; lower = t .1 }, t .2, t .3, t .4),
+    λ g. step-is true cs h .1 (g .0 .range, rw (g .0 .lower, room) (refl, refl, refl, g .1, g .2, g .3)),
   )
 
-  full-turns : (cs : List ℕ) → roomBelow levels ≡ false → namesIndex f s ≡ true → TurnEnds E levels (turnAt looked) cs → ⊥
-  full-turns cs room h e = true≢false (sym (unless-zero 22 (roomBelow levels) (lower-reads cs (turn-is true cs h .0 e .1) .0)) ∙ room)
+  full-steps : (cs : List ℕ) → roomBelow levels ≡ false → namesIndex f s ≡ true → StepEnds E levels (stepAt entryHere) cs → ⊥
+  full-steps cs room h e = true≢false (sym (unless-zero 22 (roomBelow levels) (lower-reads cs (step-is true cs h .0 e .1) .0)) ∙ room)
 
   -- the zero next of the lower record
-  rise-turns : (floor : ℕ) (b : Bool) (cs : List ℕ) → popped (levelsOf f (s ∷ above)) ≡ levels → LowerGood f above c s
-      → TurnEnds E (levelsOf f (s ∷ above)) (chainTurn f (levelOf f s) u (namedBy f s + 8) (namedBy f s) floor b) cs
-      ↔ E (place (entered f u (s .vxr) (s .entry + 1) (lastOf f s + 1) b) levels) cs
-  unfolding followed lowerNumber vxrRule
-  rise-turns floor b cs q g =
+  rise-steps : (floor : ℕ) (b : Bool) (cs : List ℕ) → popped (levelsOf f (s ∷ above)) ≡ levels → LowerGood f above c s
+      → StepEnds E (levelsOf f (s ∷ above)) (chainStep f (levelOf f s) u (namedBy f s + 8) (namedBy f s) floor b) cs
+      ↔ E (position (entered f u (s .vxr) (s .entry + 1) (lastOf f s + 1) b) levels) cs
+  unfolding lowerNext lowerNumber vxrRule
+  rise-steps floor b cs q g =
       let y = namedBy f s in
       let p = zeros (vxrRule f y ∷ unless 11 (isAt f (y + 8) (pos 0)) ∷ []) (g .lower) in
       let r = judged-reads f y 20 (vxrRight f y) (p 0) .0 .lies in
       let i = g .range .last-lies in
       rw (
-        le-ltb (endOf f) (y + 8 + 4) (omega arith),
-        zero-link f (y + 8) (unless-zero 10 (isAt f (y + 8) (pos 0)) (p 1)),
         level-there f s,
+        zero-leads f (y + 8) (omega arith) (unless-zero 10 (isAt f (y + 8) (pos 0)) (p 1)),
         le-ltb (endOf f) (s .vxr + 20) (omega arith),
         q,
       )
@@ -346,7 +357,7 @@ module _ (f : List ℕ) (E : Place → List ℕ → Type 0) (u : Var) (above : L
 
 -- ---- the walk reads off just that
 module _ (f : List ℕ) where
-  abbrev Step : ℕ → Place → List ℕ → Type 0
+  abbrev Step : ℕ → Position → List ℕ → Type 0
   Step k = Ends (Steps f) k
 
   -- the entries of an index
@@ -355,14 +366,14 @@ module _ (f : List ℕ) where
     rules = indexRules f (u .kind) (u .vdr)
 
     -- before an entry of an index record, or past its last
-    abbrev atSlot : List Slot → Carried → Slot → Place
-    atSlot above c s = place (entered f u (s .vxr) (s .entry) (c .floor) (c .covered)) (levelsOf f above)
+    abbrev atSlot : List Slot → Carried → Slot → Position
+    atSlot above c s = position (entered f u (s .vxr) (s .entry) (c .floor) (c .covered)) (levelsOf f above)
 
-    abbrev entryAt : List Slot → Carried → Slot → Place
-    entryAt above c s = place (AtEntry u (s .vxr) (s .entry) (c .floor) (c .covered)) (levelsOf f above)
+    abbrev entryAt : List Slot → Carried → Slot → Position
+    entryAt above c s = position (AtEntry u (s .vxr) (s .entry) (c .floor) (c .covered)) (levelsOf f above)
 
-    abbrev endAt : List Slot → Carried → ℕ → Place
-    endAt above c x = place (Chain u (x + 8) x (c .floor) (c .covered)) (levelsOf f above)
+    abbrev endAt : List Slot → Carried → ℕ → Position
+    endAt above c x = position (Chain u (x + 8) x (c .floor) (c .covered)) (levelsOf f above)
 
     at-entry : (above : List Slot) (c : Carried) (s : Slot) → s .entry < usedAt f (s .vxr) → atSlot above c s ≡ entryAt above c s
     at-entry above c s h = rw (lt-ltb (s .entry) (usedAt f (s .vxr)) h)
@@ -372,30 +383,30 @@ module _ (f : List ℕ) where
 
     values-go : (above : List Slot) (c : Carried) (s : Slot) → s .entry < usedAt f (s .vxr) → namesIndex f s ≡ false
         → Goes (Steps f) (atSlot above c s) (ValuesGood f (u .kind) (u .vdr) above c s) (namedBy f s ∷ []) (atSlot above (rules .past c s) (nextSlot s))
-    unfolding turnBy
+    unfolding walkStepBy
     values-go above c s h e =
-        goes-from (Steps f) (at-entry above c s h) (takes-link (Steps f) (entryAt above c s) (namedBy f s) (λ j cs. values-turns f (Step j) u above c s cs e))
+        goes-from (Steps f) (at-entry above c s h) (takes-link (Steps f) (entryAt above c s) (namedBy f s) (λ j cs. values-steps f (Step j) u above c s cs e))
 
     lower-goes : (above : List Slot) (c : Carried) (s : Slot) → length above < levelsBelow → s .entry < usedAt f (s .vxr) → namesIndex f s ≡ true
         → Goes (Steps f) (atSlot above c s) (LowerGood f above c s) (namedBy f s ∷ []) (atSlot (s ∷ above) (rules .down c s) (slot (namedBy f s) 0))
-    unfolding turnBy
+    unfolding walkStepBy
     lower-goes above c s l h e =
         goes-from (Steps f) (at-entry above c s h)
-        (takes-link (Steps f) (entryAt above c s) (namedBy f s) (λ j cs. lower-turns f (Step j) u above c s cs (room-there f above l) e))
+        (takes-link (Steps f) (entryAt above c s) (namedBy f s) (λ j cs. lower-steps f (Step j) u above c s cs (room-there f above l) e))
 
     full-stays : (above : List Slot) (c : Carried) (s : Slot) → length above ≡ levelsBelow → s .entry < usedAt f (s .vxr) → namesIndex f s ≡ true
         → (j : ℕ) (cs : List ℕ) → Steps f (Step j) (atSlot above c s) cs → ⊥
-    unfolding turnBy
+    unfolding walkStepBy
     full-stays above c s l h e j cs t =
-        full-turns f (Step j) u above c s cs (room-gone f above l) e (subst (λ (p : Place). Steps f (Step j) p cs) (at-entry above c s h) t)
+        full-steps f (Step j) u above c s cs (room-gone f above l) e (subst (λ (p : Position). Steps f (Step j) p cs) (at-entry above c s h) t)
 
     rise-goes : (above : List Slot) (c d : Carried) (s : Slot) → length above < levelsBelow → LowerGood f above c s
         → Goes (Steps f) (atSlot (s ∷ above) d (slot (namedBy f s) (usedAt f (namedBy f s)))) (Unit {0}) [] (atSlot above (rules .back c s d) (nextSlot s))
-    unfolding turnBy
+    unfolding walkStepBy
     rise-goes above c d s l g =
         goes-from (Steps f) (at-end (s ∷ above) d (namedBy f s))
         (passes-link (Steps f) (endAt (s ∷ above) d (namedBy f s))
-        (λ j cs. rise-turns f (Step j) u above c s (d .floor) (d .covered) cs (down-up f above l (levelOf f s)) g))
+        (λ j cs. rise-steps f (Step j) u above c s (d .floor) (d .covered) cs (down-up f above l (levelOf f s)) g))
 
     -- those of a VXR of the top chain, with all that hangs below them
     row-lead : (x : ℕ) (c : Carried)
@@ -410,7 +421,7 @@ module _ (f : List ℕ) where
   same : (A : Type 0) → A ↔ A
   same A = (λ x. x, λ x. x)
 
-  -- ---- from and to a place with no index record above it
+  -- ---- from and to a position with no index record above it
   abbrev Leading : {B : Type 0} → W.Walk → (B → Type 0) → (B → List ℕ) → W.Walk → Type 0
   Leading w R c v = Leads (Steps f) (top w) R c (λ b. some (top v))
 
@@ -434,34 +445,30 @@ module _ (f : List ℕ) where
     abbrev entriesOf : List ℕ → ℕ → W.Walk
     entriesOf bs o = entered f u o 0 (carriedTo bs .floor) (carriedTo bs .covered)
 
-    chain-turns : (k : ℕ) (bs : List ℕ) (p : ℕ) (cs : List ℕ)
+    chain-steps : (k : ℕ) (bs : List ℕ) (p : ℕ) (cs : List ℕ)
         → Steps f (Step k) (top (linkOf bs p)) cs ↔ Linking (chainRules f (u .kind) (u .vdr)) k bs p ahead (entriesOf bs) cs
-    unfolding turnBy isNone
-    chain-turns k bs p cs =
-        link-turns f (Step k) noLevels (chainRules f (u .kind) (u .vdr)) bs p (chainOver f u (headOr0 bs) (carriedTo bs .covered))
-        (λ o. typeNumber f o (pos 6)) (vxrRule f) (entriesOf bs) (some (top ahead)) cs (λ o. same ((typeNumber f o (pos 6) ≡ 0) × (vxrRule f o ≡ 0)))
-        (same ((chainTally f (u .vdr) (headOr0 bs) (carriedTo bs .covered) ≡ 0) × Step k (top ahead) cs)) (same (p + 4 ≤ endOf f))
+    unfolding walkStepBy isNone
+    chain-steps k bs p cs =
+        link-steps f (Step k) noLevels (chainRules f (u .kind) (u .vdr)) bs p (chainList f u (headOr0 bs) (carriedTo bs .floor) (carriedTo bs .covered))
+        (some (top ahead)) cs (λ o. same _) (same _) (same _)
 
     chain-lead : (p : ℕ) → Leading (Chain u p 0 0 false) (Listed f (chainRules f (u .kind) (u .vdr)) [] p) (indexOffsets f) ahead
     chain-lead p =
         list-leads (Steps f) {B = Unit {0}} f (chainRules f (u .kind) (u .vdr)) (λ o t. o) (λ x. tt)
         (λ x. namedByAll f (flat (entriesUnder f levelsBelow) (slotsOf f x))) (λ o b. refl) (λ x. refl)
-        (λ bs p. top (linkOf bs p)) (λ bs o. top (entriesOf bs o)) (λ bs. some (top ahead)) chain-turns (λ bs o. row-lead u o (carriedTo bs)) [] p
+        (λ bs p. top (linkOf bs p)) (λ bs o. top (entriesOf bs o)) (λ bs. some (top ahead)) chain-steps (λ bs o. row-lead u o (carriedTo bs)) [] p
 
   -- the VDRs of a kind
   abbrev maxRecs : List ListedVdr → ℕ
   maxRecs bs = greatestBy f (λ v. v .vdr + 16) bs
 
-  vars-turns : (kind k : ℕ) (bs : List ListedVdr) (p : ℕ) (cs : List ℕ)
+  vars-steps : (kind k : ℕ) (bs : List ListedVdr) (p : ℕ) (cs : List ℕ)
       → Steps f (Step k) (top (Vars kind p (length bs) (maxRecs bs))) cs
       ↔ Linking (varsRules f kind) k bs p (afterVars f kind) (intoIndex f kind (length bs) (maxRecs bs)) cs
-  unfolding turnBy
-  vars-turns kind k bs p cs =
-      let number = varsTally f kind (length bs) (maxRecs bs) in
-      link-turns f (Step k) noLevels (varsRules f kind) bs p (overBy f number (afterVars f kind)) (λ o. typeNumber f o (pos kind)) (varNumber f kind (length bs))
-      (intoIndex f kind (length bs) (maxRecs bs)) (some (top (afterVars f kind))) cs
-      (λ o. same ((typeNumber f o (pos kind) ≡ 0) × (varNumber f kind (length bs) o ≡ 0)))
-      (over-turns f (Step k) noLevels number (afterVars f kind) cs) (same (p + 4 ≤ endOf f))
+  unfolding walkStepBy
+  vars-steps kind k bs p cs =
+      link-steps f (Step k) noLevels (varsRules f kind) bs p (varsList f kind (length bs) (maxRecs bs)) (some (top (afterVars f kind))) cs
+      (λ o. same _) (over-steps f (Step k) noLevels (varsTally f kind (length bs) (maxRecs bs)) (afterVars f kind) cs) (same _)
 
   index-lead : (kind : ℕ) (bs : List ListedVdr) (o : ℕ)
       → Leading (intoIndex f kind (length bs) (maxRecs bs) o) (Listed f (chainRules f kind o) [] (o + 20)) (indexOffsets f)
@@ -474,7 +481,7 @@ module _ (f : List ℕ) where
   vars-lead kind p =
       list-leads (Steps f) f (varsRules f kind) (λ o xs. record { vdr = o; vxrs = xs }) (λ v. v .vxrs) (λ v. indexOffsets f (v .vxrs))
       (λ o b. refl) (λ x. refl) (λ bs p. top (Vars kind p (length bs) (maxRecs bs))) (λ bs o. top (intoIndex f kind (length bs) (maxRecs bs) o))
-      (λ bs. some (top (afterVars f kind))) (vars-turns kind) (index-lead kind) [] p
+      (λ bs. some (top (afterVars f kind))) (vars-steps kind) (index-lead kind) [] p
 
   -- lists of records below which nothing hangs
   plain-offsets : (xs : List ℕ) → offsets (λ o. o) (λ o. []) xs ≡ xs
@@ -493,22 +500,20 @@ module _ (f : List ℕ) where
     abbrev nextEntry : List ℕ → ℕ → ℕ → W.Walk
     nextEntry bs e o = Entries kind a n (o + 8) e (max (afterAt f (o + 20)) (numbers bs))
 
-    entries-turns : (k : ℕ) (bs : List ℕ) (p : ℕ) (cs : List ℕ)
+    entries-steps : (k : ℕ) (bs : List ℕ) (p : ℕ) (cs : List ℕ)
         → Steps f (Step k) (top (Entries kind a n p (held (length bs)) (numbers bs))) cs
         ↔ Linking (entriesRules f kind a) k bs p (afterEntries kind a n) (nextEntry bs (oneMore (held (length bs)))) cs
-    unfolding turnBy
-    entries-turns k bs p cs =
-        link-turns f (Step k) noLevels (entriesRules f kind a) bs p (entriesOver f kind a n (held (length bs)) (numbers bs))
-        (λ o. typeNumber f o (pos kind)) (entryNumber f a) (nextEntry bs (oneMore (held (length bs)))) (some (top (afterEntries kind a n))) cs
-        (λ o. same ((typeNumber f o (pos kind) ≡ 0) × (entryNumber f a o ≡ 0)))
-        (same ((entriesTally f kind a (held (length bs)) (numbers bs) ≡ 0) × Step k (top (afterEntries kind a n)) cs)) (same (p + 4 ≤ endOf f))
+    unfolding walkStepBy
+    entries-steps k bs p cs =
+        link-steps f (Step k) noLevels (entriesRules f kind a) bs p (entriesList f kind a n (held (length bs)) (numbers bs))
+        (some (top (afterEntries kind a n))) cs (λ o. same _) (same _) (same _)
 
     entries-lead : (p : ℕ) → Leading (Entries kind a n p 0 0) (Listed f (entriesRules f kind a) [] p) (λ es. es) (afterEntries kind a n)
     entries-lead p =
         claims-as (Steps f) (λ es. es) plain-offsets
         (list-leads (Steps f) {B = Unit {0}} f (entriesRules f kind a) (λ o t. o) (λ x. tt) (λ x. []) (λ o b. refl) (λ x. refl)
         (λ bs p. top (Entries kind a n p (held (length bs)) (numbers bs))) (λ bs o. top (nextEntry bs (oneMore (held (length bs))) o))
-        (λ bs. some (top (afterEntries kind a n))) entries-turns body [] p)
+        (λ bs. some (top (afterEntries kind a n))) entries-steps body [] p)
       where
         body : (bs : List ℕ) (o : ℕ)
             → Leading {B = Unit {0}} (nextEntry bs (oneMore (held (length bs))) o) (λ t. Unit {0}) (λ t. []) (nextEntry bs (held (suc (length bs))) o)
@@ -519,21 +524,18 @@ module _ (f : List ℕ) where
   abbrev unusedFirst : W.Walk
   unusedFirst = Unused (gdrAt f + 44) 0
 
-  attrs-turns : (k : ℕ) (bs : List ListedAdr) (p : ℕ) (cs : List ℕ)
+  attrs-steps : (k : ℕ) (bs : List ListedAdr) (p : ℕ) (cs : List ℕ)
       → Steps f (Step k) (top (Attrs p (length bs))) cs ↔ Linking (attrsRules f) k bs p unusedFirst (λ o. Entries 5 o (length bs) (o + 12) 0 0) cs
-  unfolding turnBy
-  attrs-turns k bs p cs =
-      let number = fieldNumber f (gdrAt f + 28) (pos (length bs)) in
-      link-turns f (Step k) noLevels (attrsRules f) bs p (overBy f number unusedFirst) (λ o. typeNumber f o (pos 4)) (attrNumber f (length bs))
-      (λ o. Entries 5 o (length bs) (o + 12) 0 0) (some (top unusedFirst)) cs
-      (λ o. same ((typeNumber f o (pos 4) ≡ 0) × (attrNumber f (length bs) o ≡ 0)))
-      (over-turns f (Step k) noLevels number unusedFirst cs) (same (p + 4 ≤ endOf f))
+  unfolding walkStepBy
+  attrs-steps k bs p cs =
+      link-steps f (Step k) noLevels (attrsRules f) bs p (attrsList f (length bs)) (some (top unusedFirst)) cs (λ o. same _)
+      (over-steps f (Step k) noLevels (fieldNumber f (gdrAt f + 28) (pos (length bs))) unusedFirst cs) (same _)
 
   attrs-lead : (p : ℕ) → Leading (Attrs p 0) (Listed f (attrsRules f) [] p) attributeOffsets unusedFirst
   attrs-lead p =
       list-leads (Steps f) {B = List ℕ × List ℕ} f (attrsRules f) (λ o b. record { adr = o; grEntries = b .0; zEntries = b .1 })
       (λ a. (a .grEntries, a .zEntries)) (λ a. a .grEntries ++ a .zEntries) (λ o b. refl) (λ x. refl)
-      (λ bs p. top (Attrs p (length bs))) (λ bs o. top (Entries 5 o (length bs) (o + 12) 0 0)) (λ bs. some (top unusedFirst)) attrs-turns body [] p
+      (λ bs p. top (Attrs p (length bs))) (λ bs o. top (Entries 5 o (length bs) (o + 12) 0 0)) (λ bs. some (top unusedFirst)) attrs-steps body [] p
     where
       body : (bs : List ListedAdr) (o : ℕ)
           → Leading {B = List ℕ × List ℕ} (Entries 5 o (length bs) (o + 12) 0 0)
@@ -545,24 +547,23 @@ module _ (f : List ℕ) where
           (λ a. entries-lead 9 o (length bs) (o + 36)))
 
   -- the UIRs
-  unused-turns : (k : ℕ) (bs : List ℕ) (p : ℕ) (cs : List ℕ)
+  unused-steps : (k : ℕ) (bs : List ℕ) (p : ℕ) (cs : List ℕ)
       → Steps f (Step k) (top (Unused p (headOr0 bs))) cs ↔ LinkEnds f (unusedRules f) (Step k) bs p none (λ o. top (Unused (o + 8) o)) cs
-  unfolding turnBy
-  unused-turns k bs p cs =
-      link-turns f (Step k) noLevels (unusedRules f) bs p (End 0) (λ o. typeNumber f o (negsuc 0)) (unusedNumber f (headOr0 bs)) (λ o. Unused (o + 8) o) none cs
-      (λ o. same ((typeNumber f o (negsuc 0) ≡ 0) × (unusedNumber f (headOr0 bs) o ≡ 0))) (λ e. (tt, e .1), λ t. (refl, t .1)) (same (p + 4 ≤ endOf f))
+  unfolding walkStepBy
+  unused-steps k bs p cs =
+      link-steps f (Step k) noLevels (unusedRules f) bs p (unusedList f (headOr0 bs)) none cs (λ o. same _) (λ e. (tt, e .1), λ t. (refl, t .1)) (same _)
 
   unused-lead : (p : ℕ) → Leads (Steps f) (top (Unused p 0)) (Listed f (unusedRules f) [] p) (λ us. us) (λ us. none)
   unused-lead p =
       claims-as (Steps f) (λ us. us) plain-offsets
       (list-leads (Steps f) {B = Unit {0}} f (unusedRules f) (λ o t. o) (λ x. tt) (λ x. []) (λ o b. refl) (λ x. refl)
-      (λ bs p. top (Unused p (headOr0 bs))) (λ bs o. top (Unused (o + 8) o)) (λ bs. none) unused-turns
+      (λ bs p. top (Unused p (headOr0 bs))) (λ bs o. top (Unused (o + 8) o)) (λ bs. none) unused-steps
       (λ bs o. none-leads (Steps f) (top (Unused (o + 8) o))) [] p)
 
-  start-turns : (k : ℕ) (cs : List ℕ) → Steps f (Step k) (top Start) cs
+  start-steps : (k : ℕ) (cs : List ℕ) → Steps f (Step k) (top Start) cs
       ↔ (((gdrNamed f ≡ true) × (typeNumber f (gdrAt f) (pos 2) ≡ 0)) × (ds : List ℕ) × (cs ≡ gdrAt f ∷ ds) × Step k (top (Vars 3 (gdrAt f + 8) 0 0)) ds)
-  unfolding turnBy
-  start-turns k cs = (
+  unfolding walkStepBy
+  start-steps k cs = (
     λ e.
         let t = allowed-reads f (Step k) noLevels (gdrNamed f) (takes 0 (gdrAt f) typed 0 variables) cs e in
         let r = takes-reads f (Step k) noLevels 0 (gdrAt f) typed 0 variables cs (t .1) in
@@ -579,7 +580,7 @@ module _ (f : List ℕ) where
   -- THE WALK reads off the nested rules
   pub walk-lead : Leads (Steps f) (top Start) (NestedObeys f) (claimsOf f) (λ y. none)
   walk-lead =
-      take-leads (Steps f) (top Start) (top (Vars 3 (gdrAt f + 8) 0 0)) (gdrAt f) ((gdrNamed f ≡ true) × (typeNumber f (gdrAt f) (pos 2) ≡ 0)) start-turns
+      take-leads (Steps f) (top Start) (top (Vars 3 (gdrAt f + 8) 0 0)) (gdrAt f) ((gdrNamed f ≡ true) × (typeNumber f (gdrAt f) (pos 2) ≡ 0)) start-steps
       (then-leads (Steps f) (λ y. top (Vars 8 (gdrAt f + 12) 0 0)) (vars-lead 3 (gdrAt f + 8))
       (λ y. then-leads (Steps f) (λ y. top (Attrs (gdrAt f + 16) 0)) (vars-lead 8 (gdrAt f + 12))
       (λ y. then-leads (Steps f) (λ y. top (Unused (gdrAt f + 44) 0)) (attrs-lead (gdrAt f + 16)) (λ y. unused-lead (gdrAt f + 44)))))

@@ -1,4 +1,4 @@
--- The records that a place of the walk names: the holder of its link, and those that it goes on from, are starts if what the links led to
+-- The records that a position of the walk names: the holder of its link, and those that it goes on from, are starts if what the links led to
 -- were. Assumes nothing.
 use mathlib.Core.Path.{_≡_, refl, sym, subst}
 use mathlib.Core.Bool.{Bool, true, false, cond, _&&_, _||_, true≢false}
@@ -7,27 +7,27 @@ use Prim.Native.Nat.{ℕ, _+_, _-_, _≤_, max}
 use native.Mathlib.Omega.{arith}
 use lib.Dec.{ltb, eqb}
 use borrow.Author.Tests.{ne-eqb}
-use lib.IntN.{pos, negsuc}
-use Rattle.format.specs.Fields.{endOf, linkAt, afterAt}
 use Rattle.format.proofs.Tests.{cond-keeps}
+use lib.IntN.{pos}
+use Rattle.format.specs.Fields.{endOf, afterAt}
 use Rattle.records.specs.Opening.{gdrAt}
-use Rattle.records.specs.Index.{usedAt, indexAt, entryOf, vxrRule}
+use Rattle.records.specs.Index.{usedAt, indexAt, entryOf}
 use Rattle.variables.specs.Vdr.{variableOf}
 use Rattle.walk.specs.Levels.{isNone, mostOf, noLevel, roomBelow}
-use Rattle.walk.specs.Walk.{typeNumber, varNumber, valuesNumber, attrNumber, entryNumber, unusedNumber, followed, gdrNamed, entered, chainOver, lowerOver, indexOver, lowerNumber, covers, oneMore, turnBy, turnOf}
-use Rattle.walk.specs.declared.places.Var.{Var}
-use Rattle.walk.specs.declared.places.Level.{Level}
-use Rattle.walk.specs.declared.places.Levels.{Levels}
-use Rattle.walk.specs.declared.places.Walk as W
-use Rattle.walk.specs.declared.places.Walk.the-variants.{Start, Vars, Chain, Entry, Attrs, Entries, Unused}
-use Rattle.walk.specs.declared.places.Turn as T
-use Rattle.walk.specs.declared.places.Turn.the-variants.{Over, End, Take, Down, Up}
-use Rattle.walk.proofs.Closed.{link-keeps}
+use Rattle.walk.specs.Walk.{typeNumber, valuesNumber, gdrNamed, fieldNumber, overBy, varsTally, afterVars, varsList, entered, lowerOver, lowerNext, chainList, chainStep, lowerNumber, covers, attrsList, oneMore, entriesList, unusedList, Listing, listStep, walkStepBy, walkStep}
+use Rattle.walk.specs.declared.positions.Var.{Var}
+use Rattle.walk.specs.declared.positions.Level.{Level}
+use Rattle.walk.specs.declared.positions.Levels.{Levels}
+use Rattle.walk.specs.declared.positions.Walk as W
+use Rattle.walk.specs.declared.positions.Walk.the-variants.{Start, Vars, Chain, Entry, Attrs, Entries, Unused}
+use Rattle.walk.specs.declared.positions.Step as T
+use Rattle.walk.specs.declared.positions.Step.the-variants.{Over, End, Take, Down, Up}
+use Rattle.walk.proofs.Leads.{link-keeps, list-keeps}
 use Rattle.faults.specs.Holder.{linkIn, holderOf}
-use Rattle.demands.proofs.Places.{Place, place, top, Move, passes, stops, takes, moveBy, moveOf}
+use Rattle.demands.proofs.Positions.{Position, position, top, Move, passes, stops, takes, moveBy, moveOf}
 
 module _ (f : List ℕ) (S : ℕ → Type 0) (first : S 8) (low : (o : ℕ) → S o → 8 ≤ o) where
-  -- ---- what a place names
+  -- ---- what a position names
   -- the GDR, once it is taken; the VDR or ADR that the walk goes on from
   abbrev Owners : W.Walk → Type 0
   Owners Start = Unit {0}
@@ -115,93 +115,94 @@ module _ (f : List ℕ) (S : ℕ → Type 0) (first : S 8) (low : (o : ℕ) → 
 
   -- ---- a step
   -- what it leads to stands, if the target of its link is a start
-  abbrev NextStands : T.Turn → Type 0
+  abbrev NextStands : T.Step → Type 0
   NextStands (Over w v) = Stands w
   NextStands (End v) = Unit {0}
   NextStands (Take w early t typed late) = S t → Stands w
   NextStands (Down w t typed l) = S t → Stands w × LevelStands l
   NextStands (Up w) = Stands w
 
-  record TurnStands (t : T.Turn) : Type 0 where
+  record StepStands (t : T.Step) : Type 0 where
     next : NextStands t
 
-  over : {w : W.Walk} {v : ℕ} → Stands w → TurnStands (Over w v)
+  over : {w : W.Walk} {v : ℕ} → Stands w → StepStands (Over w v)
   over s = record { next = s }
 
-  end : {v : ℕ} → TurnStands (End v)
+  end : {v : ℕ} → StepStands (End v)
   end = record { next = tt }
 
-  refused : {early t typed late : ℕ} → TurnStands (Take Start early t typed late)
+  refused : {early t typed late : ℕ} → StepStands (Take Start early t typed late)
   refused = record { next = λ s. start-stands }
 
   -- a link to a record, which is refused or goes on
-  take : (early t typed late : ℕ) {w : W.Walk} → (S t → Stands w) → TurnStands (Take (cond (eqb early 0 && eqb late 0) w Start) early t typed late)
+  take : (early t typed late : ℕ) {w : W.Walk} → (S t → Stands w) → StepStands (Take (cond (eqb early 0 && eqb late 0) w Start) early t typed late)
   take early t typed late s = record { next = λ h. cond-keeps Stands (eqb early 0 && eqb late 0) (s h) start-stands }
 
   module _ (near : Level) (above : LevelStands near) where
-    -- a zero link of an index: the top chain is over, or a lower record
-    index-ends : (u : Var) (last : ℕ) (c : Bool) → S (gdrAt f) → S (u .vdr) → TurnStands (indexOver f u near last c)
-    index-ends u last c g v = go (isNone near) refl
-      where
-        go : (b : Bool) → isNone near ≡ b → TurnStands (cond b (chainOver f u last c) (lowerOver f u near c))
-        go true e = over (next-var u g v)
-        go false e =
-            cond-keeps TurnStands (ltb (endOf f) (near .vxr + 20)) end
-            (record { next = enters u (near .vxr) (near .next) (near .last + 1) c g v (above e) })
+    -- a link of a list
+    list-stands : (p : ℕ) (l : Listing) → StepStands (l .over) → ((o : ℕ) → S o → Stands (l .next o)) → StepStands (listStep f p l)
+    list-stands p l ends next =
+        list-keeps f p StepStands l end ends (λ o h. take 0 o (typeNumber f o (l .typed)) (l .number o) (next o))
 
-    turn-stands : (room : Bool) (w : W.Walk) → Stands w → TurnStands (turnBy f near room w)
-    unfolding turnBy followed holderOf
-    turn-stands room Start s = cond-keeps TurnStands (gdrNamed f) (take 0 (gdrAt f) (typeNumber f (gdrAt f) (pos 2)) 0 (λ g. gdr-vars g)) end
-    turn-stands room (Vars k p n greatest) s =
-        let g = s .owners in
-        let o = linkAt f p in
-        link-keeps f TurnStands p end (cond-keeps TurnStands (gdrNamed f) (over (after-vars k g)) end) (take 0 o (typeNumber f o (pos k)) (varNumber f k n o) (λ v. into-index (record { kind = k; vdr = o; place = n; greatest = max (afterAt f (o + 16)) greatest }) g v))
-    turn-stands room (Chain u p x floor c) s =
-        let g = s .owners .0 in
-        let v = s .owners .1 in
-        let o = linkAt f p in
-        link-keeps f TurnStands p end (index-ends u x c g v)
-        (cond-keeps TurnStands (isNone near) (take 0 o (typeNumber f o (pos 6)) (vxrRule f o) (λ h. enters u o 0 floor c g v h)) (end {v = 11}))
-    turn-stands room (Entry u x i floor c) s =
+    over-gdr : (v : ℕ) (w : W.Walk) → Stands w → StepStands (overBy f v w)
+    over-gdr v w s = cond-keeps StepStands (gdrNamed f) {x = Over w v} {y = End 20} (over s) end
+
+    -- the next of a lower record, which is there
+    lower-stands : (p : ℕ) (u : Var) (c : Bool) → S (gdrAt f) → S (u .vdr) → isNone near ≡ false → StepStands (lowerNext f u near p c)
+    unfolding lowerNext
+    lower-stands p u c g v e =
+        link-keeps f p StepStands {over = lowerOver f u near c} {taken = λ o. End 11} end
+        (cond-keeps StepStands (ltb (endOf f) (near .vxr + 20)) {x = End 20} end
+        (record { next = enters u (near .vxr) (near .next) (near .last + 1) c g v (above e) })) (λ o h. end)
+
+    chain-stands : (u : Var) (p last floor : ℕ) (c : Bool) → S (gdrAt f) → S (u .vdr) → StepStands (chainStep f near u p last floor c)
+    chain-stands u p last floor c g v = go (isNone near) refl
+      where
+        go : (b : Bool) → isNone near ≡ b → StepStands (cond b (listStep f p (chainList f u last floor c)) (lowerNext f u near p c))
+        go true e = list-stands p (chainList f u last floor c) (over (next-var u g v)) (λ o h. enters u o 0 floor c g v h)
+        go false e = lower-stands p u c g v e
+
+    step-stands : (room : Bool) (w : W.Walk) → Stands w → StepStands (walkStepBy f near room w)
+    unfolding walkStepBy holderOf
+    step-stands room Start s = cond-keeps StepStands (gdrNamed f) (take 0 (gdrAt f) (typeNumber f (gdrAt f) (pos 2)) 0 (λ g. gdr-vars g)) end
+    step-stands room (Vars k p n greatest) s =
+        list-stands p (varsList f k n greatest) (over-gdr (varsTally f k n greatest) (afterVars f k) (after-vars k (s .owners)))
+        (λ o v. into-index (record { kind = k; vdr = o; place = n; greatest = max (afterAt f (o + 16)) greatest }) (s .owners) v)
+    step-stands room (Chain u p last floor c) s = chain-stands u p last floor c (s .owners .0) (s .owners .1)
+    step-stands room (Entry u x i floor c) s =
         let g = s .owners .0 in
         let v = s .owners .1 in
         let e = entryOf f x i floor (mostOf near) in
-        cond-keeps TurnStands (indexAt f (e .link))
-        (cond-keeps TurnStands (eqb (e .fault) 0 && eqb (lowerNumber f (e .link)) 0)
+        cond-keeps StepStands (indexAt f (e .link))
+        (cond-keeps StepStands (eqb (e .fault) 0 && eqb (lowerNumber f (e .link)) 0)
         (record { next = λ h. (enters u (e .link) 0 (e .first) c g v h, λ z. s .holder) }) refused)
         (take (e .fault) (e .link) (typeNumber f (e .link) (pos 7)) (valuesNumber f (variableOf f (u .kind) (u .vdr)) e) (λ h. enters u x (i + 1) (e .last + 1) (c || covers f (u .vdr) e) g v (s .holder)))
-    turn-stands room (Attrs p n) s =
-        let g = s .owners in
-        let o = linkAt f p in
-        link-keeps f TurnStands p end (cond-keeps TurnStands (gdrNamed f) (over (to-unused g)) end) (take 0 o (typeNumber f o (pos 4)) (attrNumber f n o) (λ h. to-entries o n g h))
-    turn-stands room (Entries k a n p e greatest) s =
-        let g = s .owners .0 in
-        let t = s .owners .1 in
-        let o = linkAt f p in
-        link-keeps f TurnStands p end (over (after-entries k a n g t)) (take 0 o (typeNumber f o (pos k)) (entryNumber f a o) (λ h. next-entry k a n o e (max (afterAt f (o + 20)) greatest) g t h))
-    turn-stands room (Unused p b) s =
-        let g = s .owners in
-        let o = linkAt f p in
-        link-keeps f TurnStands p end end (take 0 o (typeNumber f o (negsuc 0)) (unusedNumber f b o) (λ h. next-unused o g h))
+    step-stands room (Attrs p n) s =
+        list-stands p (attrsList f n) (over-gdr (fieldNumber f (gdrAt f + 28) (pos n)) (Unused (gdrAt f + 44) 0) (to-unused (s .owners)))
+        (λ o h. to-entries o n (s .owners) h)
+    step-stands room (Entries k a n p e greatest) s =
+        list-stands p (entriesList f k a n e greatest) (over (after-entries k a n (s .owners .0) (s .owners .1)))
+        (λ o h. next-entry k a n o e (max (afterAt f (o + 20)) greatest) (s .owners .0) (s .owners .1) h)
+    step-stands room (Unused p b) s = list-stands p (unusedList f b) end (λ o h. next-unused o (s .owners) h)
 
-  -- ---- places, with the index records above them
-  abbrev pub PlaceStands : Place → Type 0
-  PlaceStands p = Stands (p .walk) × LevelsStand (p .up)
+  -- ---- positions, with the index records above them
+  abbrev pub PositionStands : Position → Type 0
+  PositionStands p = Stands (p .walk) × LevelsStand (p .up)
 
   abbrev pub MoveStands : Move → Type 0
-  MoveStands (passes v p) = PlaceStands p
+  MoveStands (passes v p) = PositionStands p
   MoveStands (stops v) = Unit {0}
-  MoveStands (takes b t k l p) = S t → PlaceStands p
+  MoveStands (takes b t k l p) = S t → PositionStands p
 
-  by-turn : (up : Levels) → LevelsStand up → (t : T.Turn) → TurnStands t → MoveStands (moveBy up t)
-  by-turn up l (Over w v) s = (s .next, l)
-  by-turn up l (End v) s = tt
-  by-turn up l (Take w early t typed late) s = λ h. (s .next h, l)
-  by-turn up l (Down w t typed x) s = λ h. let r = s .next h in (r .0, (r .1, l .0, l .1, l .2, l .3, l .4, l .5))
-  by-turn up l (Up w) s = (s .next, (l .1, l .2, l .3, l .4, l .5, l .6, no-level))
+  by-step : (up : Levels) → LevelsStand up → (t : T.Step) → StepStands t → MoveStands (moveBy up t)
+  by-step up l (Over w v) s = (s .next, l)
+  by-step up l (End v) s = tt
+  by-step up l (Take w early t typed late) s = λ h. (s .next h, l)
+  by-step up l (Down w t typed x) s = λ h. let r = s .next h in (r .0, (r .1, l .0, l .1, l .2, l .3, l .4, l .5))
+  by-step up l (Up w) s = (s .next, (l .1, l .2, l .3, l .4, l .5, l .6, no-level))
 
-  pub move-stands : (p : Place) → PlaceStands p → MoveStands (moveOf f p)
-  move-stands p s = by-turn (p .up) (s .1) (turnOf f (p .up) (p .walk)) (turn-stands (p .up .a) (s .1 .0) (roomBelow (p .up)) (p .walk) (s .0))
+  pub move-stands : (p : Position) → PositionStands p → MoveStands (moveOf f p)
+  move-stands p s = by-step (p .up) (s .1) (walkStep f (p .up) (p .walk)) (step-stands (p .up .a) (s .1 .0) (roomBelow (p .up)) (p .walk) (s .0))
 
-  pub top-stands : PlaceStands (top Start)
+  pub top-stands : PositionStands (top Start)
   top-stands = (start-stands, (no-level, no-level, no-level, no-level, no-level, no-level, no-level))

@@ -53,8 +53,8 @@ module _ {C : Type 0} (f : List ℕ) (r : TreeRules C) where
       ⊎ ((namesIndex f s ≡ true) × r .lower above c s × Row (SlotGood n (s ∷ above)) (afterSlot n) (r .down c s) (lowerSlots f s))
 
 -- ---- any walk whose steps at an entry, and at the end of a lower record, are these
-module _ {Place C : Type 0} (Step : (Place → List ℕ → Type 0) → Place → List ℕ → Type 0) (f : List ℕ) (r : TreeRules C)
-    (at : List Slot → C → Slot → Place)
+module _ {Position C : Type 0} (Step : (Position → List ℕ → Type 0) → Position → List ℕ → Type 0) (f : List ℕ) (r : TreeRules C)
+    (at : List Slot → C → Slot → Position)
     (values-go : (above : List Slot) (c : C) (s : Slot) → s .entry < usedAt f (s .vxr) → namesIndex f s ≡ false
     → Goes Step (at above c s) (r .values above c s) (namedBy f s ∷ []) (at above (r .past c s) (nextSlot s)))
     (lower-goes : (above : List Slot) (c : C) (s : Slot) → length above < levelsBelow → s .entry < usedAt f (s .vxr) → namesIndex f s ≡ true

@@ -1,10 +1,10 @@
--- THE PLACE of a refusal: request #107. Assumes nothing.
+-- THE LOCATION of a refusal: request #107. Assumes nothing.
 use Prim.Native.Nat.{ℕ}
 use mathlib.Core.Bool.{Bool, cond, not, _&&_, _||_}
 use lib.Dec.{eqb}
 use Rattle.faults.specs.declared.fault.Involved.{Involved}
 
--- what a step involves: nothing at the opening; the place that is swept; the holder of a link that ends a list; holder and target of a link
+-- what a step involves: nothing at the opening; the offset that is swept; the holder of a link that ends a list; holder and target of a link
 -- that claims a record; at the end of the walk the record where the look for an unclaimed one stopped
 abbrev pub noneInvolved : Involved
 noneInvolved = record { holder = 0; target = 0; swept = 0; unclaimed = 0 }
@@ -34,9 +34,9 @@ faultAt r v =
     (cond (eqb v 7 || eqb v 14) (r .swept)
     (cond (eqb v 13) (r .unclaimed) 0)))
 
--- what a finished check says again: p, whichever record is there, unless a refusal with v has no place
+-- what a finished check says again: p, whichever record is there, unless a refusal with v has no location
 abbrev pub anywhere : ℕ → Involved
 anywhere p = record { holder = p; target = p; swept = p; unclaimed = p }
 
-abbrev pub keptPlace : ℕ → ℕ → ℕ
-keptPlace v p = faultAt (anywhere p) v
+abbrev pub savedLocation : ℕ → ℕ → ℕ
+savedLocation v p = faultAt (anywhere p) v

@@ -1,6 +1,6 @@
-// The place of a refusal.
+// The location of a refusal.
 ghost use mathlib.Core.Path.{_≡_};
-ghost use Rattle.faults.specs.Fault.{noneInvolved, sweeping, ending, claiming, leaving, faultAt, keptPlace};
+ghost use Rattle.faults.specs.Fault.{noneInvolved, sweeping, ending, claiming, leaving, faultAt, savedLocation};
 
 // The records that a step involves, each by its offset: the one that holds the link, the one that the link leads to, the one that is
 // swept, the first that no link claimed. 0 for one that it does not involve.
@@ -89,14 +89,14 @@ pub fn fault_at(r: Involved, number: u32) -> u32
 }
 
 // What a finished check with this verdict says again.
-pub fn kept_place(number: u32, place: u32) -> u32
-    ensures { λ p. ⌜ p ≡ keptPlace number place ⌝ }
+pub fn saved_location(number: u32, location: u32) -> u32
+    ensures { λ p. ⌜ p ≡ savedLocation number location ⌝ }
 {
     let anywhere = Involved {
-        holder: place,
-        target: place,
-        swept: place,
-        unclaimed: place,
+        holder: location,
+        target: location,
+        swept: location,
+        unclaimed: location,
     };
     fault_at(anywhere, number)
 }

@@ -4,7 +4,7 @@ ghost use Prim.Native.Nat.{_-_};
 ghost use lib.Dec.{eqb};
 ghost use mathlib.Core.Bool.{cond};
 ghost use Rattle.faults.specs.Holder.{linkIn, holderOf};
-use walk::places::Walk;
+use walk::positions::Walk;
 
 // n bytes before an offset, or 0 if there are fewer.
 fn back(p: u32, n: u32) -> u32

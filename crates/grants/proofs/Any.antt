@@ -13,28 +13,28 @@ use lib.IntN.{ℤ, pos}
 use Rattle.records.specs.Rules.{sizeAt}
 use Rattle.marks.specs.Marks.{startAt}
 use Rattle.walk.specs.Levels.{pushed}
-use Rattle.walk.specs.Walk.{turnOf}
-use Rattle.walk.specs.declared.places.Levels.{Levels}
-use Rattle.walk.specs.declared.places.Turn as T
-use Rattle.walk.specs.declared.places.Turn.the-variants.{Over, End, Take, Down, Up}
+use Rattle.walk.specs.Walk.{walkStep}
+use Rattle.walk.specs.declared.positions.Levels.{Levels}
+use Rattle.walk.specs.declared.positions.Step as T
+use Rattle.walk.specs.declared.positions.Step.the-variants.{Over, End, Take, Down, Up}
 use Rattle.records.specs.Opening.{fileEnd, bodyOf}
 use Rattle.records.proofs.Bodies.{body-length, body-le}
 use Rattle.checker.specs.declared.state.Stage.{Stage}
-use Rattle.checker.specs.declared.state.Stage.the-variants.{Fresh, Sweep, Walking, Done, Strange}
+use Rattle.checker.specs.declared.state.Stage.the-variants.{Fresh, Sweep, Walking, Done, OutOfRange}
 use Rattle.checker.specs.declared.state.State.{State}
-use Rattle.checker.specs.Step.{Conf, conf, done, finished, answerOf, placeIn, walking, stepOf, runOf}
+use Rattle.checker.specs.Step.{Conf, conf, done, finished, answerOf, locationIn, walking, stepOf, runOf}
 use Rattle.checker.specs.Saved.{stateLength, save, load}
 use Rattle.checker.specs.Grant.{Granted, granted, grantBy, grantOf}
-use Rattle.checker.proofs.Told.{told-0}
-use Rattle.checker.proofs.Outcomes.{TurnGoes, Goes, step-by}
+use Rattle.checker.proofs.Verdicts.{verdict-0}
+use Rattle.checker.proofs.Outcomes.{StepGoes, Goes, step-by}
 use Rattle.checker.proofs.Passed.{tiled, started, marked-length, marked-other}
-use Rattle.checker.proofs.Runs.{run-keeps, made-le}
+use Rattle.checker.proofs.PlainRuns.{run-keeps, made-le}
 use Rattle.checker.proofs.Loads.{load-is, load-save, length-save, not-21, accepted-is}
 use Rattle.checker.proofs.Sound.{SoundBy, Sound, Own, sound-step, sound-run, sound-loaded, loaded-sound}
 use Rattle.checker.proofs.Cases.{Case, idles, refuses, works, case-of, right-length, wrong-length, idle}
-use Rattle.faults.proofs.Kept.{kept-none}
-use Rattle.grants.specs.Promises.{comesBack, hasPlace, EveryGrant}
-use Rattle.grants.proofs.Answers.{answer-comes, no-place}
+use Rattle.faults.proofs.Locations.{saved-none}
+use Rattle.grants.specs.Promises.{comesBack, hasLocation, EveryGrant}
+use Rattle.grants.proofs.Answers.{answer-comes, no-location}
 
 -- ---- marks outside the records of the file are kept
 module _ (f m : List ℕ) (i : ℕ) (out : (i < 8) ⊎ (fileEnd f ≤ i)) where
@@ -75,12 +75,12 @@ module _ (f m : List ℕ) (i : ℕ) (out : (i < 8) ⊎ (fileEnd f ≤ i)) where
           let a = started b m′ t e in
           record { count = length-set m′ t 2 ∙ h .count; mark = getD-set-other m′ t i 2 0 (λ e. apart t out (a .0) (a .1) e) ∙ h .mark }
 
-      turn : (up : Levels) (t : T.Turn) → TurnGoes Same b m′ n up t
-      turn up (Over w v) = record { count = h .count; mark = h .mark }
-      turn up (End v) = tt
-      turn up (Take w early t typed late) = λ e. claimed t (walking n w up) (e .start)
-      turn up (Down w t typed l) = λ e. claimed t (walking n w (pushed l up)) (e .start)
-      turn up (Up w) = record { count = h .count; mark = h .mark }
+      step : (up : Levels) (t : T.Step) → StepGoes Same b m′ n up t
+      step up (Over w v) = record { count = h .count; mark = h .mark }
+      step up (End v) = tt
+      step up (Take w early t typed late) = λ e. claimed t (walking n w up) (e .start)
+      step up (Down w t typed l) = λ e. claimed t (walking n w (pushed l up)) (e .start)
+      step up (Up w) = record { count = h .count; mark = h .mark }
 
       aside : (o s : ℕ) → 8 ≤ o → o + s ≤ length b → (i < 8) ⊎ (fileEnd f ≤ i) → (i < o) ⊎ (o + s ≤ i)
       aside o s a d (inl h) = inl (omega arith)
@@ -97,9 +97,9 @@ module _ (f m : List ℕ) (i : ℕ) (out : (i < 8) ⊎ (fileEnd f ≤ i)) where
             count = marked-length m′ o (sizeAt b o) fits ∙ h .count;
             mark = marked-other m′ o (sizeAt b o) fits (omega arith) i (aside o (sizeAt b o) (g .1) (t .1) out) ∙ h .mark;
           }
-      goes (Walking w up) g = turn up (turnOf b up w)
+      goes (Walking w up) g = step up (walkStep b up w)
       goes (Done v p) g = tt
-      goes Strange g = tt
+      goes OutOfRange g = tt
 
   same-run : (s : State) → Sound (Own f) f (conf s m) → (k : ℕ) → Same (runOf f (conf s m) k .at)
   same-run s h k = run-keeps f Kept same-step (conf s m) (h, record { count = refl; mark = refl }) k .1
@@ -109,14 +109,14 @@ module _ (f m l : List ℕ) (n : ℕ) where
   record Fine (r : Granted) : Type 0 where
     few : r .steps ≤ n
     number : comesBack (r .answer) ≡ true
-    placed : hasPlace (r .answer) ≡ false → r .place ≡ 0
+    placed : hasLocation (r .answer) ≡ false → r .location ≡ 0
     accepted : r .answer ≡ pos 0 → (length (r .state) ≡ stateLength) × (load (r .state) ≡ done 0 0)
     away : r .answer ≡ pos 21 → r ≡ granted (pos 21) 0 0 l m
     count : length (r .marks) ≡ length m
     mark : (i : ℕ) → (i < 8) ⊎ (fileEnd f ≤ i) → getD (r .marks) i 0 ≡ getD m i 0
 
   -- a grant that changes nothing
-  fine-still : (a : ℤ) (p : ℕ) → comesBack a ≡ true → (hasPlace a ≡ false → p ≡ 0) → (a ≡ pos 0 → (length l ≡ stateLength) × (load l ≡ done 0 0))
+  fine-still : (a : ℤ) (p : ℕ) → comesBack a ≡ true → (hasLocation a ≡ false → p ≡ 0) → (a ≡ pos 0 → (length l ≡ stateLength) × (load l ≡ done 0 0))
       → Fine (granted a p 0 l m)
   fine-still a p t k h = record { few = omega arith; number = t; placed = k; accepted = h; away = λ e. turned e; count = refl; mark = λ i o. refl }
     where
@@ -125,7 +125,7 @@ module _ (f m l : List ℕ) (n : ℕ) where
 
   fine-case : length l ≡ stateLength → Case f m l n (load l) → Fine (grantBy f m l n (load l))
   fine-case e (idles g w) =
-      rw g (fine-still (answerOf (load l .stage)) (placeIn (load l .stage)) (answer-comes (load l .length) (load l .stage) (load-is l)) (no-place (load l .length) (load l .stage) (load-is l)) (λ a. (e, accepted-is (load l) (load-is l) a)))
+      rw g (fine-still (answerOf (load l .stage)) (locationIn (load l .stage)) (answer-comes (load l .length) (load l .stage) (load-is l)) (no-location (load l .length) (load l .stage) (load-is l)) (λ a. (e, accepted-is (load l) (load-is l) a)))
   fine-case e (refuses g o w) = rw g (fine-still (pos 21) 0 refl (λ e. refl) (λ a. let z : _≡_ {A = ℕ} 21 0 = cc in absurd (omega arith)))
   fine-case e (works g o z w) =
       let s = load l in
@@ -135,10 +135,10 @@ module _ (f m l : List ℕ) (n : ℕ) where
       rw g (record {
         few = made-le f (conf s m) n;
         number = answer-comes (r .at .state .length) (r .at .state .stage) d;
-        placed = no-place (r .at .state .length) (r .at .state .stage) d;
+        placed = no-location (r .at .state .length) (r .at .state .stage) d;
         accepted = λ a. (
           length-save (r .at .state),
-          ap (λ (s : State). load (save s)) (accepted-is (r .at .state) d a) ∙ load-save (done 0 0) (refl, record { told = told-0; placed = kept-none 0 }),
+          ap (λ (s : State). load (save s)) (accepted-is (r .at .state) d a) ∙ load-save (done 0 0) (refl, record { verdict = verdict-0; located = saved-none 0 }),
         );
         away = λ a. absurd (not-21 (r .at .state .length) (r .at .state .stage) d a);
         count = same-run f m 0 (inl (omega arith)) s h n .count;
@@ -160,7 +160,7 @@ every-grant f m l n =
     record {
       at-most = g .few;
       number = g .number;
-      no-place = g .placed;
+      no-location = g .placed;
       other-length = wrong-length f m l n;
       of-none = λ e z. right-length f m l n e ∙ idle f m l n (load l) (inr z);
       repeats = λ e o. right-length f m l n e ∙ idle f m l n (load l) (inl o);

@@ -18,18 +18,18 @@ use Rattle.records.specs.Tiles.{tile}
 use Rattle.records.proofs.Bodies.{body-le, opening-same, padded-body}
 use Rattle.marks.specs.Marks.{marked, startAt, unclaimedAt, leftFrom, leftOf}
 use Rattle.walk.specs.Levels.{pushed, popped}
-use Rattle.walk.specs.Walk.{turnOf}
-use Rattle.walk.specs.declared.places.Levels.{Levels}
-use Rattle.walk.specs.declared.places.Turn as T
-use Rattle.walk.specs.declared.places.Turn.the-variants.{Over, End, Take, Down, Up}
+use Rattle.walk.specs.Walk.{walkStep}
+use Rattle.walk.specs.declared.positions.Levels.{Levels}
+use Rattle.walk.specs.declared.positions.Step as T
+use Rattle.walk.specs.declared.positions.Step.the-variants.{Over, End, Take, Down, Up}
 use Rattle.faults.specs.Holder.{holderOf}
 use Rattle.faults.specs.Fault.{noneInvolved, sweeping, ending, claiming, leaving}
 use Rattle.faults.specs.declared.fault.Involved.{Involved}
 use Rattle.marks.specs.declared.Found.{Found}
 use Rattle.checker.specs.declared.state.Stage.{Stage}
-use Rattle.checker.specs.declared.state.Stage.the-variants.{Fresh, Sweep, Walking, Done, Strange}
+use Rattle.checker.specs.declared.state.Stage.the-variants.{Fresh, Sweep, Walking, Done, OutOfRange}
 use Rattle.checker.specs.declared.state.State.{State}
-use Rattle.checker.specs.Step.{Conf, conf, Run, doneBy, finished, answerOf, placeIn, walking, settled, openNumber, sweptTo, swept, linkNumber, turned, stepBy, stepOf, onward, runOf}
+use Rattle.checker.specs.Step.{Conf, conf, Run, doneBy, finished, answerOf, locationIn, walking, settled, openNumber, sweptTo, swept, linkNumber, stepped, stepBy, stepOf, onward, runOf}
 use Rattle.checker.specs.Saved.{stateLength, save, load}
 use Rattle.checker.specs.Grant.{granted, otherFile, worked, grantBy, grantOf}
 use Rattle.checker.proofs.Outcomes.{link-passes}
@@ -150,16 +150,16 @@ module _ (b m o : List ℕ) (n : ℕ) (a : Agree (length b) m o) (room : length 
       (settled-pair (claiming h t) (length b) (linkNumber b m early t typed late) m o next (set m t 2) (set o t 2) a
       (λ e. set-agree (length b) m o t (omega (arith, started b m t (link-passes b m early t typed late e .start) .1, room)) a))
 
-  turned-pair : (up : Levels) (h : ℕ) (t : T.Turn) → Pair (length b) (turned b m n up h t) (turned b o n up h t)
-  unfolding turned
-  turned-pair up h (Over w v) = settled-pair (ending h) (length b) v m o (walking n w up) m o a (λ e. a)
-  turned-pair up h (End v) = record {
+  stepped-pair : (up : Levels) (h : ℕ) (t : T.Step) → Pair (length b) (stepped b m n up h t) (stepped b o n up h t)
+  unfolding stepped
+  stepped-pair up h (Over w v) = settled-pair (ending h) (length b) v m o (walking n w up) m o a (λ e. a)
+  stepped-pair up h (End v) = record {
     state-is = ap (λ (x : Found). cond (eqb v 0) (doneBy (leaving (x .at)) (x .number)) (doneBy (ending h) v)) (same-left b m o a);
     agree = a;
   }
-  turned-pair up h (Take w early t typed late) = taken-pair h early t typed late (walking n w up)
-  turned-pair up h (Down w t typed l) = taken-pair h 0 t typed 0 (walking n w (pushed l up))
-  turned-pair up h (Up w) = pair (length b) (walking n w (popped up)) m o a
+  stepped-pair up h (Take w early t typed late) = taken-pair h early t typed late (walking n w up)
+  stepped-pair up h (Down w t typed l) = taken-pair h 0 t typed 0 (walking n w (pushed l up))
+  stepped-pair up h (Up w) = pair (length b) (walking n w (popped up)) m o a
 
   swept-pair : (p : ℕ) → Pair (length b) (swept b m n p) (swept b o n p)
   unfolding swept
@@ -184,9 +184,9 @@ module _ (f g : List ℕ) (long : length f ≡ length g) (same : bodyOf f ≡ bo
   step-pair m o n (Sweep p) h a = let less = body-le f in rw (← same) (swept-pair b m o n a (omega (arith, h .0)) p)
   step-pair m o n (Walking w up) h a =
       let less = body-le f in
-      rw (← same) (turned-pair b m o n a (omega (arith, h .0)) up (holderOf w) (turnOf b up w))
+      rw (← same) (stepped-pair b m o n a (omega (arith, h .0)) up (holderOf w) (walkStep b up w))
   step-pair m o n (Done v p) h a = pair (length b) (record { length = n; stage = Done v p }) m o a
-  step-pair m o n Strange h a = pair (length b) (doneBy noneInvolved 20) m o a
+  step-pair m o n OutOfRange h a = pair (length b) (doneBy noneInvolved 20) m o a
 
   record Runs (r s : Run) : Type 0 where
     at-pair : Pair (length b) (r .at) (s .at)
@@ -227,16 +227,16 @@ module _ (f g : List ℕ) (long : length f ≡ length g) (same : bodyOf f ≡ bo
       where
         go : (x y : Bool) → otherFile f m (s .length) ≡ y
             → Alike (length b)
-            (cond x (granted (answerOf (s .stage)) (placeIn (s .stage)) 0 l m) (cond y (granted (pos 21) 0 0 l m) (worked (runOf f (conf s m) n))))
-            (cond x (granted (answerOf (s .stage)) (placeIn (s .stage)) 0 l o) (cond y (granted (pos 21) 0 0 l o) (worked (runOf g (conf s o) n))))
-        go true y e = record { answer = refl; place = refl; steps = refl; state = refl; marks = a .mark }
-        go false true e = record { answer = refl; place = refl; steps = refl; state = refl; marks = a .mark }
+            (cond x (granted (answerOf (s .stage)) (locationIn (s .stage)) 0 l m) (cond y (granted (pos 21) 0 0 l m) (worked (runOf f (conf s m) n))))
+            (cond x (granted (answerOf (s .stage)) (locationIn (s .stage)) 0 l o) (cond y (granted (pos 21) 0 0 l o) (worked (runOf g (conf s o) n))))
+        go true y e = record { answer = refl; location = refl; steps = refl; state = refl; marks = a .mark }
+        go false true e = record { answer = refl; location = refl; steps = refl; state = refl; marks = a .mark }
         go false false e =
             let r = run-pair s m o (h e) a n in
             let p = r .at-pair in
             record {
               answer = ap (λ (t : State). answerOf (t .stage)) (p .state-is);
-              place = ap (λ (t : State). placeIn (t .stage)) (p .state-is);
+              location = ap (λ (t : State). locationIn (t .stage)) (p .state-is);
               steps = r .made-is;
               state = ap save (p .state-is);
               marks = p .agree .mark;
@@ -248,7 +248,7 @@ module _ (f g : List ℕ) (long : length f ≡ length g) (same : bodyOf f ≡ bo
       where
         go : (x : Bool) → Alike (length b) (cond x (grantBy f m l n (load l)) (granted (pos 20) 0 0 l m)) (cond x (grantBy g o l n (load l)) (granted (pos 20) 0 0 l o))
         go true = by-state (load l) (λ e. loaded-sound f (load l) m (load-is l) e)
-        go false = record { answer = refl; place = refl; steps = refl; state = refl; marks = a .mark }
+        go false = record { answer = refl; location = refl; steps = refl; state = refl; marks = a .mark }
 
 pub padding-idle : PaddingIdle
 padding-idle b p q m o l n u same few count mark =

@@ -10,10 +10,10 @@ use native.Mathlib.Omega.{arith}
 use lib.ListN.{length}
 use lib.IntN.{ℤ, pos}
 use Rattle.checker.specs.declared.state.State.{State}
-use Rattle.checker.specs.Step.{Conf, conf, Run, fresh, finished, answerOf, placeIn, runOf, plainRun}
+use Rattle.checker.specs.Step.{Conf, conf, Run, fresh, finished, answerOf, locationIn, runOf, plainRun}
 use Rattle.checker.specs.Saved.{save, load}
 use Rattle.checker.specs.Grant.{Granted, granted, worked, grantBy, grantOf}
-use Rattle.checker.proofs.Runs.{after, run-add, run-none, run-over, run-made, made-min, made-le}
+use Rattle.checker.proofs.PlainRuns.{after, run-add, run-none, run-over, run-made, made-min, made-le}
 use Rattle.checker.proofs.Loads.{load-save, length-save, not-21, done-0}
 use Rattle.grants.proofs.Answers.{not-refused}
 use Rattle.checker.proofs.Cases.{Case, idles, refuses, works, case-of, right-length}
@@ -21,7 +21,7 @@ use Rattle.checker.proofs.Sound.{Sound, Own, sound-run, sound-loaded, sound-fre
 use Rattle.grants.proofs.Any.{accepted-is-finished}
 use Rattle.grants.specs.Lists.{Grant, Played, begun, lentFile, lentMarks, keptMarks, nextOf, joined, playFrom, play, FairNext, FairFrom, Fair}
 use Rattle.grants.specs.Promises.{stepLimit, InTime, runLength, Promise, Demand3}
-use Rattle.checker.specs.Ready.{Loaded}
+use Rattle.checker.specs.Bounds.{Loaded}
 
 kept-same : (o : Option (List ℕ × List ℕ)) (m : List ℕ) → keptMarks m o (lentMarks m o) ≡ m
 kept-same none m = refl
@@ -41,15 +41,15 @@ module _ (f m : List ℕ) where
   abbrev answerAt : ℕ → ℤ
   answerAt k = answerOf (stateAt k .stage)
 
-  abbrev placeAt : ℕ → ℕ
-  placeAt k = placeIn (stateAt k .stage)
+  abbrev locationAt : ℕ → ℕ
+  locationAt k = locationIn (stateAt k .stage)
 
   record Inv (q : Played) : Type 0 where
     i-steps : q .steps ≡ P (q .held) .made
     i-state : q .state ≡ save (stateAt (q .held))
     i-marks : q .marks ≡ marksAt (q .held)
     i-answer : q .answer ≡ answerAt (q .held)
-    i-place : q .place ≡ placeAt (q .held)
+    i-location : q .location ≡ locationAt (q .held)
 
   -- all along the plain run
   sound-at : (k : ℕ) → Sound (Own f) f (P k .at)
@@ -64,7 +64,7 @@ module _ (f m : List ℕ) where
   -- ---- what the next grant of a fair list comes to
   data Outcome (q : Played) (g : Grant) : Type 0 where
     went-on : g .other ≡ none → nextOf f q g ≡ worked (runOf f (P (q .held) .at) (g .number)) → Outcome q g
-    idled : nextOf f q g ≡ granted (answerOf (stateAt (q .held) .stage)) (placeIn (stateAt (q .held) .stage)) 0 (q .state) (lentMarks (q .marks) (g .other))
+    idled : nextOf f q g ≡ granted (answerOf (stateAt (q .held) .stage)) (locationIn (stateAt (q .held) .stage)) 0 (q .state) (lentMarks (q .marks) (g .other))
         → runOf f (P (q .held) .at) (g .number) ≡ record { at = P (q .held) .at; made = 0 } → Outcome q g
     sent : nextOf f q g ≡ granted (pos 21) 0 0 (q .state) (lentMarks (q .marks) (g .other)) → finished (stateAt (q .held) .stage) ≡ false → Outcome q g
 
@@ -123,7 +123,7 @@ module _ (f m : List ℕ) where
         i-state = ap (λ (r : Run). save (r .at .state)) (sym a);
         i-marks = rw e (ap (λ (r : Run). r .at .marks) (sym a));
         i-answer = ap (λ (r : Run). answerOf (r .at .state .stage)) (sym a);
-        i-place = ap (λ (r : Run). placeIn (r .at .state .stage)) (sym a);
+        i-location = ap (λ (r : Run). locationIn (r .at .state .stage)) (sym a);
       })
   inv-next q g i (idled w s) =
       let a : P (q .held + g .number) ≡ P (q .held) =
@@ -134,7 +134,7 @@ module _ (f m : List ℕ) where
         i-state = i .i-state ∙ ap (λ (r : Run). save (r .at .state)) (sym a);
         i-marks = kept-same (g .other) (q .marks) ∙ i .i-marks ∙ ap (λ (r : Run). r .at .marks) (sym a);
         i-answer = ap (λ (r : Run). answerOf (r .at .state .stage)) (sym a);
-        i-place = ap (λ (r : Run). placeIn (r .at .state .stage)) (sym a);
+        i-location = ap (λ (r : Run). locationIn (r .at .state .stage)) (sym a);
       })
   inv-next q g i (sent w o) =
       rw w (record {
@@ -142,7 +142,7 @@ module _ (f m : List ℕ) where
         i-state = i .i-state;
         i-marks = kept-same (g .other) (q .marks) ∙ i .i-marks;
         i-answer = i .i-answer;
-        i-place = i .i-place;
+        i-location = i .i-location;
       })
 
   inv-from : (q : Played) (gs : List Grant) → Inv q → FairFrom f q gs → Inv (playFrom f q gs)
@@ -152,7 +152,7 @@ module _ (f m : List ℕ) where
 
   inv-begun : Inv (begun m)
   unfolding runOf
-  inv-begun = record { i-steps = refl; i-state = refl; i-marks = refl; i-answer = refl; i-place = refl }
+  inv-begun = record { i-steps = refl; i-state = refl; i-marks = refl; i-answer = refl; i-location = refl }
 
   inv-play : (gs : List Grant) → Fair f m gs → Inv (play f m gs)
   inv-play gs fair = inv-from (begun m) gs inv-begun fair
@@ -172,12 +172,12 @@ module _ (f m : List ℕ) where
     steps-min : InTime f m → q .steps ≡ min (q .held) (runLength f m)
     steps-min in-time = i .i-steps ∙ made-min f (conf fresh m) (q .held) (stepLimit f) in-time
 
-    single-is : grantOf f m (save fresh) (q .steps) ≡ granted (q .answer) (q .place) (q .steps) (q .state) (q .marks)
+    single-is : grantOf f m (save fresh) (q .steps) ≡ granted (q .answer) (q .location) (q .steps) (q .state) (q .marks)
     unfolding runOf
     single-is =
         let a : grantOf f m (save fresh) (q .steps) ≡ worked (P (q .steps)) = sound-works f (conf fresh m) (sound-fresh (Own f) f m) (q .steps) in
         let b : worked (P (q .steps)) ≡ worked (P (q .held)) = ap (λ (r : Run). worked r) same-run in
-        let d : worked (P (q .held)) ≡ granted (q .answer) (q .place) (q .steps) (q .state) (q .marks) = cc in
+        let d : worked (P (q .held)) ≡ granted (q .answer) (q .location) (q .steps) (q .state) (q .marks) = cc in
         a ∙ b ∙ d
 
     same-accepts : (a b : ℤ) → a ≡ b → (a ≡ pos 0) ↔ (b ≡ pos 0)
@@ -220,7 +220,7 @@ every-list f m in-time gs fair =
     record {
       steps-add = steps-min f m q i in-time;
       verdict-is = i .i-answer ∙ ap (λ (r : Run). answerOf (r .at .state .stage)) (sym (same-run f m q i));
-      place-is = i .i-place ∙ ap (λ (r : Run). placeIn (r .at .state .stage)) (sym (same-run f m q i));
+      location-is = i .i-location ∙ ap (λ (r : Run). locationIn (r .at .state .stage)) (sym (same-run f m q i));
       marks-are = i .i-marks ∙ ap (λ (r : Run). r .at .marks) (sym (same-run f m q i));
       state-is = i .i-state ∙ ap (λ (r : Run). save (r .at .state)) (sym (same-run f m q i));
       single = single-is f m q i;

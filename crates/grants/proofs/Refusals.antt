@@ -7,16 +7,16 @@ use lib.Dec.{eqb}
 use Rattle.format.specs.Fields.{endOf}
 use Rattle.records.specs.Rules.{sizeAt}
 use Rattle.walk.specs.Levels.{noLevels}
-use Rattle.walk.specs.Walk.{turnOf}
-use Rattle.walk.specs.declared.places.Levels.{Levels}
-use Rattle.walk.specs.declared.places.Turn as T
-use Rattle.walk.specs.declared.places.Turn.the-variants.{Over, End, Take, Down, Up}
-use Rattle.walk.specs.declared.places.Walk.the-variants.{Start}
+use Rattle.walk.specs.Walk.{walkStep}
+use Rattle.walk.specs.declared.positions.Levels.{Levels}
+use Rattle.walk.specs.declared.positions.Step as T
+use Rattle.walk.specs.declared.positions.Step.the-variants.{Over, End, Take, Down, Up}
+use Rattle.walk.specs.declared.positions.Walk.the-variants.{Start}
 use Rattle.records.specs.Opening.{bodyOf}
 use Rattle.checker.specs.declared.state.Stage.{Stage}
-use Rattle.checker.specs.declared.state.Stage.the-variants.{Fresh, Sweep, Walking, Done, Strange}
+use Rattle.checker.specs.declared.state.Stage.the-variants.{Fresh, Sweep, Walking, Done, OutOfRange}
 use Rattle.checker.specs.Step.{Conf, finished, sweptTo, stepBy}
-use Rattle.checker.proofs.Outcomes.{TurnGoes, step-by}
+use Rattle.checker.proofs.Outcomes.{StepGoes, step-by}
 use Rattle.grants.specs.Promises.{RefusalKeepsMarks}
 
 swept-goes : (f : List ℕ) (o : ℕ) → finished (sweptTo f o) ≡ false
@@ -36,18 +36,18 @@ refusal-keeps-marks f m n s v p e z = go s e
     P : Conf → Type 0
     P c = (c .state .stage ≡ Done v p) → c .marks ≡ m
 
-    turn : (up : Levels) (t : T.Turn) → TurnGoes P (bodyOf f) m n up t
-    turn up (Over w v) = λ e. refl
-    turn up (End v) = tt
-    turn up (Take w early t typed late) = λ h e. absurd (true≢false (sym (ap finished e)))
-    turn up (Down w t typed l) = λ h e. absurd (true≢false (sym (ap finished e)))
-    turn up (Up w) = λ e. refl
+    step : (up : Levels) (t : T.Step) → StepGoes P (bodyOf f) m n up t
+    step up (Over w v) = λ e. refl
+    step up (End v) = tt
+    step up (Take w early t typed late) = λ h e. absurd (true≢false (sym (ap finished e)))
+    step up (Down w t typed l) = λ h e. absurd (true≢false (sym (ap finished e)))
+    step up (Up w) = λ e. refl
 
     go : (s : Stage) → stepBy f m n s .state .stage ≡ Done v p → stepBy f m n s .marks ≡ m
     go Fresh e = step-by P f m n (λ v p t e. refl) Fresh refl (λ h e. refl) e
     go (Sweep o) e =
         step-by P f m n (λ v p t e. refl) (Sweep o) refl
         (λ h e. absurd (true≢false (sym (ap finished e) ∙ swept-goes (bodyOf f) (o + sizeAt (bodyOf f) o)))) e
-    go (Walking w up) e = step-by P f m n (λ v p t e. refl) (Walking w up) refl (turn up (turnOf (bodyOf f) up w)) e
+    go (Walking w up) e = step-by P f m n (λ v p t e. refl) (Walking w up) refl (step up (walkStep (bodyOf f) up w)) e
     go (Done u q) e = done-marks f m n u q
-    go Strange e = step-by P f m n (λ v p t e. refl) Strange refl tt e
+    go OutOfRange e = step-by P f m n (λ v p t e. refl) OutOfRange refl tt e

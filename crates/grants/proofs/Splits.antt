@@ -11,10 +11,10 @@ use lib.Dec.{eqb}
 use borrow.Author.Tests.{eqb-true, eqb-false}
 use lib.IntN.{pos}
 use Rattle.checker.specs.declared.state.State.{State}
-use Rattle.checker.specs.Step.{conf, Run, finished, answerOf, placeIn, runOf}
+use Rattle.checker.specs.Step.{conf, Run, finished, answerOf, locationIn, runOf}
 use Rattle.checker.specs.Saved.{stateLength, load}
 use Rattle.checker.specs.Grant.{Granted, granted, worked, grantBy, grantOf}
-use Rattle.checker.proofs.Runs.{run-add}
+use Rattle.checker.proofs.PlainRuns.{run-add}
 use Rattle.checker.proofs.Loads.{load-is}
 use Rattle.checker.proofs.Cases.{Case, idles, refuses, works, case-of, right-length, wrong-length, idle}
 use Rattle.checker.proofs.Sound.{Own, loaded-sound, sound-run, sound-works}
@@ -44,7 +44,7 @@ module _ (f m l : List ℕ) (a b : ℕ) (right : length l ≡ stateLength) where
 
   split-case : grantOf f m l a .answer ≢ pos 21 → Case f m l a s → grantOf f m l (a + b) ≡ andThen f (grantOf f m l a) b
   split-case ok (idles g (inl e)) =
-      let all : (n : ℕ) → grantOf f m l n ≡ granted (answerOf (s .stage)) (placeIn (s .stage)) 0 l m = λ n. right-length f m l n right ∙ idle f m l n s (inl e) in
+      let all : (n : ℕ) → grantOf f m l n ≡ granted (answerOf (s .stage)) (locationIn (s .stage)) 0 l m = λ n. right-length f m l n right ∙ idle f m l n s (inl e) in
       rw (all a, all b) (all (a + b))
   split-case ok (idles g (inr e)) =
       let same : a + b ≡ b = omega arith in

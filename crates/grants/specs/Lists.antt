@@ -17,18 +17,18 @@ pub record Grant : Type 0 where
   pub other : Option (List ℕ × List ℕ)
 
 -- what a list of grants has come to: the state; the list's marks; the steps reported, added up; the numbers of the grants not
--- refused with 21, added up; "what its last grant not refused with 21 answers, or -1 if there is none", and its place
+-- refused with 21, added up; "what its last grant not refused with 21 answers, or -1 if there is none", and its location
 pub record Played : Type 0 where
   pub state : List ℕ
   pub marks : List ℕ
   pub steps : ℕ
   pub held : ℕ
   pub answer : ℤ
-  pub place : ℕ
+  pub location : ℕ
 
 -- "Fresh is the state docs/ gives to begin with"
 abbrev pub begun : List ℕ → Played
-begun m = record { state = save fresh; marks = m; steps = 0; held = 0; answer = negsuc 0; place = 0 }
+begun m = record { state = save fresh; marks = m; steps = 0; held = 0; answer = negsuc 0; location = 0 }
 
 abbrev pub lentFile : List ℕ → Option (List ℕ × List ℕ) → List ℕ
 lentFile f none = f
@@ -58,7 +58,7 @@ joined q g r =
       steps = q .steps + r .steps;
       held = cond (refused21 (r .answer)) (q .held) (q .held + g .number);
       answer = cond (refused21 (r .answer)) (q .answer) (r .answer);
-      place = cond (refused21 (r .answer)) (q .place) (r .place);
+      location = cond (refused21 (r .answer)) (q .location) (r .location);
     }
 
 unfoldable pub playFrom : List ℕ → Played → List Grant → Played

@@ -10,8 +10,8 @@ use lib.Dec.{leb, eqb}
 use lib.IntN.{ℤ, pos, negsuc}
 use Rattle.records.specs.Opening.{fileEnd, Unpadded}
 use Rattle.checker.specs.declared.state.Stage.{Stage}
-use Rattle.checker.specs.declared.state.Stage.the-variants.{Done, Strange}
-use Rattle.checker.specs.Step.{done, fresh, finished, answerOf, placeIn, stepBy, plainRun}
+use Rattle.checker.specs.declared.state.Stage.the-variants.{Done, OutOfRange}
+use Rattle.checker.specs.Step.{done, fresh, finished, answerOf, locationIn, stepBy, plainRun}
 use Rattle.checker.specs.Saved.{stateLength, save, load}
 use Rattle.checker.specs.Grant.{Granted, granted, grantOf}
 use Rattle.grants.specs.Lists.{Grant, nextOf, play, Fair}
@@ -35,15 +35,15 @@ pub record Promise (f m : List ℕ) (gs : List Grant) : Type 0 where
   -- "A list's verdict is what its last grant not refused with 21 answers, or -1 if there is none; the plain run's is its finishing
   -- step's number, and -1 before that step": the two are one after that many steps
   pub verdict-is : play f m gs .answer ≡ answerOf (plainRun f m (play f m gs .steps) .at .state .stage)
-  -- "Every refusal of a grant, a repeated one too, shall carry the file offset of the record at fault": so is the place
-  pub place-is : play f m gs .place ≡ placeIn (plainRun f m (play f m gs .steps) .at .state .stage)
+  -- "Every refusal of a grant, a repeated one too, shall carry the file offset of the record at fault": so is the location
+  pub location-is : play f m gs .location ≡ locationIn (plainRun f m (play f m gs .steps) .at .state .stage)
   -- "the state and marks after each step being the step rules'": so are the list's
   pub marks-are : play f m gs .marks ≡ plainRun f m (play f m gs .steps) .at .marks
   pub state-is : play f m gs .state ≡ save (plainRun f m (play f m gs .steps) .at .state)
   -- "one claim about the list, not one for each grant": a single grant of that many steps from fresh gives this verdict and this
-  -- place, as many steps, this state and these marks
+  -- location, as many steps, this state and these marks
   pub single : grantOf f m (save fresh) (play f m gs .steps)
-      ≡ granted (play f m gs .answer) (play f m gs .place) (play f m gs .steps) (play f m gs .state) (play f m gs .marks)
+      ≡ granted (play f m gs .answer) (play f m gs .location) (play f m gs .steps) (play f m gs .state) (play f m gs .marks)
   -- "until one refuses or accepts": the plain run is finished within length/4 + 1 steps
   pub ends : InTime f m
   pub short : runLength f m ≤ stepLimit f
@@ -60,7 +60,7 @@ pub record Promise (f m : List ℕ) (gs : List Grant) : Type 0 where
 
 -- DEMAND 3
 pub record Demand3 : Type 0 where
-  -- "Whatever the list of grants, steps, verdict, marks and state are those of the plain run", and so is the place
+  -- "Whatever the list of grants, steps, verdict, marks and state are those of the plain run", and so is the location
   pub lists : (f m : List ℕ) (gs : List Grant) → Fair f m gs → Promise f m gs
   -- "nothing unfinished ever reads as accepted": whatever state is lent, made up or not, a grant that answers 0 leaves one finished as
   -- accepted
@@ -73,7 +73,7 @@ pub record Demand3 : Type 0 where
 abbrev pub FreshInRange : Type 0
 FreshInRange =
     (f m : List ℕ) (k : ℕ)
-    → (load (save (plainRun f m k .at .state)) ≡ plainRun f m k .at .state) × (plainRun f m k .at .state .stage ≢ Strange)
+    → (load (save (plainRun f m k .at .state)) ≡ plainRun f m k .at .state) × (plainRun f m k .at .state .stage ≢ OutOfRange)
 
 -- "Numbers that come back" of a check: -1, 0 to 14, 20, 21; "deeper is refused with 23"
 abbrev pub comesBack : ℤ → Bool
@@ -81,9 +81,9 @@ comesBack (pos v) = leb v 14 || (eqb v 20 || (eqb v 21 || eqb v 23))
 comesBack (negsuc n) = eqb n 0
 
 -- the numbers that request #107 names a record for
-abbrev pub hasPlace : ℤ → Bool
-hasPlace (pos v) = leb 7 v && leb v 14 || eqb v 23
-hasPlace (negsuc n) = false
+abbrev pub hasLocation : ℤ → Bool
+hasLocation (pos v) = leb 7 v && leb v 14 || eqb v 23
+hasLocation (negsuc n) = false
 
 -- A GRANT on any state whatever, made up or not
 pub record AnyState (f m l : List ℕ) (n : ℕ) : Type 0 where
@@ -92,15 +92,15 @@ pub record AnyState (f m l : List ℕ) (n : ℕ) : Type 0 where
   -- "A refusal is one number of document 01's table"
   pub number : comesBack (grantOf f m l n .answer) ≡ true
   -- "0 for the others"
-  pub no-place : hasPlace (grantOf f m l n .answer) ≡ false → grantOf f m l n .place ≡ 0
+  pub no-location : hasLocation (grantOf f m l n .answer) ≡ false → grantOf f m l n .location ≡ 0
   -- "one of another length than docs/ gives is 20 in 0 steps, and neither it nor the marks change"
   pub other-length : length l ≢ stateLength → grantOf f m l n ≡ granted (pos 20) 0 0 l m
   -- "a grant of 0 does nothing, and 21 is not looked for"
-  pub of-none : length l ≡ stateLength → n ≡ 0 → grantOf f m l n ≡ granted (answerOf (load l .stage)) (placeIn (load l .stage)) 0 l m
-  -- "A finished state repeats its verdict in 0 steps, whatever is lent", and its place: "a repeated one too"
+  pub of-none : length l ≡ stateLength → n ≡ 0 → grantOf f m l n ≡ granted (answerOf (load l .stage)) (locationIn (load l .stage)) 0 l m
+  -- "A finished state repeats its verdict in 0 steps, whatever is lent", and its location: "a repeated one too"
   pub repeats : length l ≡ stateLength
       → finished (load l .stage) ≡ true
-      → grantOf f m l n ≡ granted (answerOf (load l .stage)) (placeIn (load l .stage)) 0 l m
+      → grantOf f m l n ≡ granted (answerOf (load l .stage)) (locationIn (load l .stage)) 0 l m
   -- "21 changes neither state nor marks, makes 0 steps and doesn't finish the check"
   pub turned-away : grantOf f m l n .answer ≡ pos 21 → grantOf f m l n ≡ granted (pos 21) 0 0 l m
   -- "Marks 0 to 7 and beyond the file are never written", "Bytes and marks from eof on are neither judged nor written"; none is added or lost
@@ -115,9 +115,9 @@ EveryGrant = (f m l : List ℕ) (n : ℕ) → AnyState f m l n
 abbrev pub andThen : List ℕ → Granted → ℕ → Granted
 andThen f r n =
     let t = grantOf f (r .marks) (r .state) n in
-    granted (t .answer) (t .place) (r .steps + t .steps) (t .state) (t .marks)
+    granted (t .answer) (t .location) (r .steps + t .steps) (t .state) (t .marks)
 
--- A GRANT in two parts is the grant, on any state whatever, made up or not: the same answer, place, state and marks, and the steps add
+-- A GRANT in two parts is the grant, on any state whatever, made up or not: the same answer, location, state and marks, and the steps add
 -- up.
 -- A first part refused with 21 is set aside, since a second of 0 then answers -1: "21 is not looked for"
 abbrev pub SplitsAlike : Type 0
@@ -131,7 +131,7 @@ RefusalKeepsMarks =
 -- what two grants give back is the same, of the marks those below e
 pub record Alike (e : ℕ) (r s : Granted) : Type 0 where
   pub answer : r .answer ≡ s .answer
-  pub place : r .place ≡ s .place
+  pub location : r .location ≡ s .location
   pub steps : r .steps ≡ s .steps
   pub state : r .state ≡ s .state
   pub marks : (i : ℕ) → i < e → getD (r .marks) i 0 ≡ getD (s .marks) i 0

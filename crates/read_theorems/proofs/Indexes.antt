@@ -36,7 +36,7 @@ use Rattle.format.specs.Numbers.{unless}
 use Rattle.format.proofs.Numbers.{zeros}
 use Rattle.lookup.proofs.Kept.{Lies, lies-lands}
 use Rattle.demands.proofs.Records.{Stands, stands-begins, type-reads, values-read, VdrParts}
-use Rattle.demands.proofs.Turns.{Listed}
+use Rattle.demands.proofs.Lists.{Listed}
 use Rattle.demands.proofs.Levels.{levelsOf as levelsAbove, most-named, most-top}
 use Rattle.demands.proofs.Nested.{entryIs, Carried, carried, EntryGood, afterEntry, RowGood, afterRow, chainCarried, chainRules}
 use Rattle.demands.proofs.Splits.{in-left, in-right, in-either, each-in, each-along, listed-reads, offset-in}

@@ -9,11 +9,11 @@ use native.Mathlib.Omega.{arith}
 use lib.ListN.{length}
 use lib.IntN.{pos, negsuc}
 use Rattle.checker.specs.declared.state.State.{State}
-use Rattle.checker.specs.Step.{Conf, Run, conf, fresh, finished, answerOf, placeIn, runOf, plainRun}
+use Rattle.checker.specs.Step.{Conf, Run, conf, fresh, finished, answerOf, locationIn, runOf, plainRun}
 use Rattle.checker.specs.Saved.{save, load}
 use Rattle.checker.specs.Grant.{Granted, grantOf, worked}
 use Rattle.checker.proofs.Loads.{load-save, length-save}
-use Rattle.checker.proofs.Runs.{run-add}
+use Rattle.checker.proofs.PlainRuns.{run-add}
 use Rattle.checker.proofs.Sound.{Sound, Own as OwnFile, sound-run, sound-loaded, sound-works, sound-fresh}
 use Rattle.grants.proofs.Any.{every-grant}
 use Rattle.demands.specs.Acceptance.{Accepted}
@@ -92,10 +92,10 @@ module _ (o : Own) (q : ℕ) where
   loads r = load-save (at r .state) (sound-loaded (OwnFile p) p (at r) (sound r))
 
   -- a grant of 0 tells where the run is
-  told : (l : List ℕ) (r : ℕ) → l ≡ save (at r .state) → (x y : List ℕ) → grantOf x y l 0 .place ≡ placeIn (at r .state .stage)
+  told : (l : List ℕ) (r : ℕ) → l ≡ save (at r .state) → (x y : List ℕ) → grantOf x y l 0 .location ≡ locationIn (at r .state .stage)
   told l r e x y =
-      ap (λ (g : Granted). g .place) (every-grant x y l 0 .of-none (rw e (length-save (at r .state))) refl)
-      ∙ ap (λ (s : State). placeIn (s .stage)) (ap load e ∙ loads r)
+      ap (λ (g : Granted). g .location) (every-grant x y l 0 .of-none (rw e (length-save (at r .state))) refl)
+      ∙ ap (λ (s : State). locationIn (s .stage)) (ap load e ∙ loads r)
 
   module _ (some : 0 < q) (r : ℕ) (enough : roundsWithin (length p) q ≤ r) where
     ended : finished (at r .state .stage) ≡ true
@@ -166,7 +166,7 @@ fresh-jobs f q w k runs h begun = record {
   state-is = λ r. state f q w k runs h begun r;
   marks-are = λ r. ap (λ (z : Own). z .marks) (alone-is f q w runs k r h) ∙ steps (ownOf f w k) q begun r .1 .1;
   answer-is = λ r. answer f q w k runs h begun r;
-  place-is = λ r x y. told (ownOf f w k) q (ownOf f (roundsOf f q w r) k .state) r (state f q w k runs h begun r) x y;
+  location-is = λ r x y. told (ownOf f w k) q (ownOf f (roundsOf f q w r) k .state) r (state f q w k runs h begun r) x y;
   ends = λ r l. ends-there f q w k runs h begun r l;
   accepts = λ r l m. accepts-there f q w k runs h begun r l m;
 }

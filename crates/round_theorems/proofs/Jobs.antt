@@ -8,15 +8,15 @@ use native.Mathlib.Omega.{arith}
 use lib.ListN.{length}
 use lib.IntN.{pos, negsuc}
 use Rattle.checker.specs.declared.state.Stage.{Stage}
-use Rattle.checker.specs.declared.state.Stage.the-variants.{Fresh, Sweep, Walking, Done, Strange}
+use Rattle.checker.specs.declared.state.Stage.the-variants.{Fresh, Sweep, Walking, Done, OutOfRange}
 use Rattle.checker.specs.declared.state.State.{State}
-use Rattle.checker.specs.Step.{conf, finished, answerOf, placeIn, runOf}
+use Rattle.checker.specs.Step.{conf, finished, answerOf, locationIn, runOf}
 use Rattle.checker.specs.Saved.{stateLength, save, load}
-use Rattle.checker.specs.Ready.{Loaded}
+use Rattle.checker.specs.Bounds.{Loaded}
 use Rattle.checker.specs.Grant.{Granted, grantBy, grantOf}
 use Rattle.checker.proofs.Loads.{load-is, load-save, length-save, not-21}
-use Rattle.checker.proofs.Granting.{running-place}
-use Rattle.checker.proofs.Runs.{made-all}
+use Rattle.checker.proofs.Granting.{running-location}
+use Rattle.checker.proofs.PlainRuns.{made-all}
 use Rattle.checker.proofs.Cases.{Case, idles, refuses, works, case-of, right-length}
 use Rattle.checker.proofs.Sound.{Own as OwnFile, loaded-sound, sound-run, sound-loaded}
 use Rattle.grants.specs.Promises.{comesBack}
@@ -29,29 +29,29 @@ has-verdict Fresh e = absurd (e refl)
 has-verdict (Sweep o) e = absurd (e refl)
 has-verdict (Walking w up) e = absurd (e refl)
 has-verdict (Done v p) e = refl
-has-verdict Strange e = absurd (e refl)
+has-verdict OutOfRange e = absurd (e refl)
 
 pub not-running : (g : Stage) → finished g ≡ true → answerOf g ≢ negsuc 0
 not-running Fresh e = absurd (true≢false (sym e))
 not-running (Sweep o) e = absurd (true≢false (sym e))
 not-running (Walking w up) e = absurd (true≢false (sym e))
 not-running (Done v p) e = λ d. let z : _≡_ {A = ℕ} 0 1 = cc in omega arith
-not-running Strange e = absurd (true≢false (sym e))
+not-running OutOfRange e = absurd (true≢false (sym e))
 
 is-running : (g : Stage) → answerOf g ≡ negsuc 0 → finished g ≡ false
 is-running Fresh e = refl
 is-running (Sweep o) e = refl
 is-running (Walking w up) e = refl
 is-running (Done v p) e = absurd (not-running (Done v p) refl e)
-is-running Strange e = refl
+is-running OutOfRange e = refl
 
 not-21-running : pos 21 ≢ negsuc 0
 not-21-running e = let z : _≡_ {A = ℕ} 0 1 = cc in omega arith
 
--- the state that a grant of n leaves has its length, its place, and its answer unless that is 21; with -1 it made n steps
+-- the state that a grant of n leaves has its length, its location, and its answer unless that is 21; with -1 it made n steps
 record Told (n : ℕ) (g : Granted) : Type 0 where
   count : length (g .state) ≡ stateLength
-  place : placeIn (load (g .state) .stage) ≡ g .place
+  location : locationIn (load (g .state) .stage) ≡ g .location
   answer : g .answer ≢ pos 21 → answerOf (load (g .state) .stage) ≡ g .answer
   ended : finished (load (g .state) .stage) ≡ true → (g .answer ≢ negsuc 0) × (g .answer ≢ pos 21)
   spent : g .answer ≡ negsuc 0 → g .steps ≡ n
@@ -71,7 +71,7 @@ module _ (f m l : List ℕ) (n : ℕ) (right : length l ≡ stateLength) where
   neither t h e = (not-running (t .stage) e, not-21 (t .length) (t .stage) h)
 
   by-case : Case f m l n s → Told n (grantBy f m l n s)
-  by-case (idles e c) = subst (Told n) (sym e) (record { count = right; place = refl; answer = λ no-21. refl; ended = neither s (load-is l); spent = none-left c })
+  by-case (idles e c) = subst (Told n) (sym e) (record { count = right; location = refl; answer = λ no-21. refl; ended = neither s (load-is l); spent = none-left c })
     where
       none-left : (finished (s .stage) ≡ true) ⊎ (n ≡ 0) → answerOf (s .stage) ≡ negsuc 0 → 0 ≡ n
       none-left (inl d) a = absurd (not-running (s .stage) d a)
@@ -79,7 +79,7 @@ module _ (f m l : List ℕ) (n : ℕ) (right : length l ≡ stateLength) where
   by-case (refuses e o w) =
       subst (Told n) (sym e) (record {
         count = right;
-        place = running-place (s .stage) o;
+        location = running-location (s .stage) o;
         answer = λ no-21. absurd (no-21 refl);
         ended = λ e. absurd (true≢false (sym e ∙ o));
         spent = λ a. absurd (not-21-running a);
@@ -88,7 +88,7 @@ module _ (f m l : List ℕ) (n : ℕ) (right : length l ≡ stateLength) where
       let d = at-run w in
       subst (Told n) (sym e) (record {
         count = length-save (runOf f (conf s m) n .at .state);
-        place = ap (λ (t : State). placeIn (t .stage)) d;
+        location = ap (λ (t : State). locationIn (t .stage)) d;
         answer = λ no-21. ap (λ (t : State). answerOf (t .stage)) d;
         ended = λ e. neither (runOf f (conf s m) n .at .state) (at-loaded w) (sym (ap (λ (t : State). finished (t .stage)) d) ∙ e);
         spent = λ a. made-all f (conf s m) n (is-running (runOf f (conf s m) n .at .state .stage) a);
@@ -133,9 +133,9 @@ module _ (q : ℕ) (o : Own) (right : length (o .state) ≡ stateLength) where
   unfolding grantsAlone
   sent-away-at r e = ap (λ (g : Granted). g .steps) (every-grant (at r .file) (at r .marks) (at r .state) q .turned-away e)
 
-  place-at : (r : ℕ) (x y : List ℕ) → grantOf x y (at (suc r) .state) 0 .place ≡ grantOf (at r .file) (at r .marks) (at r .state) q .place
+  location-at : (r : ℕ) (x y : List ℕ) → grantOf x y (at (suc r) .state) 0 .location ≡ grantOf (at r .file) (at r .marks) (at r .state) q .location
   unfolding grantsAlone
-  place-at r x y = ap (λ (g : Granted). g .place) (every-grant x y (at (suc r) .state) 0 .of-none (counts (suc r)) refl) ∙ told-at r .place
+  location-at r x y = ap (λ (g : Granted). g .location) (every-grant x y (at (suc r) .state) 0 .of-none (counts (suc r)) refl) ∙ told-at r .location
 
   repeats-at : finished (load (o .state) .stage) ≡ true → (r : ℕ) → at (suc r) ≡ record { file = o .file; marks = o .marks; state = o .state; answer = answerOf (load (o .state) .stage) }
   unfolding grantsAlone
@@ -159,7 +159,7 @@ any-jobs f q w k runs h right = record {
   unfinished = λ r e. subst (λ (z : Own). Ended z) (sym (is (suc r))) (ended-at q o right r) e;
   spent = λ r e. ap (λ (z : Own). grantOf (z .file) (z .marks) (z .state) q .steps) (is r) ∙ spent-at q o right r (sym (ap (λ (z : Own). z .answer) (is (suc r))) ∙ e);
   sent-away = λ r e. ap (λ (z : Own). grantOf (z .file) (z .marks) (z .state) q .steps) (is r) ∙ sent-away-at q o right r (sym (ap (λ (z : Own). z .answer) (is (suc r))) ∙ e);
-  place = λ r x y. ap (λ (z : Own). grantOf x y (z .state) 0 .place) (is (suc r)) ∙ place-at q o right r x y ∙ sym (ap (λ (z : Own). grantOf (z .file) (z .marks) (z .state) q .place) (is r));
+  location = λ r x y. ap (λ (z : Own). grantOf x y (z .state) 0 .location) (is (suc r)) ∙ location-at q o right r x y ∙ sym (ap (λ (z : Own). grantOf (z .file) (z .marks) (z .state) q .location) (is r));
 }
   where
     o : Own

@@ -6,7 +6,7 @@ use mathlib.Core.List.{List}
 use Prim.Native.Nat.{ℕ, zero, suc, _+_, _*_, _-_, _/_, _≤_, _<_}
 use lib.ListN.{length, getD}
 use lib.IntN.{ℤ, pos, negsuc}
-use Rattle.checker.specs.Step.{Conf, fresh, finished, answerOf, placeIn, plainRun}
+use Rattle.checker.specs.Step.{Conf, fresh, finished, answerOf, locationIn, plainRun}
 use Rattle.checker.specs.Saved.{stateLength, save, load}
 use Rattle.checker.specs.Grant.{Granted, grantOf}
 use Rattle.grants.specs.Promises.{comesBack}
@@ -153,10 +153,10 @@ pub record AnyJob (f : List ℕ) (q : ℕ) (w : Window) (k : ℕ) : Type 0 where
   pub sent-away : (r : ℕ)
       → ownAfter f q w k (suc r) .answer ≡ pos 21
       → grantTo q (ownAfter f q w k r) .steps ≡ 0
-  -- the place that its grant gave, which no row holds, is given by a grant of 0 on its state, whatever file x and marks y are lent
-  pub place : (r : ℕ) (x y : List ℕ)
-      → grantOf x y (ownAfter f q w k (suc r) .state) 0 .place
-      ≡ grantTo q (ownAfter f q w k r) .place
+  -- the location that its grant gave, which no row holds, is given by a grant of 0 on its state, whatever file x and marks y are lent
+  pub location : (r : ℕ) (x y : List ℕ)
+      → grantOf x y (ownAfter f q w k (suc r) .state) 0 .location
+      ≡ grantTo q (ownAfter f q w k r) .location
 
 abbrev pub AnyJobs : Type 0
 AnyJobs =
@@ -186,9 +186,9 @@ pub record FreshJob (f : List ℕ) (q : ℕ) (w : Window) (k : ℕ) : Type 0 whe
   pub state-is : (r : ℕ) → ownAfter f q w k r .state ≡ save (plainAt (ownOf f w k) q r .state)
   pub marks-are : (r : ℕ) → ownAfter f q w k r .marks ≡ plainAt (ownOf f w k) q r .marks
   pub answer-is : (r : ℕ) → ownAfter f q w k (suc r) .answer ≡ answerOf (plainAt (ownOf f w k) q (suc r) .state .stage)
-  -- and so is the place, by a grant of 0 on its state, whatever file x and marks y are lent
-  pub place-is : (r : ℕ) (x y : List ℕ)
-      → grantOf x y (ownAfter f q w k r .state) 0 .place ≡ placeIn (plainAt (ownOf f w k) q r .state .stage)
+  -- and so is the location, by a grant of 0 on its state, whatever file x and marks y are lent
+  pub location-is : (r : ℕ) (x y : List ℕ)
+      → grantOf x y (ownAfter f q w k r .state) 0 .location ≡ locationIn (plainAt (ownOf f w k) q r .state .stage)
   -- "ends within (its length / 4 rounded down + 1) / q rounds, rounded up": its state is finished, and its answer is a verdict
   pub ends : (r : ℕ)
       → roundsWithin (partsAt (w .rows) k .file .len) q ≤ r

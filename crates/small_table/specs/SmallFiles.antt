@@ -29,12 +29,12 @@ use Rattle.lookup.specs.Indexes.{recordThere, recordRead, recordNumber, scanned
 use Rattle.answers.specs.declared.Read.{Read}
 use Rattle.answers.specs.declared.Read.the-variants.{Value as Given, Refused}
 use Rattle.answers.specs.Answers.{elementThere, elementRead, inRecord, inVariable, valueRead}
-use Rattle.walk.specs.Walk.{typeNumber, followed, gdrNamed, fieldNumber, tallied, varsTally, varNumber, chainTally, attrNumber, valuesNumber, lowerNumber, entriesTally, numNumber, entryNumber, oneMore, unusedNumber, turnBy}
+use Rattle.walk.specs.Walk.{typeNumber, followed, gdrNamed, fieldNumber, tallied, varsTally, varNumber, chainTally, attrNumber, valuesNumber, lowerNumber, entriesTally, numNumber, entryNumber, oneMore, unusedNumber, walkStepBy}
 use Rattle.walk.specs.Levels.{isNone, mostOf, roomBelow}
 use Rattle.marks.specs.Marks.{cleared, marked, startAt, unclaimedAt, followedAt, leftFrom, leftOf}
 use Rattle.faults.specs.Holder.{holderOf}
 use Rattle.faults.specs.Fault.{faultAt}
-use Rattle.checker.specs.Step.{Run, answerOf, placeIn, openNumber, swept, linkNumber, turned, stepBy, runOf, plainRun}
+use Rattle.checker.specs.Step.{Run, answerOf, locationIn, openNumber, swept, linkNumber, stepped, stepBy, runOf, plainRun}
 
 -- ---- files
 -- numbers as control fields, one after the other
@@ -149,7 +149,7 @@ marksAre m (p ∷ ps) = eqb (getD m (p .0) 0) (p .1) && marksAre m ps
 -- marks
 unfoldable pub ends : ℤ → ℕ → ℕ → List (ℕ × ℕ) → Run → Bool
 ends v p n ps r =
-    eqZ (answerOf (r .at .state .stage)) v && eqb (placeIn (r .at .state .stage)) p && eqb (r .made) n && marksAre (r .at .marks) ps
+    eqZ (answerOf (r .at .state .stage)) v && eqb (locationIn (r .at .state .stage)) p && eqb (r .made) n && marksAre (r .at .marks) ps
 
 unfoldable pub checks : List ℕ → ℤ → ℕ → ℕ → List (ℕ × ℕ) → Bool
 checks f v p n ps = ends v p n ps (plainRun f (replicate (length f) 7) (length f / 4 + 1))
@@ -220,8 +220,8 @@ unfolding bigAt endOf fieldAt isAt atLeast atMost inOrder sameAt eachWithin natA
     tileFields tileRight typeUncarried tile adrRight adrRule elementSize aedrRight aedrRule vxrRight vxrRule rises closes rangeNumber
     entryOf vvrRule uirRule capped carriedOf vdrFields countPlace countRight layoutAt layoutOf valueBytes padBytes
     sizeExact dimensionsRight factorOf spread recordBytes dimensioned variableOf typeNumber followed gdrNamed fieldNumber tallied varsTally
-    varNumber chainTally attrNumber valuesNumber lowerNumber entriesTally numNumber entryNumber oneMore unusedNumber isNone mostOf roomBelow turnBy cleared marked startAt unclaimedAt
-    followedAt leftFrom leftOf holderOf faultAt openNumber swept linkNumber turned stepBy runOf littleAt placeAfter elementPlace indicesRight
+    varNumber chainTally attrNumber valuesNumber lowerNumber entriesTally numNumber entryNumber oneMore unusedNumber isNone mostOf roomBelow walkStepBy cleared marked startAt unclaimedAt
+    followedAt leftFrom leftOf holderOf faultAt openNumber swept linkNumber stepped stepBy runOf littleAt placeAfter elementPlace indicesRight
     rowFits placed placeOf rawAt valueOf bitsOf isVax isNothing decodedOf opened allowance landsOn vdrKept ruleKept meets
     lastLink sought placeWay variableWay recordThere recordRead recordNumber scanned indexMet lastIndex indexed lowerMet lowered valuesMet
     recordWay elementThere elementRead inRecord inVariable valueRead wordsOf fileBy fileOf indexTo variableBy variable levels deep padded plane fileA fileB

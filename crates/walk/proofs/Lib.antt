@@ -1,4 +1,5 @@
 pub mod Entered
-pub mod Closed
-pub mod Kept
+pub mod Small
 pub mod Leads
+pub mod Closed
+pub mod Variables

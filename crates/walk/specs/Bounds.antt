@@ -1,50 +1,74 @@
--- The numbers of a place of the walk, in their ranges; the walk never leaves them. Assumes nothing.
+-- What only the code needs: the numbers of a position of the walk, in their ranges, which the walk never leaves; and the variable that the
+-- code keeps beside the walk, of which no rule speaks. Assumes nothing.
 use mathlib.Core.Path.{_≡_}
 use mathlib.Core.Logic.{_⊎_}
-use Prim.Native.Nat.{ℕ, _≤_}
-use Rattle.walk.specs.declared.places.Var.{Var}
-use Rattle.walk.specs.declared.places.Level.{Level}
-use Rattle.walk.specs.declared.places.Levels.{Levels}
-use Rattle.walk.specs.declared.places.Walk as W
-use Rattle.walk.specs.declared.places.Walk.the-variants.{Start, Vars, Chain, Entry, Attrs, Entries, Unused}
+use mathlib.Core.Bool.{cond}
+use mathlib.Core.Option.{Option, none, some}
+use mathlib.Core.List.{List, [], _∷_}
+use Prim.Native.Nat.{ℕ, _+_, _≤_}
+use lib.Dec.{ltb}
+use Rattle.format.specs.Fields.{endOf, linkAt}
+use Rattle.variables.specs.Vdr.{vdrFault, variableOf}
+use Rattle.variables.specs.declared.vdr.Variable.{Variable}
+use Rattle.walk.specs.Ranges.{Range, upTo, oneOf, rangesOf, levelRanges}
+use Rattle.walk.specs.Levels.{indexed}
+use Rattle.walk.specs.declared.positions.Var.{Var}
+use Rattle.walk.specs.declared.positions.Level.{Level}
+use Rattle.walk.specs.declared.positions.Levels.{Levels}
+use Rattle.walk.specs.declared.positions.Walk as W
+use Rattle.walk.specs.declared.positions.Walk.the-variants.{Start, Vars, Chain, Entry, Attrs, Entries, Unused}
 
-abbrev pub VarKind : ℕ → Type 0
-VarKind k = (k ≡ 3) ⊎ (k ≡ 8)
+-- ---- the numbers
+abbrev pub InRange : Range → Type 0
+InRange (upTo n most) = n ≤ most
+InRange (oneOf n a b) = (n ≡ a) ⊎ (n ≡ b)
 
-abbrev pub EntryKind : ℕ → Type 0
-EntryKind k = (k ≡ 5) ⊎ (k ≡ 9)
+abbrev pub AllIn : List Range → Type 0
+AllIn [] = Unit {0}
+AllIn (r ∷ rs) = InRange r × AllIn rs
 
--- kinds are record types
-abbrev pub Kinds : W.Walk → Type 0
-Kinds Start = Unit {0}
-Kinds (Vars k p n g) = VarKind k
-Kinds (Chain u p x floor c) = VarKind (u .kind)
-Kinds (Entry u x i floor c) = VarKind (u .kind)
-Kinds (Attrs p n) = Unit {0}
-Kinds (Entries k a n p e g) = EntryKind k
-Kinds (Unused p b) = Unit {0}
+pub record Within (w : W.Walk) : Type 0 where
+  pub all : AllIn (rangesOf w)
 
--- offsets, places in lists and entries are at most 2 ^ 31 - 1, counts and numbers + 1 at most 2 ^ 31, links at most 64 above an offset
-abbrev pub SmallVar : Var → Type 0
-SmallVar u = (u .vdr ≤ 2147483647) × (u .place ≤ 2147483647) × (u .greatest ≤ 2147483648)
-
-abbrev pub Small : W.Walk → Type 0
-Small Start = Unit {0}
-Small (Vars k p n g) = (p ≤ 2147483711) × (n ≤ 2147483648) × (g ≤ 2147483648)
-Small (Chain u p x floor c) = SmallVar u × (p ≤ 2147483711) × (x ≤ 2147483647) × (floor ≤ 2147483648)
-Small (Entry u x i floor c) = SmallVar u × (x ≤ 2147483647) × (i ≤ 2147483647) × (floor ≤ 2147483648)
-Small (Attrs p n) = (p ≤ 2147483711) × (n ≤ 2147483648)
-Small (Entries k a n p e g) = (a ≤ 2147483647) × (n ≤ 2147483647) × (p ≤ 2147483711) × (e ≤ 2147483648) × (g ≤ 2147483648)
-Small (Unused p b) = (p ≤ 2147483711) × (b ≤ 2147483647)
-
--- of a level the record and the Last, and the entry + 1
 abbrev pub SmallLevel : Level → Type 0
-SmallLevel l = (l .vxr ≤ 2147483647) × (l .next ≤ 2147483648) × (l .last ≤ 2147483647)
+SmallLevel l = AllIn (levelRanges l)
 
 -- those of all levels
 abbrev pub SmallLevels : Levels → Type 0
 SmallLevels s = SmallLevel (s .a) × SmallLevel (s .b) × SmallLevel (s .c) × SmallLevel (s .d) × SmallLevel (s .e) × SmallLevel (s .f) × SmallLevel (s .g)
 
-pub record Within (w : W.Walk) : Type 0 where
-  pub kinds : Kinds w
-  pub small : Small w
+-- ---- the variable
+-- the one that is walked; where there is none, a VDR that breaks a rule stands for it
+abbrev pub variableBy : List ℕ → Option Var → Variable
+variableBy f none = vdrFault 20
+variableBy f (some u) = variableOf f (u .kind) (u .vdr)
+
+abbrev pub knownOf : List ℕ → W.Walk → Variable
+knownOf f w = variableBy f (indexed w)
+
+-- v is the variable whose index is walked
+abbrev pub KnownBy : List ℕ → Variable → Option Var → Type 0
+KnownBy f v none = Unit {0}
+KnownBy f v (some u) = v ≡ variableOf f (u .kind) (u .vdr)
+
+abbrev pub Known : List ℕ → Variable → W.Walk → Type 0
+Known f v w = KnownBy f v (indexed w)
+
+-- the VDR of a kind at the offset that the link at p says, 0 too, or v where the link passes the file's end
+abbrev pub linkedVariable : List ℕ → ℕ → ℕ → Variable → Variable
+linkedVariable f k p v = cond (ltb (endOf f) (p + 4)) v (variableOf f k (linkAt f p))
+
+-- the variable that the next link leads to; elsewhere still v
+abbrev pub nextVariable : List ℕ → W.Walk → Variable → Variable
+nextVariable f Start v = v
+nextVariable f (Vars k p n g) v = linkedVariable f k p v
+nextVariable f (Chain u p x floor c) v = v
+nextVariable f (Entry u x i floor c) v = v
+nextVariable f (Attrs p n) v = v
+nextVariable f (Entries k a n p e g) v = v
+nextVariable f (Unused p b) v = v
+
+-- v is the variable that the next link leads to, or whose index is walked
+pub record NextVariable (f : List ℕ) (v : Variable) (w : W.Walk) : Type 0 where
+  pub known : Known f v w
+  pub linked : (k p n g : ℕ) → w ≡ Vars k p n g → p + 4 ≤ endOf f → v ≡ variableOf f k (linkAt f p)

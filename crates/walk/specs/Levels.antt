@@ -1,12 +1,16 @@
 -- The index records above the one that is walked: at most seven, the nearest first. Request #104. Assumes nothing.
 use Prim.Native.Nat.{ℕ}
 use mathlib.Core.Bool.{Bool, true, false, cond}
+use mathlib.Core.Option.{Option, none, some}
 use lib.Dec.{eqb}
 use Rattle.records.specs.Index.{noLimit}
-use Rattle.walk.specs.declared.places.Level.{Level}
-use Rattle.walk.specs.declared.places.Levels.{Levels}
-use Rattle.walk.specs.declared.places.Turn as T
-use Rattle.walk.specs.declared.places.Turn.the-variants.{Over, End, Take, Down, Up}
+use Rattle.walk.specs.declared.positions.Var.{Var}
+use Rattle.walk.specs.declared.positions.Walk as W
+use Rattle.walk.specs.declared.positions.Walk.the-variants.{Start, Vars, Chain, Entry, Attrs, Entries, Unused}
+use Rattle.walk.specs.declared.positions.Level.{Level}
+use Rattle.walk.specs.declared.positions.Levels.{Levels}
+use Rattle.walk.specs.declared.positions.Step as T
+use Rattle.walk.specs.declared.positions.Step.the-variants.{Over, End, Take, Down, Up}
 
 abbrev pub noLevel : Level
 noLevel = record { vxr = 0; next = 0; last = 0 }
@@ -34,8 +38,8 @@ pushed l s = record { a = l; b = s .a; c = s .b; d = s .c; e = s .d; f = s .e; g
 abbrev pub popped : Levels → Levels
 popped s = record { a = s .b; b = s .c; c = s .d; d = s .e; e = s .f; f = s .g; g = noLevel }
 
--- those where a turn goes on
-abbrev pub levelsAfter : Levels → T.Turn → Levels
+-- those where a step goes on
+abbrev pub levelsAfter : Levels → T.Step → Levels
 levelsAfter s (Over w v) = s
 levelsAfter s (End v) = s
 levelsAfter s (Take w early o typed late) = s
@@ -43,9 +47,20 @@ levelsAfter s (Down w o typed l) = pushed l s
 levelsAfter s (Up w) = popped s
 
 -- they are others than before
-abbrev pub changesLevel : T.Turn → Bool
+abbrev pub changesLevel : T.Step → Bool
 changesLevel (Over w v) = false
 changesLevel (End v) = false
 changesLevel (Take w early o typed late) = false
 changesLevel (Down w o typed l) = true
 changesLevel (Up w) = true
+
+-- ---- where they stand
+-- the variable whose index is walked
+abbrev pub indexed : W.Walk → Option Var
+indexed Start = none
+indexed (Vars k p n g) = none
+indexed (Chain u p x floor c) = some u
+indexed (Entry u x i floor c) = some u
+indexed (Attrs p n) = none
+indexed (Entries k a n p e g) = none
+indexed (Unused p b) = none

@@ -15,41 +15,56 @@ use Rattle.records.specs.declared.index.Entry.{Entry}
 use Rattle.variables.specs.Vdr.{carriedOf, variableOf}
 use Rattle.variables.specs.declared.vdr.Variable.{Variable}
 use Rattle.walk.specs.Levels.{isNone, mostOf, roomBelow}
-use Rattle.walk.specs.declared.places.Var.{Var}
-use Rattle.walk.specs.declared.places.Level.{Level}
-use Rattle.walk.specs.declared.places.Levels.{Levels}
-use Rattle.walk.specs.declared.places.Walk as W
-use Rattle.walk.specs.declared.places.Walk.the-variants.{Start, Vars, Chain, Entry as AtEntry, Attrs, Entries, Unused}
-use Rattle.walk.specs.declared.places.Link as L
-use Rattle.walk.specs.declared.places.Link.the-variants.{Past, Zero, To}
-use Rattle.walk.specs.declared.places.Turn as T
-use Rattle.walk.specs.declared.places.Turn.the-variants.{Over, End, Take, Down, Up}
+use Rattle.walk.specs.declared.positions.Var.{Var}
+use Rattle.walk.specs.declared.positions.Level.{Level}
+use Rattle.walk.specs.declared.positions.Levels.{Levels}
+use Rattle.walk.specs.declared.positions.Walk as W
+use Rattle.walk.specs.declared.positions.Walk.the-variants.{Start, Vars, Chain, Entry as AtEntry, Attrs, Entries, Unused}
+use Rattle.walk.specs.declared.positions.Link as L
+use Rattle.walk.specs.declared.positions.Link.the-variants.{Past, Zero, To}
+use Rattle.walk.specs.declared.positions.Step as T
+use Rattle.walk.specs.declared.positions.Step.the-variants.{Over, End, Take, Down, Up}
 
 -- 8 for type; 20 if the file ends before it
 unfoldable pub typeNumber : List ℕ → ℕ → ℤ → ℕ
 typeNumber f o t = cond (ltb (endOf f) (o + 8)) 20 (unless 8 (typedAt f o t))
 
 -- a link to the record o that goes on at next if nothing refuses it; where something does, next means nothing and is Start
-abbrev pub takes : ℕ → ℕ → ℕ → ℕ → W.Walk → T.Turn
+abbrev pub takes : ℕ → ℕ → ℕ → ℕ → W.Walk → T.Step
 takes early o typed late next = Take (cond (eqb early 0 && eqb late 0) next Start) early o typed late
 
-abbrev pub refusedBy : ℕ → ℕ → ℕ → T.Turn
-refusedBy o typed late = Take Start 0 o typed late
-
--- the link that stands at p: 20 if the file ends before it; "A zero link ends a list"
-unfoldable pub followed : List ℕ → ℕ → T.Turn → (ℕ → T.Turn) → T.Turn
-followed f p zero taken = cond (ltb (endOf f) (p + 4)) (End 20) (cond (eqb (linkAt f p) 0) zero (taken (linkAt f p)))
-
--- where that link leads
+-- where the link that stands at p leads
 unfoldable pub leadsTo : List ℕ → ℕ → L.Link
 leadsTo f p = cond (ltb (endOf f) (p + 4)) Past (cond (eqb (linkAt f p) 0) Zero (To (linkAt f p)))
+
+-- the step at a link, by where it leads: 20 if the file ends before it; "A zero link ends a list"
+abbrev pub byLink : L.Link → T.Step → (ℕ → T.Step) → T.Step
+byLink Past over taken = End 20
+byLink Zero over taken = over
+byLink (To o) over taken = taken o
+
+-- a list, at one of its links: what its end comes to, the type of its records, and of a record the number of its rule and its place, and
+-- where the walk goes on in it
+pub record Listing : Type 0 where
+  pub over : T.Step
+  pub typed : ℤ
+  pub number : ℕ → ℕ
+  pub next : ℕ → W.Walk
+
+-- a link to the record o of a list
+abbrev pub claim : List ℕ → Listing → ℕ → T.Step
+claim f l o = takes 0 o (typeNumber f o (l .typed)) (l .number o) (l .next o)
+
+-- THE STEP AT A LINK OF A LIST, which stands at p
+unfoldable pub listStep : List ℕ → ℕ → Listing → T.Step
+listStep f p l = byLink (leadsTo f p) (l .over) (claim f l)
 
 -- the CDR's link to the GDR lies before the file's end; so it does in every file that an opening noted
 unfoldable pub gdrNamed : List ℕ → Bool
 gdrNamed f = leb 20 (endOf f)
 
 -- a list of the GDR is over; 20 if the link to the GDR passes the file's end
-abbrev pub overBy : List ℕ → ℕ → W.Walk → T.Turn
+abbrev pub overBy : List ℕ → ℕ → W.Walk → T.Step
 overBy f number next = cond (gdrNamed f) (Over next number) (End 20)
 
 -- 11 unless the field at p is z; 20 if it passes the file's end
@@ -77,18 +92,19 @@ abbrev pub intoIndex : List ℕ → ℕ → ℕ → ℕ → ℕ → W.Walk
 intoIndex f k n greatest o =
     Chain (record { kind = k; vdr = o; place = n; greatest = max (afterAt f (o + 16)) greatest }) (o + 20) 0 0 false
 
-abbrev pub varsOver : List ℕ → ℕ → ℕ → ℕ → T.Turn
+abbrev pub varsOver : List ℕ → ℕ → ℕ → ℕ → T.Step
 varsOver f k n greatest = overBy f (varsTally f k n greatest) (afterVars f k)
 
-abbrev pub varTaken : List ℕ → ℕ → ℕ → ℕ → ℕ → T.Turn
-varTaken f k n greatest o = takes 0 o (typeNumber f o (pos k)) (varNumber f k n o) (intoIndex f k n greatest o)
+abbrev pub varsList : List ℕ → ℕ → ℕ → ℕ → Listing
+varsList f k n greatest =
+    record { over = varsOver f k n greatest; typed = pos k; number = varNumber f k n; next = intoIndex f k n greatest }
 
 -- ---- an index. "VXRtail is the last VXR, or 0 if there is none; else 11. Then MaxRec is -1 or lies in some used entry's range; else 12";
 -- "VXRtail speaks of the top chain alone, and at its end MaxRec, unless -1, must now lie in the range of an entry that names values"
 unfoldable pub chainTally : List ℕ → ℕ → ℕ → Bool → ℕ
 chainTally f v last covered = first (fieldNumber f (v + 24) (pos last) ∷ unless 12 (isAt f (v + 16) (negsuc 0) || covered) ∷ [])
 
-abbrev pub chainOver : List ℕ → Var → ℕ → Bool → T.Turn
+abbrev pub chainOver : List ℕ → Var → ℕ → Bool → T.Step
 chainOver f u last covered =
     Over (Vars (u .kind) (u .vdr + 8) (u .place + 1) (u .greatest)) (chainTally f (u .vdr) last covered)
 
@@ -98,20 +114,23 @@ entered f u x i floor covered = cond (ltb i (usedAt f x)) (AtEntry u x i floor c
 
 -- a lower record is over: on to the neighbour of the entry that named it, in the record of the nearest level; 20 if that record's used
 -- passes the file's end
-abbrev pub lowerOver : List ℕ → Var → Level → Bool → T.Turn
+abbrev pub lowerOver : List ℕ → Var → Level → Bool → T.Step
 lowerOver f u near covered =
     cond (ltb (endOf f) (near .vxr + 20)) (End 20) (Up (entered f u (near .vxr) (near .next) (near .last + 1) covered))
 
--- the top chain is over, or a lower record
-abbrev pub indexOver : List ℕ → Var → Level → ℕ → Bool → T.Turn
-indexOver f u near last covered = cond (isNone near) (chainOver f u last covered) (lowerOver f u near covered)
+-- the top chain: VXRhead or a next, to a VXR
+abbrev pub chainList : List ℕ → Var → ℕ → ℕ → Bool → Listing
+chainList f u last floor covered =
+    record { over = chainOver f u last covered; typed = pos 6; number = vxrRule f; next = λ o. entered f u o 0 floor covered }
 
-abbrev pub vxrTaken : List ℕ → Var → ℕ → Bool → ℕ → T.Turn
-vxrTaken f u floor covered o = takes 0 o (typeNumber f o (pos 6)) (vxrRule f o) (entered f u o 0 floor covered)
+-- the next of a lower record, which stands at p: "a lower record has next 0 (else 11 ..)"
+unfoldable pub lowerNext : List ℕ → Var → Level → ℕ → Bool → T.Step
+lowerNext f u near p covered = byLink (leadsTo f p) (lowerOver f u near covered) (λ o. End 11)
 
--- a link of the top chain, VXRhead or a next, to a VXR; a next of a lower record that is not 0: "a lower record has next 0 (else 11 ..)"
-abbrev pub indexTaken : List ℕ → Var → Level → ℕ → Bool → ℕ → T.Turn
-indexTaken f u near floor covered o = cond (isNone near) (vxrTaken f u floor covered o) (End 11)
+-- a link of an index
+abbrev pub chainStep : List ℕ → Level → Var → ℕ → ℕ → ℕ → Bool → T.Step
+chainStep f near u p last floor covered =
+    cond (isNone near) (listStep f p (chainList f u last floor covered)) (lowerNext f u near p covered)
 
 -- MaxRec of the VDR v lies in an entry's range
 abbrev pub covers : List ℕ → ℕ → Entry → Bool
@@ -121,12 +140,12 @@ covers f v e = atLeast f (v + 16) (pos 0) && (leb (e .first) (natAt f (v + 16)) 
 unfoldable pub valuesNumber : List ℕ → Variable → Entry → ℕ
 valuesNumber f v e = first (reachOf f (e .link) 8 ∷ v .fault ∷ vvrRule f (e .link) (e .last - e .first + 1) (v .bytes) ∷ [])
 
-abbrev pub entryRefused : Entry → ℕ → ℕ → T.Turn
+abbrev pub entryRefused : Entry → ℕ → ℕ → T.Step
 entryRefused e typed late = Take Start (e .fault) (e .link) typed late
 
 -- an entry that names values
-abbrev pub valuesTurn : List ℕ → Var → ℕ → ℕ → Bool → Entry → T.Turn
-valuesTurn f u x i covered e =
+abbrev pub valuesStep : List ℕ → Var → ℕ → ℕ → Bool → Entry → T.Step
+valuesStep f u x i covered e =
     takes (e .fault) (e .link) (typeNumber f (e .link) (pos 7)) (valuesNumber f (variableOf f (u .kind) (u .vdr)) e)
     (entered f u x (i + 1) (e .last + 1) (covered || covers f (u .vdr) e))
 
@@ -136,30 +155,30 @@ lowerNumber f o = first (vxrRule f o ∷ unless 11 (isAt f (o + 8) (pos 0)) ∷ 
 
 -- an entry that names an index record: "deeper is refused with 23, looked for right after the type"; "its entries are taken before the
 -- naming entry's neighbour". Where room, a level more may lie below. An entry whose range or record is refused is a link that is refused
-abbrev pub lowerTurn : List ℕ → Var → ℕ → ℕ → Bool → Bool → Entry → T.Turn
-lowerTurn f u x i covered room e =
+abbrev pub lowerStep : List ℕ → Var → ℕ → ℕ → Bool → Bool → Entry → T.Step
+lowerStep f u x i covered room e =
     cond (eqb (e .fault) 0 && eqb (lowerNumber f (e .link)) 0)
     (Down (entered f u (e .link) 0 (e .first) covered) (e .link) (unless 23 room) (record { vxr = x; next = i + 1; last = e .last }))
     (entryRefused e (unless 23 room) (lowerNumber f (e .link)))
 
 -- an entry whose own range refuses it, of the variable v: its other numbers count no more
-abbrev pub entryFaulty : List ℕ → Variable → Bool → Entry → T.Turn
+abbrev pub entryFaulty : List ℕ → Variable → Bool → Entry → T.Step
 entryFaulty f v room e =
     cond (indexAt f (e .link)) (entryRefused e (unless 23 room) (lowerNumber f (e .link)))
     (entryRefused e (typeNumber f (e .link) (pos 7)) (valuesNumber f v e))
 
-abbrev pub entryTurn : List ℕ → Var → ℕ → ℕ → Bool → Bool → Entry → T.Turn
-entryTurn f u x i covered room e = cond (indexAt f (e .link)) (lowerTurn f u x i covered room e) (valuesTurn f u x i covered e)
+abbrev pub entryStep : List ℕ → Var → ℕ → ℕ → Bool → Bool → Entry → T.Step
+entryStep f u x i covered room e = cond (indexAt f (e .link)) (lowerStep f u x i covered room e) (valuesStep f u x i covered e)
 
 -- ---- attributes: NumAttr 28; an attribute's g/r entries are counted at 24, its z entries at 40, the maximum behind the count
 unfoldable pub attrNumber : List ℕ → ℕ → ℕ → ℕ
 attrNumber f n o = first (adrRule f o ∷ unless 11 (isAt f (o + 20) (pos n)) ∷ [])
 
-abbrev pub attrsOver : List ℕ → ℕ → T.Turn
+abbrev pub attrsOver : List ℕ → ℕ → T.Step
 attrsOver f n = overBy f (fieldNumber f (gdrAt f + 28) (pos n)) (Unused (gdrAt f + 44) 0)
 
-abbrev pub attrTaken : List ℕ → ℕ → ℕ → T.Turn
-attrTaken f n o = takes 0 o (typeNumber f o (pos 4)) (attrNumber f n o) (Entries 5 o n (o + 12) 0 0)
+abbrev pub attrsList : List ℕ → ℕ → Listing
+attrsList f n = record { over = attrsOver f n; typed = pos 4; number = attrNumber f n; next = λ o. Entries 5 o n (o + 12) 0 0 }
 
 abbrev pub tallyPlace : ℕ → ℕ
 tallyPlace k = cond (eqb k 9) 40 24
@@ -171,7 +190,7 @@ entriesTally f k a n greatest = tallied f (a + tallyPlace k) n (a + tallyPlace k
 abbrev pub afterEntries : ℕ → ℕ → ℕ → W.Walk
 afterEntries k a n = cond (eqb k 9) (Attrs (a + 8) (n + 1)) (Entries 9 a n (a + 36) 0 0)
 
-abbrev pub entriesOver : List ℕ → ℕ → ℕ → ℕ → ℕ → ℕ → T.Turn
+abbrev pub entriesOver : List ℕ → ℕ → ℕ → ℕ → ℕ → ℕ → T.Step
 entriesOver f k a n e greatest = Over (afterEntries k a n) (entriesTally f k a e greatest)
 
 -- "an entry's Num is its attribute's"; 20 if that one passes the file's end
@@ -185,46 +204,36 @@ entryNumber f a o = first (aedrRule f o ∷ numNumber f a o ∷ [])
 unfoldable pub oneMore : ℕ → ℕ
 oneMore n = min (n + 1) 2147483648
 
-abbrev pub entryTaken : List ℕ → ℕ → ℕ → ℕ → ℕ → ℕ → ℕ → T.Turn
-entryTaken f k a n e greatest o =
-    takes 0 o (typeNumber f o (pos k)) (entryNumber f a o) (Entries k a n (o + 8) (oneMore e) (max (afterAt f (o + 20)) greatest))
+abbrev pub entriesList : List ℕ → ℕ → ℕ → ℕ → ℕ → ℕ → Listing
+entriesList f k a n e greatest =
+    record {
+      over = entriesOver f k a n e greatest;
+      typed = pos k;
+      number = entryNumber f a;
+      next = λ o. Entries k a n (o + 8) (oneMore e) (max (afterAt f (o + 20)) greatest);
+    }
 
 -- ---- unused records: "a UIR's previous is its predecessor, 0 for the first"
 unfoldable pub unusedNumber : List ℕ → ℕ → ℕ → ℕ
 unusedNumber f b o = first (uirRule f o ∷ unless 11 (isAt f (o + 12) (pos b)) ∷ [])
 
-abbrev pub unusedTaken : List ℕ → ℕ → ℕ → T.Turn
-unusedTaken f b o = takes 0 o (typeNumber f o (negsuc 0)) (unusedNumber f b o) (Unused (o + 8) o)
+abbrev pub unusedList : List ℕ → ℕ → Listing
+unusedList f b = record { over = End 0; typed = negsuc 0; number = unusedNumber f b; next = λ o. Unused (o + 8) o }
 
--- ---- a step at each kind of link
-abbrev pub startTurn : List ℕ → T.Turn
-startTurn f = cond (gdrNamed f) (takes 0 (gdrAt f) (typeNumber f (gdrAt f) (pos 2)) 0 (Vars 3 (gdrAt f + 8) 0 0)) (End 20)
-
-abbrev pub varsTurn : List ℕ → ℕ → ℕ → ℕ → ℕ → T.Turn
-varsTurn f k p n greatest = followed f p (varsOver f k n greatest) (varTaken f k n greatest)
-
-abbrev pub chainTurn : List ℕ → Level → Var → ℕ → ℕ → ℕ → Bool → T.Turn
-chainTurn f near u p x floor covered = followed f p (indexOver f u near x covered) (indexTaken f u near floor covered)
-
-abbrev pub attrsTurn : List ℕ → ℕ → ℕ → T.Turn
-attrsTurn f p n = followed f p (attrsOver f n) (attrTaken f n)
-
-abbrev pub entriesTurn : List ℕ → ℕ → ℕ → ℕ → ℕ → ℕ → ℕ → T.Turn
-entriesTurn f k a n p e greatest = followed f p (entriesOver f k a n e greatest) (entryTaken f k a n e greatest)
-
-abbrev pub unusedTurn : List ℕ → ℕ → ℕ → T.Turn
-unusedTurn f p b = followed f p (End 0) (unusedTaken f b)
+-- ---- a step at the CDR's link to the GDR, and at each kind of link
+abbrev pub startStep : List ℕ → T.Step
+startStep f = cond (gdrNamed f) (takes 0 (gdrAt f) (typeNumber f (gdrAt f) (pos 2)) 0 (Vars 3 (gdrAt f + 8) 0 0)) (End 20)
 
 -- THE WALK, a case for each kind of link. Of the levels above the record that is walked a step looks at the nearest, near, and at whether
 -- there is room for one more
-unfoldable pub turnBy : List ℕ → Level → Bool → W.Walk → T.Turn
-turnBy f near room Start = startTurn f
-turnBy f near room (Vars k p n greatest) = varsTurn f k p n greatest
-turnBy f near room (Chain u p x floor covered) = chainTurn f near u p x floor covered
-turnBy f near room (AtEntry u x i floor covered) = entryTurn f u x i covered room (entryOf f x i floor (mostOf near))
-turnBy f near room (Attrs p n) = attrsTurn f p n
-turnBy f near room (Entries k a n p e greatest) = entriesTurn f k a n p e greatest
-turnBy f near room (Unused p b) = unusedTurn f p b
+unfoldable pub walkStepBy : List ℕ → Level → Bool → W.Walk → T.Step
+walkStepBy f near room Start = startStep f
+walkStepBy f near room (Vars k p n greatest) = listStep f p (varsList f k n greatest)
+walkStepBy f near room (Chain u p last floor covered) = chainStep f near u p last floor covered
+walkStepBy f near room (AtEntry u x i floor covered) = entryStep f u x i covered room (entryOf f x i floor (mostOf near))
+walkStepBy f near room (Attrs p n) = listStep f p (attrsList f n)
+walkStepBy f near room (Entries k a n p e greatest) = listStep f p (entriesList f k a n e greatest)
+walkStepBy f near room (Unused p b) = listStep f p (unusedList f b)
 
-abbrev pub turnOf : List ℕ → Levels → W.Walk → T.Turn
-turnOf f up w = turnBy f (up .a) (roomBelow up) w
+abbrev pub walkStep : List ℕ → Levels → W.Walk → T.Step
+walkStep f up w = walkStepBy f (up .a) (roomBelow up) w

@@ -6,14 +6,14 @@ ghost use Rattle.records.specs.Index.{Bounds, entryOf};
 ghost use Rattle.variables.specs.Vdr.{variableOf};
 ghost use Rattle.walk.specs.Levels.{mostOf};
 ghost use Rattle.walk.specs.Bounds.{SmallLevel};
-ghost use Rattle.walk.specs.Walk.{chainTally, chainOver, entered, lowerOver, indexOver, indexTaken, covers, valuesNumber, vxrTaken, entryRefused, valuesTurn, lowerNumber, lowerTurn, entryFaulty, entryTurn, chainTurn};
+ghost use Rattle.walk.specs.Walk.{chainTally, chainOver, entered, lowerOver, lowerNext, chainList, listStep, covers, valuesNumber, entryRefused, valuesStep, lowerNumber, lowerStep, entryFaulty, entryStep, chainStep};
 use crate::levels;
 use crate::links;
-use crate::places::Level;
-use crate::places::Link;
-use crate::places::Turn;
-use crate::places::Var;
-use crate::places::Walk;
+use crate::positions::Level;
+use crate::positions::Link;
+use crate::positions::Step;
+use crate::positions::Var;
+use crate::positions::Walk;
 use format::fields;
 use records::index;
 use records::index::Entry;
@@ -33,12 +33,12 @@ fn chain_tally(f: &[u8], v: u32, last: u32, covered: bool) -> u32
 }
 
 // The index chain of a variable is over.
-fn chain_over(f: &[u8], u: Var, last: u32, covered: bool) -> Turn
+fn chain_over(f: &[u8], u: Var, last: u32, covered: bool) -> Step
     requires { ⌜ (u .vdr < 2147483648) × (u .place < 2147483648) ⌝ }
     ensures { λ r. ⌜ r ≡ chainOver (now (f .entry)) u last covered ⌝ }
 {
     let v = u.vdr;
-    Turn::Over {
+    Step::Over {
         number: chain_tally(f, v, last, covered),
         next: Walk::Vars {
             kind: u.kind,
@@ -72,63 +72,55 @@ fn enter(f: &[u8], u: Var, x: u32, i: u32, floor: u32, covered: bool) -> Walk
     }
 }
 
-// A link to a VXR.
-fn vxr_taken(f: &[u8], u: Var, floor: u32, covered: bool, o: u32) -> Turn
-    requires { ⌜ o < 2147483648 ⌝ }
-    ensures { λ r. ⌜ r ≡ vxrTaken (now (f .entry)) u floor covered o ⌝ }
-{
-    let typed = links::type_number(f, o, 6);
-    let late = index::vxr(f, o);
-    if late != 0 {
-        return links::refused(o, typed, late);
-    }
-    Turn::Take {
-        early: 0,
-        target: o,
-        typed,
-        late,
-        next: enter(f, u, o, 0, floor, covered),
-    }
-}
-
 // A lower record is over: on to the neighbour of the entry that named it.
-fn lower_over(f: &[u8], u: Var, near: Level, covered: bool) -> Turn
+fn lower_over(f: &[u8], u: Var, near: Level, covered: bool) -> Step
     requires { ⌜ SmallLevel near ⌝ }
     ensures { λ r. ⌜ r ≡ lowerOver (now (f .entry)) u near covered ⌝ }
 {
     let x = near.vxr;
     if fields::end(f) < x as usize + 20 {
-        return Turn::End { number: 20 };
+        return Step::End { number: 20 };
     }
-    Turn::Up {
+    Step::Up {
         next: enter(f, u, x, near.next, near.last + 1, covered),
     }
 }
 
-// The index chain of a variable is over, or a lower record is.
-fn index_over(f: &[u8], u: Var, near: Level, last: u32, covered: bool) -> Turn
-    requires { ⌜ (u .vdr < 2147483648) × (u .place < 2147483648) × SmallLevel near ⌝ }
-    ensures { λ r. ⌜ r ≡ indexOver (now (f .entry)) u near last covered ⌝ }
+// The next of a lower record.
+fn lower_next(f: &[u8], u: Var, near: Level, link: u32, covered: bool) -> Step
+    requires { ⌜ SmallLevel near ⌝ }
+    ensures { λ r. ⌜ r ≡ lowerNext (now (f .entry)) u near link covered ⌝ }
 {
-    if levels::is_none(near) {
-        return chain_over(f, u, last, covered);
+    let l = links::link_from(f, link);
+    match l {
+        Link::Past => Step::End { number: 20 },
+        Link::Zero => lower_over(f, u, near, covered),
+        Link::To { .. } => Step::End { number: 11 },
     }
-    lower_over(f, u, near, covered)
 }
 
-// A next that is not 0: a lower record has none.
-fn index_taken(f: &[u8], u: Var, near: Level, floor: u32, covered: bool, o: u32) -> Turn
-    requires { ⌜ o < 2147483648 ⌝ }
-    ensures { λ r. ⌜ r ≡ indexTaken (now (f .entry)) u near floor covered o ⌝ }
+// A link of the top chain of a variable's index.
+fn top_step(f: &[u8], u: Var, link: u32, before: u32, floor: u32, covered: bool) -> Step
+    requires { ⌜ (u .vdr < 2147483648) × (u .place < 2147483648) ⌝ }
+    ensures { λ r. ⌜ r ≡ listStep (now (f .entry)) link (chainList (now (f .entry)) u before floor covered) ⌝ }
 {
-    if levels::is_none(near) {
-        return vxr_taken(f, u, floor, covered, o);
+    let l = links::link_from(f, link);
+    match l {
+        Link::Past => Step::End { number: 20 },
+        Link::Zero => chain_over(f, u, before, covered),
+        Link::To { at } => {
+            let typed = links::type_number(f, at, 6);
+            let late = index::vxr(f, at);
+            if late != 0 {
+                return links::refused(at, typed, late);
+            }
+            links::taken(at, typed, enter(f, u, at, 0, floor, covered))
+        }
     }
-    Turn::End { number: 11 }
 }
 
 // A link of an index chain, or the next of a lower record.
-pub fn chain_turn(
+pub fn chain_step(
     f: &[u8],
     near: Level,
     u: Var,
@@ -136,16 +128,14 @@ pub fn chain_turn(
     before: u32,
     floor: u32,
     covered: bool,
-) -> Turn
+) -> Step
     requires { ⌜ (u .vdr < 2147483648) × (u .place < 2147483648) × SmallLevel near ⌝ }
-    ensures { λ r. ⌜ r ≡ chainTurn (now (f .entry)) near u link before floor covered ⌝ }
+    ensures { λ r. ⌜ r ≡ chainStep (now (f .entry)) near u link before floor covered ⌝ }
 {
-    let l = links::link_from(f, link);
-    match l {
-        Link::Past => Turn::End { number: 20 },
-        Link::Zero => index_over(f, u, near, before, covered),
-        Link::To { at } => index_taken(f, u, near, floor, covered, at),
+    if levels::is_none(near) {
+        return top_step(f, u, link, before, floor, covered);
     }
+    lower_next(f, u, near, link, covered)
 }
 
 // MaxRec of the VDR at v lies in an entry's range.
@@ -173,10 +163,10 @@ fn values_number(f: &[u8], v: Variable, e: Entry) -> u32
 }
 
 // An index entry that is refused.
-fn entry_refused(e: Entry, typed: u32, late: u32) -> Turn
+fn entry_refused(e: Entry, typed: u32, late: u32) -> Step
     ensures { λ r. ⌜ r ≡ entryRefused e typed late ⌝ }
 {
-    Turn::Take {
+    Step::Take {
         early: e.fault,
         target: e.link,
         typed,
@@ -186,9 +176,9 @@ fn entry_refused(e: Entry, typed: u32, late: u32) -> Turn
 }
 
 // An entry that names values of the variable v.
-fn entry_values(f: &[u8], u: Var, v: Variable, x: u32, i: u32, covered: bool, e: Entry) -> Turn
+fn entry_values(f: &[u8], u: Var, v: Variable, x: u32, i: u32, covered: bool, e: Entry) -> Step
     requires { ⌜ (v ≡ variableOf (now f) (u .kind) (u .vdr)) × (x < 2147483648) × (i < 2147483648) × Bounds (now f) x e × (e .fault ≡ 0) ⌝ }
-    ensures { λ r. ⌜ r ≡ valuesTurn (now (f .entry)) u x i covered e ⌝ }
+    ensures { λ r. ⌜ r ≡ valuesStep (now (f .entry)) u x i covered e ⌝ }
 {
     let typed = links::type_number(f, e.link, 7);
     let late = values_number(f, v, e);
@@ -196,7 +186,7 @@ fn entry_values(f: &[u8], u: Var, v: Variable, x: u32, i: u32, covered: bool, e:
         return entry_refused(e, typed, late);
     }
     let reached = covered | is_covered(f, u.vdr, e);
-    Turn::Take {
+    Step::Take {
         early: e.fault,
         target: e.link,
         typed,
@@ -217,9 +207,9 @@ fn lower_number(f: &[u8], o: u32) -> u32
 }
 
 // An entry that names an index record.
-fn entry_lower(f: &[u8], u: Var, x: u32, i: u32, covered: bool, room: bool, e: Entry) -> Turn
+fn entry_lower(f: &[u8], u: Var, x: u32, i: u32, covered: bool, room: bool, e: Entry) -> Step
     requires { ⌜ (x < 2147483648) × (i < 2147483648) × Bounds (now f) x e × (e .fault ≡ 0) ⌝ }
-    ensures { λ r. ⌜ r ≡ lowerTurn (now (f .entry)) u x i covered room e ⌝ }
+    ensures { λ r. ⌜ r ≡ lowerStep (now (f .entry)) u x i covered room e ⌝ }
 {
     let o = e.link;
     let after = i + 1;
@@ -228,7 +218,7 @@ fn entry_lower(f: &[u8], u: Var, x: u32, i: u32, covered: bool, room: bool, e: E
     if late != 0 {
         return entry_refused(e, typed, late);
     }
-    Turn::Down {
+    Step::Down {
         target: o,
         typed,
         next: enter(f, u, o, 0, e.first, covered),
@@ -241,7 +231,7 @@ fn entry_lower(f: &[u8], u: Var, x: u32, i: u32, covered: bool, room: bool, e: E
 }
 
 // An entry whose own range refuses it, of the variable v.
-fn entry_faulty(f: &[u8], v: Variable, room: bool, e: Entry) -> Turn
+fn entry_faulty(f: &[u8], v: Variable, room: bool, e: Entry) -> Step
     requires { ⌜ (v .bytes ≤ 2147483648) × (e .first ≤ e .last) × (e .last < 2147483648) ⌝ }
     ensures { λ r. ⌜ r ≡ entryFaulty (now (f .entry)) v room e ⌝ }
 {
@@ -254,7 +244,7 @@ fn entry_faulty(f: &[u8], v: Variable, room: bool, e: Entry) -> Turn
 }
 
 // An entry of an index record, of the variable v.
-pub fn entry_turn(
+pub fn entry_step(
     f: &[u8],
     near: Level,
     room: bool,
@@ -264,9 +254,9 @@ pub fn entry_turn(
     i: u32,
     floor: u32,
     covered: bool,
-) -> Turn
+) -> Step
     requires { ⌜ (v ≡ variableOf (now f) (u .kind) (u .vdr)) × (x < 2147483648) × (i < 2147483648) ⌝ }
-    ensures { λ r. ⌜ r ≡ entryTurn (now (f .entry)) u x i covered room (entryOf (now (f .entry)) x i floor (mostOf near)) ⌝ }
+    ensures { λ r. ⌜ r ≡ entryStep (now (f .entry)) u x i covered room (entryOf (now (f .entry)) x i floor (mostOf near)) ⌝ }
 {
     let e = index::entry_at(f, x, i, floor, levels::most_of(near));
     if e.fault != 0 {

@@ -1,7 +1,7 @@
 // The variable that the walk is at: its VDR is judged once, before the link to it is taken, and kept while its index is walked.
 ghost use mathlib.Core.Path.{_≡_};
-ghost use Rattle.walk.specs.Known.{knownOf, linkedOf, lookedOf};
-use crate::places::Walk;
+ghost use Rattle.walk.specs.Bounds.{knownOf, linkedVariable, nextVariable};
+use crate::positions::Walk;
 use format::fields;
 use variables::vdr;
 use variables::vdr::Variable;
@@ -23,7 +23,7 @@ pub fn known(f: &[u8], w: Walk) -> Variable
 
 // The VDR of a kind that a link leads to, or v where the link passes the file's end.
 fn linked(f: &[u8], kind: u32, link: u32, v: Variable) -> Variable
-    ensures { λ r. ⌜ r ≡ linkedOf (now (f .entry)) kind link v ⌝ }
+    ensures { λ r. ⌜ r ≡ linkedVariable (now (f .entry)) kind link v ⌝ }
 {
     let p = link as usize;
     if fields::end(f) < p + 4 {
@@ -33,8 +33,8 @@ fn linked(f: &[u8], kind: u32, link: u32, v: Variable) -> Variable
 }
 
 // The variable that the next link leads to; elsewhere still v, the one whose index is walked.
-pub fn looked(f: &[u8], w: Walk, v: Variable) -> Variable
-    ensures { λ r. ⌜ r ≡ lookedOf (now (f .entry)) w v ⌝ }
+pub fn next_variable(f: &[u8], w: Walk, v: Variable) -> Variable
+    ensures { λ r. ⌜ r ≡ nextVariable (now (f .entry)) w v ⌝ }
 {
     match w {
         Walk::Start => v,

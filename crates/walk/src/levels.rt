@@ -1,9 +1,9 @@
 // The index records above the one that is walked.
 ghost use mathlib.Core.Path.{_≡_};
 ghost use Rattle.walk.specs.Levels.{noLevel, noLevels, isNone, mostOf, roomBelow, pushed, popped, levelsAfter, changesLevel};
-use crate::places::Level;
-use crate::places::Levels;
-use crate::places::Turn;
+use crate::positions::Level;
+use crate::positions::Levels;
+use crate::positions::Step;
 
 // No record.
 pub fn no_level() -> Level
@@ -97,28 +97,28 @@ fn pop(s: Levels) -> Levels
     }
 }
 
-// The levels where a turn goes on.
-pub fn after(s: Levels, t: Turn) -> Levels
+// The levels where a step goes on.
+pub fn after(s: Levels, t: Step) -> Levels
     ensures { λ r. ⌜ r ≡ levelsAfter s t ⌝ }
 {
     match t {
-        Turn::Over { .. } => s,
-        Turn::End { .. } => s,
-        Turn::Take { .. } => s,
-        Turn::Down { level, .. } => push(level, s),
-        Turn::Up { .. } => pop(s),
+        Step::Over { .. } => s,
+        Step::End { .. } => s,
+        Step::Take { .. } => s,
+        Step::Down { level, .. } => push(level, s),
+        Step::Up { .. } => pop(s),
     }
 }
 
 // They are others than before.
-pub fn changes_level(t: Turn) -> bool
+pub fn changes_level(t: Step) -> bool
     ensures { λ r. ⌜ r ≡ changesLevel t ⌝ }
 {
     match t {
-        Turn::Over { .. } => false,
-        Turn::End { .. } => false,
-        Turn::Take { .. } => false,
-        Turn::Down { .. } => true,
-        Turn::Up { .. } => true,
+        Step::Over { .. } => false,
+        Step::End { .. } => false,
+        Step::Take { .. } => false,
+        Step::Down { .. } => true,
+        Step::Up { .. } => true,
     }
 }

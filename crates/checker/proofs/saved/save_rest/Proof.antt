@@ -82,7 +82,7 @@ returns : tie.Need-returns
 returns c =
     let a = c .before .before .before .before .before .before .before .args in
     let l = a .s .now in
-    let rest : List ℕ = saveLevels (a .up) ++ (a .place ∷ []) in
+    let rest : List ℕ = saveLevels (a .up) ++ (a .location ∷ []) in
     let h : length l ≡ 34 = search needs in
     sets-eq rest l 12 (omega arith)
     ∙ ap (λ (r : List ℕ). take 12 l ++ rest ++ r) (drop-of-length-le l {i = 34} (omega arith))

@@ -22,8 +22,8 @@ stage-numbers-requires c κs = c .before .pre .1
 levels-in-requires : tie.Need-levels-in-requires Inv-loop μ-loop
 levels-in-requires c κs = search needs
 
-place-in-requires : tie.Need-place-in-requires Inv-loop μ-loop
-place-in-requires c κs = search needs
+location-in-requires : tie.Need-location-in-requires Inv-loop μ-loop
+location-in-requires c κs = search needs
 
 save-rest-requires : tie.Need-save-rest-requires Inv-loop μ-loop
 save-rest-requires c κs = c .before .before .before .before .before .pre .0
@@ -31,7 +31,7 @@ save-rest-requires c κs = c .before .before .before .before .before .pre .0
 loop-holds : tie.Need-loop-holds Inv-loop μ-loop
 loop-holds c =
     let rest = c .before .before .save-rest in
-    let place = c .before .before .before .place-in in
+    let place = c .before .before .before .location-in in
     let up = c .before .before .before .before .levels-in in
     let n = c .before .before .before .before .before .before .stage-numbers in
     let a = c .before .before .before .before .before .before .before .before in
@@ -75,7 +75,7 @@ unfolding save
 returns c =
     let l = c .before .loop in
     let rest = c .before .before .before .before .save-rest in
-    let place = c .before .before .before .before .before .place-in in
+    let place = c .before .before .before .before .before .location-in in
     let up = c .before .before .before .before .before .before .levels-in in
     let n = c .before .before .before .before .before .before .before .before .stage-numbers in
     let a = c .before .before .before .before .before .before .before .before .before .before in
@@ -94,7 +94,7 @@ save-state-spec =
     μ-loop
     stage-numbers-requires
     levels-in-requires
-    place-in-requires
+    location-in-requires
     save-rest-requires
     loop-holds
     mul-s

@@ -1,5 +1,5 @@
 use borrow.Author.Tests.{eq-eqb, ne-eqb}
-use Rattle.checker.specs.Step.{turned}
+use Rattle.checker.specs.Step.{stepped}
 use borrow.Author.Needs.{needs}
 use Rattle.checker.proofs.steps.walk_over.Statement.{statement}
 use Rattle.checker.proofs.steps.walk_over.Tie as tie
@@ -14,7 +14,7 @@ over-requires : tie.Need-over-requires
 over-requires c κs = search needs
 
 returns : tie.Need-returns
-unfolding turned
+unfolding stepped
 returns c = λ n up. simp (c .over .ensures, c .before .ending .ensures, c .before .before .holder .ensures, ne-eqb _ _ (c .before .before .before .if1 .taken))
 
 left-requires : tie.Need-left-requires
@@ -27,7 +27,7 @@ over-requires-2 : tie.Need-over-requires-2
 over-requires-2 c κs = search needs
 
 returns-2 : tie.Need-returns-2
-unfolding turned
+unfolding stepped
 returns-2 c = λ n up. simp (c .over2 .ensures, c .before .leaving .ensures, c .before .before .left .ensures, eq-eqb _ _ (c .before .before .before .if1 .left))
 
 pub walk-over-spec : {M : Type 1} → statement M

@@ -1,0 +1,100 @@
+use mathlib.Core.Path.{_≡_, _∙_, sym, ap, refl}
+use Prim.Native.Nat.{_≤_, _-_, ℕ}
+use lib.ListN.{length}
+use Rattle.checker.specs.Step.{conf, runOf}
+use Rattle.checker.proofs.Loop.{ran, run-on, early, left-loaded, still-own}
+use borrow.Author.Needs.{needs}
+use native.Mathlib.Omega.{arith}
+use Rattle.checker.proofs.runs.run.Statement.{statement}
+use Rattle.checker.proofs.runs.run.Tie as tie
+
+abbrev Inv-loop : tie.InvT-loop
+Inv-loop f m₀ n e t₀ k₀ m t k = (k ≤ n) × (length m ≡ length m₀) × (ran t m k ≡ runOf f (conf t₀ m₀) k)
+
+abbrev μ-loop : tie.MeasureT-loop
+μ-loop f m₀ n e t₀ k₀ m t k = n - k
+
+end-requires : tie.Need-end-requires Inv-loop μ-loop
+end-requires c κs = search needs
+
+loop-holds : tie.Need-loop-holds Inv-loop μ-loop
+unfolding runOf
+loop-holds c = (search needs, refl, refl)
+
+is-finished-requires : tie.Need-is-finished-requires Inv-loop μ-loop
+is-finished-requires c κs = search needs
+
+same-length : tie.Need-same-length Inv-loop μ-loop
+same-length c = search needs
+
+returns : tie.Need-returns Inv-loop μ-loop
+returns c =
+    let l = c .before .before .before .loop in
+    let a = c .before .before .before .before .before .before .before .args in
+    let t = c .before .before .loop-test .taken in
+    let d = c .before .is-finished in
+    early (a .f .now) (conf (a .s) (a .m .now)) (l .k) (l .t) (l .m) (l .inv .2) (sym (d .ensures) ∙ c .if1 .taken) (a .n) (omega arith)
+
+sub-run-stage : tie.Need-sub-run-stage Inv-loop μ-loop
+sub-run-stage c = search needs
+
+run-stage-requires : tie.Need-run-stage-requires Inv-loop μ-loop
+run-stage-requires c κs =
+    let l = c .before .before .before .before .loop in
+    let a = c .before .before .before .before .before .before .before .before in
+    let f = a .args .f .now in
+    let s = a .args .s in
+    let m = a .args .m .now in (
+      c .before .before .before .before .before .end .ensures .0,
+      left-loaded f s m (a .pre .0) (a .pre .1) (l .k) (l .k) (l .t) (l .m) (l .inv .2),
+      still-own f s m (a .pre .0) (a .pre .1) (l .k) (l .t) (l .m) (l .inv .2),
+      omega (arith, c .before .before .before .loop-test .taken),
+    )
+
+add-k : tie.Need-add-k Inv-loop μ-loop
+add-k c = let l = c .before .before .before .before .before .before .before .before .before .loop in omega (arith, l .inv .0, c .before .before .before .before .run-stage .ensures .2)
+
+loop-less : tie.Need-loop-less Inv-loop μ-loop
+loop-less c =
+    let d = c .before .before .before .before .run-stage in
+    let more = d .ensures .1 (sym (c .before .before .before .before .before .before .before .is-finished .ensures) ∙ c .before .before .before .before .before .before .if1 .left) in
+    omega (arith, more, d .ensures .2, c .before .before .before .before .before .before .before .before .loop-test .taken)
+
+loop-again : tie.Need-loop-again Inv-loop μ-loop
+loop-again c =
+    let l = c .before .before .before .before .before .before .before .before .before .loop in
+    let a = c .before .before .before .before .before .before .before .before .before .before .before .before .before .args in
+    let d = c .before .before .before .before .run-stage in (
+      omega (arith, l .inv .0, d .ensures .2),
+      search needs,
+      run-on (a .f .now) (conf (a .s) (a .m .now)) (l .k) (l .t) (l .m) (l .inv .2) (d .result .made) (d .result .state) _ (d .ensures .0),
+    )
+
+same-length-2 : tie.Need-same-length-2 Inv-loop μ-loop
+same-length-2 c = search needs
+
+returns-2 : tie.Need-returns-2 Inv-loop μ-loop
+returns-2 c =
+    let l = c .before .loop in
+    let a = c .before .before .before .before .before .args in
+    let done : l .k ≡ a .n = omega (arith, c .loop-test .left) in
+    l .inv .2 ∙ ap (λ (j : ℕ). runOf (a .f .now) (conf (a .s) (a .m .now)) j) done
+
+pub run-spec : {M : Type 1} → statement M
+run-spec =
+    tie.close
+    (tie.spec
+    Inv-loop
+    μ-loop
+    end-requires
+    loop-holds
+    is-finished-requires
+    same-length
+    returns
+    sub-run-stage
+    run-stage-requires
+    add-k
+    loop-less
+    loop-again
+    same-length-2
+    returns-2)

@@ -1,0 +1,115 @@
+use mathlib.Core.Path.{refl, sym, ap, _∙_}
+use mathlib.Core.Bool.{true≢false}
+use native.Mathlib.Omega.{arith}
+use Rattle.checker.specs.declared.state.Stage.the-variants.{Fresh, OutOfRange}
+use Rattle.checker.specs.declared.state.State.{State}
+use Rattle.checker.specs.Step.{conf, finished, stepBy}
+use Rattle.checker.proofs.Loop.{at-first, once-of, sweep-lent}
+use Rattle.faults.specs.declared.fault.Involved.{Involved}
+use Rattle.checker.specs.Step.{doneBy}
+use borrow.Author.Needs.{needs}
+use Rattle.checker.proofs.runs.run_stage.Statement.{statement}
+use Rattle.checker.proofs.runs.run_stage.Tie as tie
+
+enum-told : tie.Need-enum-told
+enum-told c = search needs
+
+open-requires : tie.Need-open-requires
+open-requires c κs = search needs
+
+enum-known-stage : tie.Need-enum-known-stage
+enum-known-stage c = search needs
+
+run-sweep-requires : tie.Need-run-sweep-requires
+run-sweep-requires c κs =
+    let a = c .before .before .before .before .before .before in
+    let e = c .before .before .stage .given .1 in
+    (a .pre .0, sweep-lent (a .args .f .now) (a .args .s) (a .args .m .now) (a .pre .1) (a .pre .2) _ e, e, a .pre .3)
+
+enum-known-stage-2 : tie.Need-enum-known-stage-2
+enum-known-stage-2 c = search needs
+
+run-walk-requires : tie.Need-run-walk-requires
+run-walk-requires c κs = search needs
+
+enum-told-2 : tie.Need-enum-told-2
+enum-told-2 c = search needs
+
+enum-told-3 : tie.Need-enum-told-3
+enum-told-3 c = search needs
+
+none-involved-requires : tie.Need-none-involved-requires
+none-involved-requires c κs = search needs
+
+refused-requires : tie.Need-refused-requires
+refused-requires c κs = search needs
+
+same-length : tie.Need-same-length
+same-length c = search needs
+
+returns : tie.Need-returns
+returns c =
+    let a = c .before .before .before .before .before .before in
+    let f = a .args .f .now in
+    let m = a .args .m .now in
+    let s = a .args .s in (
+      once-of f (conf s m) 0 s m (at-first f s m) Fresh (c .before .before .enum-told .given .1) refl (c .«open» .result) m (c .«open» .ensures),
+      λ e. omega arith,
+      omega (arith, a .pre .3),
+    )
+
+same-length-2 : tie.Need-same-length-2
+same-length-2 c = search needs
+
+returns-2 : tie.Need-returns-2
+returns-2 c = search needs
+
+same-length-3 : tie.Need-same-length-3
+same-length-3 c = search needs
+
+returns-3 : tie.Need-returns-3
+returns-3 c = search needs
+
+returns-4 : tie.Need-returns-4
+returns-4 c =
+    let a = c .before .before .before .before .args in (
+      at-first (a .f .now) (a .s) (a .m .now),
+      λ e. absurd (true≢false (sym (ap finished (c .enum-told2 .given .1)) ∙ e)),
+      omega arith,
+    )
+
+returns-5 : tie.Need-returns-5
+unfolding stepBy
+returns-5 c =
+    let a = c .before .before .before .before .before .before in
+    let f = a .args .f .now in
+    let m = a .args .m .now in
+    let s = a .args .s in (
+      once-of f (conf s m) 0 s m (at-first f s m) OutOfRange (c .before .before .enum-told3 .given .1) refl (c .refused .result) m
+          (ap (λ (r : State). conf r m) (c .refused .ensures ∙ ap (λ (r : Involved). doneBy r 20) (c .before .none-involved .ensures))),
+      λ e. omega arith,
+      omega (arith, a .pre .3),
+    )
+
+pub run-stage-spec : {M : Type 1} → statement M
+run-stage-spec =
+    tie.close
+    (tie.spec
+    enum-told
+    open-requires
+    enum-known-stage
+    run-sweep-requires
+    enum-known-stage-2
+    run-walk-requires
+    enum-told-2
+    enum-told-3
+    none-involved-requires
+    refused-requires
+    same-length
+    returns
+    same-length-2
+    returns-2
+    same-length-3
+    returns-3
+    returns-4
+    returns-5)

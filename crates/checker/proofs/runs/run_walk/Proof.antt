@@ -1,0 +1,149 @@
+use mathlib.Core.Path.{_≡_, refl, sym, ap, _∙_}
+use mathlib.Core.Bool.{Bool}
+use Prim.Native.Nat.{_+_, _-_, _<_}
+use lib.Dec.{eqb}
+use lib.ListN.{length, take}
+use lib.Seq.{length-take-le}
+use Rattle.records.proofs.Bodies.{end-le}
+use native.Mathlib.Omega.{arith}
+use borrow.Author.Tests.{eqb-false}
+use Rattle.walk.specs.Bounds.{Known}
+use Rattle.walk.specs.Walk.{walkStepBy}
+use Rattle.checker.specs.Step.{conf, walking, runOf}
+use Rattle.checker.specs.declared.state.Stage.the-variants.{Walking}
+use Rattle.checker.specs.declared.state.State.{State}
+use Rattle.walk.proofs.Variables.{known-is, next-is}
+use Rattle.checker.proofs.Knowing.{known-step}
+use Rattle.format.proofs.Tests.{neither}
+use Rattle.checker.proofs.Parts.{body-is, lent-body, walked}
+use Rattle.checker.proofs.Loop.{ran, once-of, same-level, is-walking, walk-ready}
+use borrow.Author.Needs.{needs}
+use Rattle.checker.proofs.runs.run_walk.Statement.{statement}
+use Rattle.checker.proofs.runs.run_walk.Tie as tie
+
+abbrev Inv-loop : tie.InvT-loop
+Inv-loop f e m₀ s up n b near room w₀ v₀ k₀ m w v k =
+    (k < n) × (length m ≡ length m₀) × Known b v w × (ran (walking (s .length) w up) m k ≡ runOf f (conf s m₀) k)
+
+abbrev μ-loop : tie.MeasureT-loop
+μ-loop f e m₀ s up n b near room w₀ v₀ k₀ m w v k = n - k
+
+slice-aggregate-b : tie.Need-slice-aggregate-b Inv-loop μ-loop
+slice-aggregate-b c =
+    let a = c .before .before .before in
+    sym (length-take-le _ _ (rw (a .pre .0) (end-le (a .args .f .now))))
+
+room-below-requires : tie.Need-room-below-requires Inv-loop μ-loop
+room-below-requires c κs = search needs
+
+known-requires : tie.Need-known-requires Inv-loop μ-loop
+known-requires c κs = search needs
+
+loop-holds : tie.Need-loop-holds Inv-loop μ-loop
+unfolding runOf
+loop-holds c =
+    let a = c .before .before .before .before .before .before in
+    let at = ap (λ (x : State). ran x (a .args .m .now) 0) (is-walking (a .args .s) (a .args .from) (a .args .up) (a .pre .3)) in
+    (a .pre .4, refl, rw (c .known .ensures) (known-is _ (a .args .from)), at)
+
+next-variable-requires : tie.Need-next-variable-requires Inv-loop μ-loop
+next-variable-requires c κs = search needs
+
+step-requires : tie.Need-step-requires Inv-loop μ-loop
+step-requires c κs =
+    let l = c .before .loop in
+    let a = c .before .before .before .before .before .before .before .before in
+    let f = a .args .f .now in
+    let s = a .args .s in
+    let now = walking (s .length) (l .w) (a .args .up) in
+    let r = walk-ready f s (a .args .m .now) (a .pre .1) (a .pre .2) (l .made) now (l .m) (l .inv .3) (l .w) (a .args .up) refl in
+    (r .1, rw (c .next-variable .ensures) (next-is _ (l .w) (l .v) (l .inv .2)), r .2 .0)
+
+settle-requires : tie.Need-settle-requires Inv-loop μ-loop
+settle-requires c κs =
+    let l = c .before .before .before .loop in
+    let a = c .before .before .before .before .before .before .before .before .before .before in
+    let f = a .args .f .now in
+    let s = a .args .s in
+    let now = walking (s .length) (l .w) (a .args .up) in
+    let r = walk-ready f s (a .args .m .now) (a .pre .1) (a .pre .2) (l .made) now (l .m) (l .inv .3) (l .w) (a .args .up) refl in
+    lent-body f (l .m) _ (body-is f (a .args .e) (a .pre .0)) (r .0)
+
+add-made : tie.Need-add-made Inv-loop μ-loop
+add-made c = record { fits = omega (arith, c .before .before .before .before .before .before .loop .inv .0, c .before .before .before .before .before .before .before .before .before .before .before .before .before .fits .n .fits) }
+
+enum-known-went : tie.Need-enum-known-went Inv-loop μ-loop
+enum-known-went c = search needs
+
+enum-told : tie.Need-enum-told Inv-loop μ-loop
+enum-told c = search needs
+
+stopped-requires : tie.Need-stopped-requires Inv-loop μ-loop
+stopped-requires c κs = search needs
+
+same-length : tie.Need-same-length Inv-loop μ-loop
+same-length c = c .before .before .before .before .m .given ∙ c .before .before .before .before .before .before .before .before .before .loop .inv .1
+
+returns : tie.Need-returns Inv-loop μ-loop
+returns c =
+    let l = c .before .before .before .before .before .before .before .before .before .loop in
+    let a = c .before .before .before .before .before .before .before .before .before .before .before .before .before .before .before .before in
+    let t = c .before .before .before .before .before .before .before .step in
+    let d = c .before .before .before .before .before .settle in
+    let f = a .args .f .now in
+    let s = a .args .s in
+    let is = t .ensures ∙ ap (λ (room : Bool). walkStepBy (take (a .args .e) f) (a .args .up .a) room (l .w)) (c .before .before .before .before .before .before .before .before .before .before .before .room-below .ensures) in
+    let step = walked f (l .m) (s .length) (l .w) (a .args .up) _ (body-is f (a .args .e) (a .pre .0)) (t .result) (d .result) _ is (d .ensures) in
+    let more = once-of f (conf s (a .args .m .now)) (l .made) (walking (s .length) (l .w) (a .args .up)) (l .m) (l .inv .3) (Walking (l .w) (a .args .up)) refl refl _ _ step in
+    rw (c .stopped .ensures) (more, omega arith, omega (arith, l .inv .0))
+
+changes-level-requires : tie.Need-changes-level-requires Inv-loop μ-loop
+changes-level-requires c κs = search needs
+
+stopped-requires-2 : tie.Need-stopped-requires-2 Inv-loop μ-loop
+stopped-requires-2 c κs = search needs
+
+same-length-2 : tie.Need-same-length-2 Inv-loop μ-loop
+same-length-2 c = c .before .before .before .before .before .before .before .m .given ∙ c .before .before .before .before .before .before .before .before .before .before .before .before .loop .inv .1
+
+returns-2 : tie.Need-returns-2 Inv-loop μ-loop
+returns-2 c =
+    let l = c .before .before .before .before .before .before .before .before .before .before .before .before .loop in
+    let a = c .before .before .before .before .before .before .before .before .before .before .before .before .before .before .before .before .before .before .before in
+    let t = c .before .before .before .before .before .before .before .before .before .before .step in
+    let d = c .before .before .before .before .before .before .before .before .settle in
+    let f = a .args .f .now in
+    let s = a .args .s in
+    let is = t .ensures ∙ ap (λ (room : Bool). walkStepBy (take (a .args .e) f) (a .args .up .a) room (l .w)) (c .before .before .before .before .before .before .before .before .before .before .before .before .before .before .room-below .ensures) in
+    let step = walked f (l .m) (s .length) (l .w) (a .args .up) _ (body-is f (a .args .e) (a .pre .0)) (t .result) (d .result) _ is (d .ensures) in
+    let more = once-of f (conf s (a .args .m .now)) (l .made) (walking (s .length) (l .w) (a .args .up)) (l .m) (l .inv .3) (Walking (l .w) (a .args .up)) refl refl _ _ step in
+    let on = (rw (c .before .before .before .before .went .given .1) at more) in
+    rw (c .stopped2 .ensures) (on, omega arith, omega (arith, l .inv .0))
+
+loop-less : tie.Need-loop-less Inv-loop μ-loop
+loop-less c = omega (arith, c .before .before .before .before .before .before .before .before .before .before .before .loop .inv .0)
+
+loop-again : tie.Need-loop-again Inv-loop μ-loop
+loop-again c =
+    let l = c .before .before .before .before .before .before .before .before .before .before .before .loop in
+    let a = c .before .before .before .before .before .before .before .before .before .before .before .before .before .before .before .before .before .before in
+    let t = c .before .before .before .before .before .before .before .before .before .step in
+    let d = c .before .before .before .before .before .before .before .settle in
+    let f = a .args .f .now in
+    let s = a .args .s in
+    let is = t .ensures ∙ ap (λ (room : Bool). walkStepBy (take (a .args .e) f) (a .args .up .a) room (l .w)) (c .before .before .before .before .before .before .before .before .before .before .before .before .before .room-below .ensures) in
+    let step = walked f (l .m) (s .length) (l .w) (a .args .up) _ (body-is f (a .args .e) (a .pre .0)) (t .result) (d .result) _ is (d .ensures) in
+    let more = once-of f (conf s (a .args .m .now)) (l .made) (walking (s .length) (l .w) (a .args .up)) (l .m) (l .inv .3) (Walking (l .w) (a .args .up)) refl refl _ _ step in
+    let none = neither (eqb (l .made + 1) (a .args .n)) (c .before .changes-level .result) (c .if1 .left) in
+    let same = same-level (a .args .up) (t .result) (sym (c .before .changes-level .ensures) ∙ none .1) in
+    let g = c .before .before .before .went .given .1 in
+    let k = c .before .before .before .before .before .before .before .before .before .before .next-variable in
+    let known = known-step f (k .result) _ (body-is f (a .args .e) (a .pre .0)) (l .m) (s .length) (l .w) (a .args .up) (rw (k .ensures) (next-is _ (l .w) (l .v) (l .inv .2))) _ _ (rw (same, g) at step) _ _ refl in
+    let under = eqb-false (l .made + 1) (a .args .n) (none .0) in
+    (omega (arith, l .inv .0, under), c .before .before .before .before .before .before .m .given ∙ l .inv .1, known, rw (same, g) at more)
+
+pub run-walk-spec : {M : Type 1} → statement M
+run-walk-spec =
+    tie.close
+    (tie.spec Inv-loop μ-loop slice-aggregate-b room-below-requires known-requires loop-holds next-variable-requires step-requires settle-requires add-made enum-known-went enum-told
+    stopped-requires same-length returns changes-level-requires stopped-requires-2 same-length-2 returns-2 loop-less loop-again)
