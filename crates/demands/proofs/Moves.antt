@@ -20,7 +20,7 @@ use Rattle.walk.specs.declared.positions.Levels.{Levels}
 use Rattle.walk.specs.declared.positions.Step as T
 use Rattle.walk.specs.declared.positions.Step.the-variants.{Over, End, Take, Down, Up}
 use Rattle.checker.specs.Step.{linkNumber}
-use Rattle.checker.proofs.Numbers.{first-has, StepHas, step-has}
+use Rattle.checker.proofs.Numbers.{StepHas, step-has}
 use Rattle.demands.proofs.Positions.{Position, Move, passes, stops, takes, moveBy, moveOf}
 
 -- the numbers before the place of a link is looked at

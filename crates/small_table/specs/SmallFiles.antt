@@ -29,7 +29,7 @@ use Rattle.lookup.specs.Indexes.{recordThere, recordRead, recordNumber, scanned
 use Rattle.answers.specs.declared.Read.{Read}
 use Rattle.answers.specs.declared.Read.the-variants.{Value as Given, Refused}
 use Rattle.answers.specs.Answers.{elementThere, elementRead, inRecord, inVariable, valueRead}
-use Rattle.walk.specs.Walk.{typeNumber, followed, gdrNamed, fieldNumber, tallied, varsTally, varNumber, chainTally, attrNumber, valuesNumber, lowerNumber, entriesTally, numNumber, entryNumber, oneMore, unusedNumber, walkStepBy}
+use Rattle.walk.specs.Walk.{typeNumber, leadsTo, listStep, lowerNext, gdrNamed, fieldNumber, tallied, varsTally, varNumber, chainTally, attrNumber, valuesNumber, lowerNumber, entriesTally, numNumber, entryNumber, oneMore, unusedNumber, walkStepBy}
 use Rattle.walk.specs.Levels.{isNone, mostOf, roomBelow}
 use Rattle.marks.specs.Marks.{cleared, marked, startAt, unclaimedAt, followedAt, leftFrom, leftOf}
 use Rattle.faults.specs.Holder.{holderOf}
@@ -219,7 +219,7 @@ unfolding bigAt endOf fieldAt isAt atLeast atMost inOrder sameAt eachWithin natA
     reachOf judged tooLong magicsRight whollyCompressed cdrRight singleFile gdrAt eofOf eofRight gdrFields gdrRight opening fileEnd bodyOf typeKnown
     tileFields tileRight typeUncarried tile adrRight adrRule elementSize aedrRight aedrRule vxrRight vxrRule rises closes rangeNumber
     entryOf vvrRule uirRule capped carriedOf vdrFields countPlace countRight layoutAt layoutOf valueBytes padBytes
-    sizeExact dimensionsRight factorOf spread recordBytes dimensioned variableOf typeNumber followed gdrNamed fieldNumber tallied varsTally
+    sizeExact dimensionsRight factorOf spread recordBytes dimensioned variableOf typeNumber leadsTo listStep lowerNext gdrNamed fieldNumber tallied varsTally
     varNumber chainTally attrNumber valuesNumber lowerNumber entriesTally numNumber entryNumber oneMore unusedNumber isNone mostOf roomBelow walkStepBy cleared marked startAt unclaimedAt
     followedAt leftFrom leftOf holderOf faultAt openNumber swept linkNumber stepped stepBy runOf littleAt placeAfter elementPlace indicesRight
     rowFits placed placeOf rawAt valueOf bitsOf isVax isNothing decodedOf opened allowance landsOn vdrKept ruleKept meets
