@@ -120,12 +120,20 @@ pub fn f_float(s: &[u8], at: usize) -> Vax
     vax_to_double(pair(s, at), 23, 8, 128)
 }
 
+// The VAX float of four words at an offset, as a double.
+fn of_four(s: &[u8], at: usize, width: u32, range: u32, offset: u32) -> Vax
+    requires { ⌜ (at + 8 ≤ length (now s)) × Bounds width range offset ⌝ }
+    ensures { λ r. ⌜ r ≡ vaxIn width range offset (fourAt (now (s .entry)) at) ⌝ }
+{
+    vax_to_double(four(s, at), width, range, offset)
+}
+
 // The D_FLOAT at an offset, as a double.
 pub fn d_float(s: &[u8], at: usize) -> Vax
     requires { ⌜ at + 8 ≤ length (now s) ⌝ }
     ensures { λ r. ⌜ r ≡ vaxAt dfloat (now (s .entry)) at ⌝ }
 {
-    vax_to_double(four(s, at), 55, 8, 128)
+    of_four(s, at, 55, 8, 128)
 }
 
 // The G_FLOAT at an offset, as a double.
@@ -133,5 +141,5 @@ pub fn g_float(s: &[u8], at: usize) -> Vax
     requires { ⌜ at + 8 ≤ length (now s) ⌝ }
     ensures { λ r. ⌜ r ≡ vaxAt gfloat (now (s .entry)) at ⌝ }
 {
-    vax_to_double(four(s, at), 52, 11, 1024)
+    of_four(s, at, 52, 11, 1024)
 }

@@ -42,15 +42,13 @@ loop-less : tie.Need-loop-less Inv-loop μ-loop
 loop-less c = search needs
 
 loop-again : tie.Need-loop-again Inv-loop μ-loop
-loop-again c = (
-  search needs,
-  search needs,
-  let at-put = c .before .before in
-      let at-loop = at-put .before .before .before .before .before in
-      let l = at-loop .loop in
-      let fields = at-loop .before .before .before .args .fields .now in
-      l .inv .2 ∙ one-more (l .f) (l .to) (l .i) fields (at-put .before .before .before .before .loop-test .taken) ∙ rw (at-put .put .ensures),
-)
+loop-again c =
+    let at-put = c .before .before in
+    let at-loop = at-put .before .before .before .before .before in
+    let l = at-loop .loop in
+    let fields = at-loop .before .before .before .args .fields .now in
+    let onward = one-more (l .f) (l .to) (l .i) fields (at-put .before .before .before .before .loop-test .taken) in
+    (search needs, search needs, l .inv .2 ∙ onward ∙ rw (at-put .put .ensures))
 
 same-length-2 : tie.Need-same-length-2 Inv-loop μ-loop
 same-length-2 c = c .before .loop .inv .1

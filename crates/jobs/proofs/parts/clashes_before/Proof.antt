@@ -49,14 +49,11 @@ loop-less : tie.Need-loop-less Inv-loop μ-loop
 loop-less c = search needs
 
 loop-again : tie.Need-loop-again Inv-loop μ-loop
-loop-again c = (
-  search needs,
-  refl,
-  let at-loop = c .before .before .before .before in
-      let a = at-loop .before .before .args in
-      let test : ℕ → Bool = λ k. clash (partsIn (a .t1 .row) k) (partsIn (a .t1 .row) (a .i)) in
-      none-more test (at-loop .loop .k) (at-loop .loop .inv .2) (sym (c .before .do-clash .ensures) ∙ c .if1 .left),
-)
+loop-again c =
+    let at-loop = c .before .before .before .before in
+    let a = at-loop .before .before .args in
+    let test : ℕ → Bool = λ k. clash (partsIn (a .t1 .row) k) (partsIn (a .t1 .row) (a .i)) in
+    (search needs, refl, none-more test (at-loop .loop .k) (at-loop .loop .inv .2) (sym (c .before .do-clash .ensures) ∙ c .if1 .left))
 
 returns-2 : tie.Need-returns-2 Inv-loop μ-loop
 returns-2 c =

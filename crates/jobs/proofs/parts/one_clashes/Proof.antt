@@ -37,12 +37,10 @@ loop-less : tie.Need-loop-less Inv-loop μ-loop
 loop-less c = search needs
 
 loop-again : tie.Need-loop-again Inv-loop μ-loop
-loop-again c = (
-  search needs,
-  let at-loop = c .before .before .before in
-      let test = clashBefore (partsIn (at-loop .before .args .all .row)) in
-      none-more test (at-loop .loop .i) (at-loop .loop .inv .1) (sym (c .before .clashes-before .ensures) ∙ c .if1 .left),
-)
+loop-again c =
+    let at-loop = c .before .before .before in
+    let test = clashBefore (partsIn (at-loop .before .args .all .row)) in
+    (search needs, none-more test (at-loop .loop .i) (at-loop .loop .inv .1) (sym (c .before .clashes-before .ensures) ∙ c .if1 .left))
 
 returns-2 : tie.Need-returns-2 Inv-loop μ-loop
 returns-2 c =

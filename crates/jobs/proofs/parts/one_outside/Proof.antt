@@ -43,13 +43,11 @@ loop-less : tie.Need-loop-less Inv-loop μ-loop
 loop-less c = search needs
 
 loop-again : tie.Need-loop-again Inv-loop μ-loop
-loop-again c = (
-  search needs,
-  let at-loop = c .before .before .before .before in
-      let a = at-loop .before .args in
-      let test : ℕ → Bool = λ i. outside (partsIn (a .t1 .row) i) (a .files) (a .marks) in
-      none-more test (at-loop .loop .i) (at-loop .loop .inv .1) (sym (c .before .is-outside .ensures) ∙ c .if1 .left),
-)
+loop-again c =
+    let at-loop = c .before .before .before .before in
+    let a = at-loop .before .args in
+    let test : ℕ → Bool = λ i. outside (partsIn (a .t1 .row) i) (a .files) (a .marks) in
+    (search needs, none-more test (at-loop .loop .i) (at-loop .loop .inv .1) (sym (c .before .is-outside .ensures) ∙ c .if1 .left))
 
 returns-2 : tie.Need-returns-2 Inv-loop μ-loop
 returns-2 c =

@@ -39,13 +39,11 @@ loop-less : tie.Need-loop-less Inv-loop μ-loop
 loop-less c = search needs
 
 loop-again : tie.Need-loop-again Inv-loop μ-loop
-loop-again c = (
-  search needs,
-  let at-loop = c .before .before .before in
-      let l = at-loop .loop in
-      let own = partsAt (at-loop .before .before .args .t1 .row) in
-      c .with-row .ensures ∙ ap (λ (z : Gathered). withParts z (l .i) (own (l .i))) (l .inv .1) ∙ gather-more own (l .i),
-)
+loop-again c =
+    let at-loop = c .before .before .before in
+    let l = at-loop .loop in
+    let own = partsAt (at-loop .before .before .args .t1 .row) in
+    (search needs, c .with-row .ensures ∙ ap (λ (z : Gathered). withParts z (l .i) (own (l .i))) (l .inv .1) ∙ gather-more own (l .i))
 
 returns : tie.Need-returns Inv-loop μ-loop
 returns c =

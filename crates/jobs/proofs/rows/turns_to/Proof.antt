@@ -48,17 +48,14 @@ loop-less : tie.Need-loop-less Inv-loop μ-loop
 loop-less c = search needs
 
 loop-again : tie.Need-loop-again Inv-loop μ-loop
-loop-again c = (
-  search needs,
-  search needs,
-  let at-turn = c .before .before in
-      let at-loop = at-turn .before .before .before .before in
-      let l = at-loop .loop in
-      let a = at-loop .before .before .before .args in
-      let w = window (a .rows .row) (a .marks .now) in
-      let turned = jobTurned (at-turn .turn .result) (at-turn .turn .last .1 .0) in
-      turns-more (a .files .now) (a .q) w (l .next .row) (l .marks) (l .i) turned (l .inv .2) (at-turn .turn .ensures),
-)
+loop-again c =
+    let at-turn = c .before .before in
+    let at-loop = at-turn .before .before .before .before in
+    let l = at-loop .loop in
+    let a = at-loop .before .before .before .args in
+    let w = window (a .rows .row) (a .marks .now) in
+    let turned = jobTurned (at-turn .turn .result) (at-turn .turn .last .1 .0) in
+    (search needs, search needs, turns-more (a .files .now) (a .q) w (l .next .row) (l .marks) (l .i) turned (l .inv .2) (at-turn .turn .ensures))
 
 same-length : tie.Need-same-length Inv-loop μ-loop
 same-length c = search needs
