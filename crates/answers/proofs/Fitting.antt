@@ -4,7 +4,7 @@ use Prim.Native.Nat.{ℕ, _<_}
 use native.Mathlib.Omega.{arith}
 use lib.ListN.{length}
 use Rattle.variables.specs.Vdr.{variableOf}
-use Rattle.variables.proofs.Dimensions.{of-variable}
+use Rattle.variables.proofs.Rule.{of-variable}
 use Rattle.answers.specs.Bounds.{Fits}
 
 pub variable-fits : (f : List ℕ) (k o : ℕ) → length f < 2147483648 → Fits (variableOf f k o)

@@ -14,12 +14,14 @@ use Rattle.format.proofs.Numbers.{All, first-has}
 use Rattle.records.specs.Rules.{sizeAt, reachOf, judged}
 use Rattle.records.specs.Opening.{gdrAt}
 use Rattle.records.specs.Attributes.{adrRight, adrRule, aedrRight, aedrRule}
-use Rattle.records.specs.Index.{entriesAt, firstPlace, lastPlace, offsetPlace, rises, closes, rangeNumber, entryOf, indexAt, vxrRight, vxrRule, vvrRule}
+use Rattle.records.specs.Index.{entryOf, indexAt, vxrRight, vxrRule, vvrRule}
 use Rattle.records.specs.Unused.{uirRule}
 use Rattle.records.specs.declared.index.Entry as I
 use Rattle.variables.specs.declared.vdr.Variable.{Variable}
-use Rattle.variables.specs.declared.vdr.Layout.{Layout}
-use Rattle.variables.specs.Vdr.{carriedOf, vdrFields, headOf, countPlace, countRight, layoutOf, sizeExact, dimensionsRight, recordBytes, vdrFault, dimensioned, variableOf}
+use Rattle.variables.specs.Vdr.{carriedOf, variableOf}
+use Rattle.records.proofs.Judged.{reach-cases, judged-cases}
+use Rattle.records.proofs.Ranges.{entry-cases}
+use Rattle.variables.proofs.Rule.{vdr-cases, carried-cases}
 use Rattle.walk.specs.Walk.{typeNumber, gdrNamed, fieldNumber, overBy, afterVars, varsList, lowerOver, lowerNext, chainList, attrsList, entriesList, unusedList, Listing, listStep, tallied, tallyPlace, numNumber, varsTally, varNumber, chainTally, valuesNumber, lowerNumber, attrNumber, entriesTally, entryNumber, unusedNumber, lowerStep, valuesStep, entryStep, walkStepBy}
 use Rattle.walk.specs.Levels.{isNone, mostOf}
 use Rattle.walk.specs.declared.positions.Level.{Level}
@@ -45,17 +47,11 @@ module _ (f : List ℕ) (E L : ℕ → Type 0) (Q : ℕ → ℕ → Type 0) (ear
     (ends-12 : L 12) (ends-20 : L 20) (has-0 : (t : ℕ) → Q t 0) (has-8 : (t : ℕ) → Q t 8) (has-10 : (t : ℕ) → Q t 10) (has-11 : (t : ℕ) → Q t 11)
     (has-14 : (t : ℕ) → bitAt f (t + 28) 4 ≡ true → Q t 14) (has-20 : (t : ℕ) → Q t 20) (has-23 : (t : ℕ) → indexAt f t ≡ true → Q t 23) where
   -- what both branches have, a test between them has
-  early-cond : (b : Bool) {x y : ℕ} → E x → E y → E (cond b x y)
-  early-cond b p q = cond-keeps E b p q
-
   ends-cond : (b : Bool) {x y : ℕ} → L x → L y → L (cond b x y)
   ends-cond b p q = cond-keeps L b p q
 
   ends-first : (vs : List ℕ) → All L vs → L (first vs)
   ends-first vs h = first-has L ends-0 vs h
-
-  record EntryHas (e : I.Entry) : Type 0 where
-    has : E (e .fault)
 
   over-has : {v : ℕ} {w : W.Walk} → L v → StepHas E L Q (Over w v)
   over-has h = record { has = h }
@@ -86,22 +82,8 @@ module _ (f : List ℕ) (E L : ℕ → Type 0) (Q : ℕ → ℕ → Type 0) (ear
       ends-first (fieldNumber f (v + 24) (pos last) ∷ unless 12 (isAt f (v + 16) (negsuc 0) || covered) ∷ [])
       (ends-field (v + 24) (pos last), (ends-cond (isAt f (v + 16) (negsuc 0) || covered) ends-0 ends-12, tt))
 
-  early-range : (first last offset floor most : ℕ) → E (rangeNumber f first last offset floor most)
-  unfolding rangeNumber
-  early-range first last offset floor most =
-      early-cond (rises f first floor)
-      (early-cond (ltb (endOf f) (last + 4)) early-20 (early-cond (closes f first last most) (early-cond (ltb (endOf f) (offset + 4)) early-20 early-0) early-12))
-      early-12
-
-  early-entry : (x i floor most : ℕ) → EntryHas (entryOf f x i floor most)
-  unfolding entryOf
-  early-entry x i floor most =
-      let first = firstPlace x i in
-      let last = lastPlace x (entriesAt f x) i in
-      let offset = offsetPlace x (entriesAt f x) i in
-      cond-keeps EntryHas (ltb (endOf f) (first + 4)) (record { has = early-20 })
-      (cond-keeps EntryHas (eqb (rangeNumber f first last offset floor most) 0)
-      (record { has = early-0 }) (record { has = early-range first last offset floor most }))
+  early-entry : (x i floor most : ℕ) → E (entryOf f x i floor most .fault)
+  early-entry x i floor most = entry-cases f x i floor most (λ e. E (e .fault)) early-12 early-20 (λ _. early-0)
 
   ends-entries : (k a n greatest : ℕ) → L (entriesTally f k a n greatest)
   unfolding entriesTally
@@ -118,62 +100,27 @@ module _ (f : List ℕ) (E L : ℕ → Type 0) (Q : ℕ → ℕ → Type 0) (ear
     has-first : (vs : List ℕ) → All (Q t) vs → Q t (first vs)
     has-first vs h = first-has (Q t) (has-0 t) vs h
 
-    record VarHas (v : Variable) : Type 0 where
-      has : Q t (v .fault)
-
-    var-fault : (v : ℕ) → Q t v → VarHas (vdrFault v)
-    var-fault v h = record { has = h }
-
-    var-cond : (b : Bool) {x y : Variable} → VarHas x → VarHas y → VarHas (cond b x y)
-    var-cond b p q = cond-keeps VarHas b p q
-
     has-type : (o : ℕ) (z : ℤ) → Q t (typeNumber f o z)
     unfolding typeNumber
     has-type o z = has-cond (ltb (endOf f) (o + 8)) (has-20 t) (has-unless 8 (isAt f (o + 4) z) (has-8 t))
 
     has-reach : (o n : ℕ) → Q t (reachOf f o n)
-    unfolding reachOf
-    has-reach o n =
-        has-cond (ltb (endOf f) (o + 4)) (has-20 t) (has-cond (ltb (sizeAt f o) n) (has-10 t) (has-cond (ltb (endOf f) (o + n)) (has-20 t) (has-0 t)))
+    has-reach o n = reach-cases f o (Q t) n (has-10 t) (has-20 t) (λ _. has-0 t)
 
     has-judged : (o n : ℕ) (right : Bool) → Q t (judged f o n right)
-    unfolding judged
-    has-judged o n right = has-cond (eqb (reachOf f o n) 0) (has-cond right (has-0 t) (has-10 t)) (has-reach o n)
+    has-judged o n right = judged-cases f o n right (Q t) (has-10 t) (has-20 t) (λ _. has-0 t)
 
-    has-dimensioned : (o : ℕ) (l : Layout) → VarHas (dimensioned f o l)
-    unfolding dimensioned
-    has-dimensioned o l =
-        var-cond (sizeExact f o l)
-        (var-cond (ltb (endOf f) (l .sizes + 4 * l .count)) (var-fault 20 (has-20 t))
-        (var-cond (ltb (endOf f) (l .variances + 4 * l .count)) (var-fault 20 (has-20 t))
-        (var-cond (dimensionsRight f l)
-        (var-cond (ltb 2147483647 (recordBytes f o l)) (var-fault 10 (has-10 t)) (record { has = (has-0 t) }))
-        (var-fault 10 (has-10 t)))))
-        (var-fault 10 (has-10 t))
-
-    has-variable : (k o : ℕ) → VarHas (variableOf f k o)
-    unfolding variableOf
-    has-variable k o =
-        var-cond (eqb (reachOf f o (headOf k)) 0)
-        (var-cond (vdrFields f o)
-        (var-cond (ltb (endOf f) (countPlace f k o + 4)) (var-fault 20 (has-20 t))
-        (var-cond (countRight f (countPlace f k o)) (has-dimensioned o (layoutOf f k o)) (var-fault 10 (has-10 t))))
-        (var-fault 10 (has-10 t)))
-        (var-fault (reachOf f o (headOf k)) (has-reach o (headOf k)))
+    has-variable : (k o : ℕ) → Q t (variableOf f k o .fault)
+    has-variable k o = vdr-cases f k o (λ u. Q t (u .fault)) (has-10 t) (has-20 t) (λ _. has-0 t)
 
     has-carried : Q t (carriedOf f t)
-    unfolding carriedOf
-    has-carried = has-cond (ltb (endOf f) (t + 32)) (has-0 t) (has-cond (ltb (sizeAt f t) 32) (has-0 t) (flagged (bitAt f (t + 28) 4) refl))
-      where
-        flagged : (b : Bool) → bitAt f (t + 28) 4 ≡ b → Q t (cond b 14 0)
-        flagged true e = has-14 t e
-        flagged false e = has-0 t
+    has-carried = carried-cases f t (Q t) (has-0 t) (has-14 t)
 
     has-var : (k n : ℕ) → Q t (varNumber f k n t)
     unfolding varNumber
     has-var k n =
         has-first (carriedOf f t ∷ variableOf f k t .fault ∷ unless 11 (isAt f (t + 52) (pos n)) ∷ [])
-        (has-carried, (has-variable k t .has, (has-unless 11 (isAt f (t + 52) (pos n)) (has-11 t), tt)))
+        (has-carried, (has-variable k t, (has-unless 11 (isAt f (t + 52) (pos n)) (has-11 t), tt)))
 
     has-vxr : (o : ℕ) → Q t (vxrRule f o)
     unfolding vxrRule
@@ -183,11 +130,11 @@ module _ (f : List ℕ) (E L : ℕ → Type 0) (Q : ℕ → ℕ → Type 0) (ear
     unfolding vvrRule
     has-vvr o n bytes = has-judged o 8 (eqb (sizeAt f o) (8 + n * bytes))
 
-    has-values : (v : Variable) (e : I.Entry) → VarHas v → Q t (valuesNumber f v e)
+    has-values : (v : Variable) (e : I.Entry) → Q t (v .fault) → Q t (valuesNumber f v e)
     unfolding valuesNumber
     has-values v e h =
         has-first (reachOf f (e .link) 8 ∷ v .fault ∷ vvrRule f (e .link) (e .last - e .first + 1) (v .bytes) ∷ [])
-        (has-reach (e .link) 8, (h .has, (has-vvr (e .link) (e .last - e .first + 1) (v .bytes), tt)))
+        (has-reach (e .link) 8, (h, (has-vvr (e .link) (e .last - e .first + 1) (v .bytes), tt)))
 
     has-lower : (o : ℕ) → Q t (lowerNumber f o)
     unfolding lowerNumber
@@ -251,7 +198,7 @@ module _ (f : List ℕ) (E L : ℕ → Type 0) (Q : ℕ → ℕ → Type 0) (ear
       (cond-keeps (StepHas E L Q) (ltb (endOf f) (near .vxr + 20)) {x = End 20} (end-has ends-20) (record { has = tt }))
       (λ o h. end-has ends-11))
   step-has near room (Entry u x i floor covered) =
-      has-entry room u x i covered (entryOf f x i floor (mostOf near)) (early-entry x i floor (mostOf near) .has)
+      has-entry room u x i covered (entryOf f x i floor (mostOf near)) (early-entry x i floor (mostOf near))
   step-has near room (Attrs p n) =
       list-has p (attrsList f n) (over-gdr (fieldNumber f (gdrAt f + 28) (pos n)) (Unused (gdrAt f + 44) 0) (ends-field (gdrAt f + 28) (pos n)))
       (λ o. has-attr o n o)

@@ -12,7 +12,8 @@ use Rattle.format.specs.Fields.{endOf}
 use Rattle.records.specs.Rules.{sizeAt}
 use Rattle.records.specs.Opening.{tooLong, bodyOf}
 use Rattle.format.proofs.Tests.{both, every}
-use Rattle.records.proofs.Bodies.{opening-passes, body-le}
+use Rattle.records.proofs.Opens.{opening-passes}
+use Rattle.records.proofs.Bodies.{body-le}
 use Rattle.marks.specs.Marks.{marked}
 use Rattle.walk.specs.Ranges.{rangesOf}
 use Rattle.walk.specs.Bounds.{Within}

@@ -7,8 +7,10 @@ use lib.ListN.{length}
 use lib.Dec.{ltb, leb, eqb}
 use Rattle.format.specs.Fields.{endOf}
 use Rattle.records.specs.Rules.{sizeAt}
-use Rattle.records.specs.Opening.{tooLong, whollyCompressed, cdrRight, singleFile, gdrAt, gdrRight, magicsRight, opening}
-use Rattle.records.specs.Tiles.{tileRight, typeUncarried, tile}
+use Rattle.records.specs.Opening.{tooLong, opening}
+use Rattle.records.specs.Tiles.{tile}
+use Rattle.records.proofs.Opens.{opening-has}
+use Rattle.records.proofs.Tiled.{tile-has}
 use Rattle.format.specs.Numbers.{first, unless}
 use Rattle.walk.specs.Walk.{walkStepBy}
 use Rattle.walk.specs.declared.positions.Level.{Level}
@@ -44,14 +46,7 @@ StepVerdicts t = StepHas IsVerdict IsVerdict (λ o. IsVerdict) t
 
 module _ (f : List ℕ) where
   verdict-opening : IsVerdict (opening f)
-  unfolding opening
-  verdict-opening =
-      verdict-cond (leb 372 (length f) && magicsRight f)
-      (verdict-cond (whollyCompressed f) (record { in-range = refl })
-      (verdict-cond (cdrRight f)
-      (verdict-cond (singleFile f) (verdict-cond (gdrRight f (gdrAt f)) verdict-0 (record { in-range = refl })) (verdict 14 refl))
-      (record { in-range = refl })))
-      (record { in-range = refl })
+  verdict-opening = opening-has f IsVerdict verdict-0 (verdict 3 refl) (verdict 4 refl) (verdict 5 refl) (verdict 14 refl) (verdict 6 refl)
 
   pub verdict-open : (m : List ℕ) → IsVerdict (openNumber f m)
   unfolding openNumber
@@ -61,9 +56,8 @@ module _ (f : List ℕ) where
         (verdict-cond (leb (length f) (length m)) verdict-0 (verdict 2 refl), (verdict-opening, tt)),
       )
 
-  pub verdict-tile : (o : ℕ) → IsVerdict (tile f o)
-  unfolding tile
-  verdict-tile o = verdict-cond (tileRight f o) (verdict-cond (typeUncarried f o) (verdict 14 refl) verdict-0) (verdict 7 refl)
+  pub verdict-tile : (o : ℕ) → IsVerdict (tile f (endOf f) o)
+  verdict-tile o = tile-has f (endOf f) o IsVerdict verdict-0 (verdict 7 refl) (verdict 14 refl)
 
   -- ---- the end of the walk
   record FoundVerdict (x : Found) : Type 0 where

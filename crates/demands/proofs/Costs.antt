@@ -30,7 +30,8 @@ use Rattle.walk.specs.declared.positions.Step.the-variants.{Over, End, Down, Up
 use Rattle.walk.proofs.Leads.{link-keeps, list-keeps}
 use Rattle.demands.proofs.Positions.{Position, top, moveBy}
 use Rattle.demands.proofs.Bound.{Pays, Paid, weightOf}
-use Rattle.demands.proofs.Records.{judged-reads, adr-size, aedr-size, vxr-size, vdr-reads}
+use Rattle.records.proofs.Fielded.{adr-law, aedr-law, vxr-law, uir-law, adr-size, aedr-size, vxr-size}
+use Rattle.variables.proofs.Rule.{vdr-reads}
 
 -- of two lists one after the other: 3 for the list of kind z, which comes last, and else 4
 abbrev ofTwo : ℕ → ℕ → ℕ
@@ -82,26 +83,25 @@ module _ (f : List ℕ) where
       omega (arith, vdr-reads f k o (p 1) .reach .holds, head-least k)
 
   vxr-heavy : (o : ℕ) → vxrRule f o ≡ 0 → suc (usedAt f o) ≤ weightOf f o
-  unfolding vxrRule
-  vxr-heavy o e = omega (arith, vxr-size f o (judged-reads f o 20 (vxrRight f o) e .1))
+  vxr-heavy o e = omega (arith, vxr-size f o (vxr-law f o .0 e .right))
 
   lower-heavy : (o : ℕ) → lowerNumber f o ≡ 0 → suc (usedAt f o) ≤ weightOf f o
   unfolding lowerNumber
   lower-heavy o e = vxr-heavy o (zeros (vxrRule f o ∷ unless 11 (isAt f (o + 8) (pos 0)) ∷ []) e 0)
 
   adr-heavy : (n o : ℕ) → attrNumber f n o ≡ 0 → 3 ≤ weightOf f o
-  unfolding attrNumber adrRule
+  unfolding attrNumber
   adr-heavy n o e =
-      omega (arith, adr-size f o (judged-reads f o 116 (adrRight f o) (zeros (adrRule f o ∷ unless 11 (isAt f (o + 20) (pos n)) ∷ []) e 0) .1))
+      omega (arith, adr-size f o (adr-law f o .0 (zeros (adrRule f o ∷ unless 11 (isAt f (o + 20) (pos n)) ∷ []) e 0) .right))
 
   aedr-heavy : (a o : ℕ) → entryNumber f a o ≡ 0 → 1 ≤ weightOf f o
-  unfolding entryNumber aedrRule
+  unfolding entryNumber
   aedr-heavy a o e =
-      omega (arith, aedr-size f o (judged-reads f o 48 (aedrRight f o) (zeros (aedrRule f o ∷ numNumber f a o ∷ []) e 0) .1))
+      omega (arith, aedr-size f o (aedr-law f o .0 (zeros (aedrRule f o ∷ numNumber f a o ∷ []) e 0) .right))
 
   uir-heavy : (b o : ℕ) → unusedNumber f b o ≡ 0 → 1 ≤ weightOf f o
-  unfolding unusedNumber uirRule
-  uir-heavy b o e = omega (arith, judged-reads f o 16 true (zeros (uirRule f o ∷ unless 11 (isAt f (o + 12) (pos b)) ∷ []) e 0) .0 .holds)
+  unfolding unusedNumber
+  uir-heavy b o e = omega (arith, uir-law f o .0 (zeros (uirRule f o ∷ unless 11 (isAt f (o + 12) (pos b)) ∷ []) e 0) .reach .holds)
 
   some-own : (w : W.Walk) → 1 ≤ own f w
   some-own Start = omega arith

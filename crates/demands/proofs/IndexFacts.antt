@@ -25,7 +25,10 @@ use Rattle.format.proofs.Tests.{every, both, or-left, cond-keeps}
 use Rattle.format.specs.Numbers.{first, unless}
 use Rattle.format.proofs.Numbers.{unless-zero, zeros}
 use Rattle.format.proofs.FieldRanges.{nat-small}
-use Rattle.demands.proofs.Records.{Reach, reach-makes, Stands, stands-reach, stands-begins, stands-nonzero, judged-reads, judged-makes, type-reads, type-makes, field-reads, field-makes, vxr-size, VdrParts, values-read, vdr-bytes}
+use Rattle.records.proofs.Judged.{Reach, reach-makes}
+use Rattle.records.proofs.Fielded.{vxr-law, vvr-law, vxr-size}
+use Rattle.variables.proofs.Rule.{vdr-fields, VdrParts, vdr-bytes}
+use Rattle.demands.proofs.Records.{Stands, stands-reach, stands-begins, stands-nonzero, type-reads, type-makes, field-reads, field-makes, values-read}
 use Rattle.demands.proofs.Lists.{Listed}
 use Rattle.demands.proofs.Trees.{TreeRules}
 use Rattle.demands.proofs.Levels.{levelsOf, most-named, most-top}
@@ -34,16 +37,7 @@ use Rattle.demands.proofs.Splits.{Along, split-in, in-left, in-right, i
 
 -- MaxRec is -1 or more
 pub max-rec-least : (f : List ℕ) (o : ℕ) → vdrFields f o ≡ true → atLeast f (o + 16) (negsuc 0) ≡ true
-unfolding vdrFields
-max-rec-least f o e =
-    let a = leb 1 (elementSize f (o + 12)) in
-    let b = atLeast f (o + 16) (negsuc 0) in
-    let c = ltb (bigAt f (o + 28) 4) 8 in
-    let d = atLeast f (o + 32) (pos 0) in
-    let g = atMost f (o + 32) (pos 2) in
-    let h = atLeast f (o + 48) (pos 1) in
-    let i = isAt f (o + 12) (pos 51) || isAt f (o + 12) (pos 52) || isAt f (o + 48) (pos 1) in
-    every (a ∷ b ∷ c ∷ d ∷ g ∷ h ∷ i ∷ []) e 1
+max-rec-least f o e = vdr-fields f o .0 e .max-rec
 
 minus-one : (z : ℤ) → leZ (negsuc 0) z ≡ true → leZ (pos 0) z ≡ false → eqZ z (negsuc 0) ≡ true
 minus-one (pos n) h e = absurd (true≢false (sym (le-leb 0 n (omega arith)) ∙ e))
@@ -267,12 +261,10 @@ module _ (f : List ℕ) (k v : ℕ) where
 
   -- ---- lower records
   vxr-reads : (x : ℕ) → vxrRule f x ≡ 0 → vxrRight f x ≡ true
-  unfolding vxrRule
-  vxr-reads x e = judged-reads f x 20 (vxrRight f x) e .1
+  vxr-reads x e = vxr-law f x .0 e .right
 
   vxr-makes : (x : ℕ) → Stands f x → vxrRight f x ≡ true → vxrRule f x ≡ 0
-  unfolding vxrRule
-  vxr-makes x s e = let z = vxr-size f x e .0 in judged-makes f x 20 (vxrRight f x) (stands-reach f x 20 s (omega arith)) e
+  vxr-makes x s e = let z = vxr-size f x e .0 in vxr-law f x .1 (record { reach = stands-reach f x 20 s (omega arith); right = e })
 
   pub lower-parts : (x : ℕ) → lowerNumber f x ≡ 0 → (vxrRight f x ≡ true) × (linkAt f (x + 8) ≡ 0)
   unfolding lowerNumber
@@ -297,22 +289,22 @@ module _ (f : List ℕ) (k v : ℕ) where
     values-make s r e = rw (reach-makes f (namedBy f s) 8 r, vdr-bytes f k v vdr .0, vvr-is s ∙ e)
 
     values-right : (above : List Slot) (c : Carried) (s : Slot) → ValuesGood f k v above c s → ValuesRight f k v s
-    unfolding vvrRule
     values-right above c s g =
-        let w = judged-reads f (namedBy f s) 8 (eqb (sizeAt f (namedBy f s)) (valueSize s)) (sym (vvr-is s) ∙ values-read f k v (entryIs f s) (g .values)) in
-        record { typed = type-reads f (namedBy f s) (pos 7) (g .typed) .1; size = eqb-true (sizeAt f (namedBy f s)) (valueSize s) (w .1) }
+        let w = vvr-law f (namedBy f s) _ _ .0 (sym (vvr-is s) ∙ values-read f k v (entryIs f s) (g .values)) in
+        record { typed = type-reads f (namedBy f s) (pos 7) (g .typed) .1; size = eqb-true (sizeAt f (namedBy f s)) (valueSize s) (w .right) }
 
     values-good : (above : List Slot) (c : Carried) (s : Slot) → Ranged f above (c .floor) s → Stands f (namedBy f s) → ValuesRight f k v s
         → (namesIndex f s ≡ false) × ValuesGood f k v above c s
-    unfolding vvrRule
     values-good above c s r n e = (
       other-type f (namedBy f s) (e .typed),
       record {
         range = r;
         typed = type-makes f (namedBy f s) (pos 7) (stands-begins f (namedBy f s) n) (e .typed);
         values = values-make s (stands-reach f (namedBy f s) 8 n (n .wide))
-            (judged-makes f (namedBy f s) 8 (eqb (sizeAt f (namedBy f s)) (valueSize s)) (stands-reach f (namedBy f s) 8 n (n .wide))
-            (eq-eqb (sizeAt f (namedBy f s)) (valueSize s) (e .size)));
+            (vvr-law f (namedBy f s) _ _ .1 (record {
+              reach = stands-reach f (namedBy f s) 8 n (n .wide);
+              right = eq-eqb (sizeAt f (namedBy f s)) (valueSize s) (e .size);
+            }));
       },
     )
 

@@ -10,12 +10,14 @@ use lib.Dec.{ltb, leb, eqb}
 use lib.IntN.{pos}
 use lib.ListN.{length, set}
 use borrow.Author.Tests.{eqb-true, eqb-false, eq-eqb, ne-eqb, leb-true, leb-false, le-leb, lt-leb, not-true}
+use Rattle.format.proofs.FieldRanges.{end-is}
 use Rattle.format.specs.Fields.{endOf}
 use Rattle.format.proofs.Tests.{both, cond-keeps}
 use Rattle.format.specs.Numbers.{first, unless}
 use Rattle.records.specs.Rules.{typedAt}
 use Rattle.records.specs.Opening.{bodyOf}
 use Rattle.records.specs.Tiles.{tileRight, tileFields, typeUncarried, tile}
+use Rattle.records.proofs.Tiled.{tile-has}
 use Rattle.records.proofs.Bodies.{body-le}
 use Rattle.marks.specs.Marks.{startAt, leftOf}
 use Rattle.marks.specs.declared.Found as F
@@ -143,11 +145,11 @@ module _ (f starts : List ℕ) (tiles : Tiles f 8 starts) (inside : (o : ℕ) �
 
     -- a mark of 1 or 2 stands at a start
     marked-start : (cs m : List ℕ) (t : ℕ) → Marked (endOf f) starts cs m → ((x : ℕ) → mem x cs ≡ true → S x) → startAt f m t ≡ true → S t
-    unfolding startAt endOf
+    unfolding startAt
     marked-start cs m t g sub e =
         let a = started f m t e in
         let q = both (leb 8 t && ltb t (endOf f)) (eqb (mark m t) 1 || eqb (mark m t) 2) e .1 in
-        go (mem t cs) refl (mem t starts) refl (rw (g .value t (a .0) (a .1)) at q)
+        go (mem t cs) refl (mem t starts) refl (rw (g .value t (a .0) (omega (arith, a .1, end-is f))) at q)
       where
         go : (a : Bool) → mem t cs ≡ a → (b : Bool) → mem t starts ≡ b → (eqb (cond a 2 (cond b 1 0)) 1 || eqb (cond a 2 (cond b 1 0)) 2) ≡ true → S t
         go true e b h q = sub t e
@@ -246,41 +248,41 @@ module _ (f m : List ℕ) (p : ℕ) (long : length f ≤ length m) where
       go (inr o) = inr o
 
   -- ---- where the tiles stop
-  stop-makes : (v : ℕ) → Opens f → (ss : List ℕ) → TilesTo b 8 ss p → tile b p ≡ v → v ≢ 0 → p ≢ endOf b → endStage f m ≡ Done v p
+  stop-makes : (v : ℕ) → Opens f → (ss : List ℕ) → TilesTo b 8 ss p → tile b (endOf b) p ≡ v → v ≢ 0 → p ≢ endOf b → endStage f m ≡ Done v p
   stop-makes v o ss t e n x = let s = sweep-stops b v p ss (length f) 8 m t e n x in opens-run f m long v p o (s .0) (s .1)
 
-  no-record : tile b p ≡ 7 → p ≢ endOf b → NoRecord b p
+  no-record : tile b (endOf b) p ≡ 7 → p ≢ endOf b → NoRecord b p
   unfolding tile tileRight
-  no-record e x = (x, go (leb (p + 8) (endOf b)) refl (tileFields b p) refl (typeUncarried b p) e)
+  no-record e x = (x, go (leb (p + 8) (endOf b)) refl (tileFields b (endOf b) p) refl (typeUncarried b p) e)
     where
-      go : (x : Bool) → leb (p + 8) (endOf b) ≡ x → (y : Bool) → tileFields b p ≡ y → (z : Bool) → _≡_ {A = ℕ} (cond (x && y) (cond z 14 0) 7) 7
-          → (endOf b < p + 8) ⊎ (tileFields b p ≡ false)
+      go : (x : Bool) → leb (p + 8) (endOf b) ≡ x → (y : Bool) → tileFields b (endOf b) p ≡ y → (z : Bool) → _≡_ {A = ℕ} (cond (x && y) (cond z 14 0) 7) 7
+          → (endOf b < p + 8) ⊎ (tileFields b (endOf b) p ≡ false)
       go false i y j z e = inl (leb-false (p + 8) (endOf b) i)
       go true i false j z e = inr j
       go true i true j true e = absurd (omega arith)
       go true i true j false e = absurd (omega arith)
 
-  record-no : NoRecord b p → tile b p ≡ 7
+  record-no : NoRecord b p → tile b (endOf b) p ≡ 7
   unfolding tile tileRight
   record-no (x, inl h) = rw (lt-leb (p + 8) (endOf b) h)
   record-no (x, inr h) = rw (h, and-false (leb (p + 8) (endOf b)))
 
-  uncarried : tile b p ≡ 14 → NotCarried b p
+  uncarried : tile b (endOf b) p ≡ 14 → NotCarried b p
   unfolding tile tileRight
-  uncarried e = go (leb (p + 8) (endOf b)) refl (tileFields b p) refl (typeUncarried b p) refl e
+  uncarried e = go (leb (p + 8) (endOf b)) refl (tileFields b (endOf b) p) refl (typeUncarried b p) refl e
     where
-      go : (x : Bool) → leb (p + 8) (endOf b) ≡ x → (y : Bool) → tileFields b p ≡ y → (z : Bool) → typeUncarried b p ≡ z
+      go : (x : Bool) → leb (p + 8) (endOf b) ≡ x → (y : Bool) → tileFields b (endOf b) p ≡ y → (z : Bool) → typeUncarried b p ≡ z
           → _≡_ {A = ℕ} (cond (x && y) (cond z 14 0) 7) 14 → NotCarried b p
       go true i true j true k e = (leb-true (p + 8) (endOf b) i, j, k)
       go true i true j false k e = absurd (omega arith)
       go true i false j z k e = absurd (omega arith)
       go false i y j z k e = absurd (omega arith)
 
-  carried-not : NotCarried b p → (tile b p ≡ 14) × (p ≢ endOf b)
+  carried-not : NotCarried b p → (tile b (endOf b) p ≡ 14) × (p ≢ endOf b)
   unfolding tile tileRight
   carried-not h = (rw (le-leb (p + 8) (endOf b) (h .0), h .1, h .2), λ e. omega (arith, h .0))
 
-  stops-at : (v : ℕ) (Fault : List ℕ → ℕ → Type 0) → (tile b p ≡ v → p ≢ endOf b → Fault b p) → Opens f → Stopped b v p 8 → TilesStop (below f) Fault p
+  stops-at : (v : ℕ) (Fault : List ℕ → ℕ → Type 0) → (tile b (endOf b) p ≡ v → p ≢ endOf b → Fault b p) → Opens f → Stopped b v p 8 → TilesStop (below f) Fault p
   stops-at v Fault reads o s =
       subst (λ (x : List ℕ). TilesStop x Fault p) (below-is f (o .opens))
       (record { starts = s .starts; tiled = tiles-tiled b (s .starts) 8 p (s .tiles); fault = reads (s .number) (s .more) })
@@ -356,17 +358,9 @@ module _ (f m : List ℕ) (p : ℕ) (long : length f ≤ length m) where
   unopened-reads v n (inr o) = o .2
 
   -- a number of a link is none of the sweep
-  not-swept : (v : ℕ) → OfLink v → tile b p ≡ v → ⊥
-  unfolding tile
-  not-swept v l e = go (tileRight b p) (typeUncarried b p) l e
-    where
-      go : (x y : Bool) → OfLink v → _≡_ {A = ℕ} (cond x (cond y 14 0) 7) v → ⊥
-      go true true (inl l) e = omega arith
-      go true true (inr l) e = omega arith
-      go true false (inl l) e = omega arith
-      go true false (inr l) e = omega arith
-      go false y (inl l) e = omega arith
-      go false y (inr l) e = omega arith
+  not-swept : (v : ℕ) → OfLink v → tile b (endOf b) p ≡ v → ⊥
+  not-swept v (inl l) e = tile-has b (endOf b) p (λ n. n ≡ v → ⊥) (λ z. omega arith) (λ z. omega arith) (λ z. omega arith) e
+  not-swept v (inr l) e = tile-has b (endOf b) p (λ n. n ≡ v → ⊥) (λ z. omega arith) (λ z. omega arith) (λ z. omega arith) e
 
   linked-reads : (v : ℕ) → OfLink v → Refused v → Opens f × (OfTarget (below f) p v × RecordAt (below f) p)
   linked-reads v l (inl (o, inl r)) = (o, walk-refused v (inl (inl l)) o r)

@@ -33,7 +33,7 @@ use Rattle.walk.proofs.Leads.{LinkIs, link-is}
 use Rattle.walk.specs.declared.positions.Step as T
 use Rattle.walk.specs.declared.positions.Step.the-variants.{Over, End, Down}
 use Rattle.demands.specs.Acceptance.{ListedVdr, ListedAdr, offsets, indexOffsets, variableOffsets, attributeOffsets}
-use Rattle.demands.proofs.Records.{judged-reads}
+use Rattle.records.proofs.Fielded.{vxr-law}
 use Rattle.demands.proofs.Goes.{Ends, Goes, goes-from, goes-to, takes-link, passes-link}
 use Rattle.demands.proofs.Lists.{EndsAt, Leads, Rules, Listed, LinkGoes, LinkEnds, list-leads, none-leads, then-leads, take-leads, claims-as, goes-leads}
 use Rattle.demands.proofs.Positions.{Position, position, top, StepEnds, Steps}
@@ -345,7 +345,7 @@ module _ (f : List ℕ) (E : Position → List ℕ → Type 0) (u : Var) (above 
   rise-steps floor b cs q g =
       let y = namedBy f s in
       let p = zeros (vxrRule f y ∷ unless 11 (isAt f (y + 8) (pos 0)) ∷ []) (g .lower) in
-      let r = judged-reads f y 20 (vxrRight f y) (p 0) .0 .lies in
+      let r = vxr-law f y .0 (p 0) .reach .lies in
       let i = g .range .last-lies in
       rw (
         level-there f s,

@@ -6,7 +6,8 @@ use native.Mathlib.Omega.{arith}
 use lib.ListN.{length, take}
 use lib.Seq.{take-length, take-append-seam}
 use Rattle.records.specs.Opening.{gdrAt, eofOf, gdrRight, Unpadded}
-use Rattle.records.proofs.Bodies.{opening-passes, opens-at, ends-at, gdr-parts, same-magics, same-compressed, same-cdr, same-single, same-rule, behind, ahead, padded-eof, own-at, padded-at}
+use Rattle.records.proofs.Opens.{opening-passes, gdr-parts}
+use Rattle.records.proofs.Bodies.{opens-at, ends-at, same-magics, same-compressed, same-cdr, same-single, same-rule, behind, ahead, padded-eof, own-at, padded-at}
 use Rattle.demands.specs.Acceptance.{Opening, Obeys}
 use Rattle.demands.specs.Demands.{EndsAtEof, PaddedAlike}
 

@@ -26,11 +26,11 @@ below f = take (eofOf f (gdrAt f)) f
 -- ---- the tiles stop
 -- 7: "fewer than 8 bytes left", but some; "size below 8 or past the end, type not in Table 2.1"
 abbrev pub NoRecord : List ℕ → ℕ → Type 0
-NoRecord f p = (p ≢ endOf f) × ((endOf f < p + 8) ⊎ (tileFields f p ≡ false))
+NoRecord f p = (p ≢ endOf f) × ((endOf f < p + 8) ⊎ (tileFields f (endOf f) p ≡ false))
 
 -- "After 7, types 10 to 13 give 14"
 abbrev pub NotCarried : List ℕ → ℕ → Type 0
-NotCarried f p = (p + 8 ≤ endOf f) × (tileFields f p ≡ true) × (typeUncarried f p ≡ true)
+NotCarried f p = (p + 8 ≤ endOf f) × (tileFields f (endOf f) p ≡ true) × (typeUncarried f p ≡ true)
 
 -- records tile the bytes f up to p, and there is what the fault says
 pub record TilesStop (f : List ℕ) (Fault : List ℕ → ℕ → Type 0) (p : ℕ) : Type 0 where

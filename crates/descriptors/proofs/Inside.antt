@@ -7,10 +7,11 @@ use native.Mathlib.Omega.{arith}
 use lib.IntN.{ℤ, pos}
 use lib.ListN.{length}
 use Rattle.format.specs.Fields.{endOf, eqZ}
+use Rattle.format.proofs.FieldRanges.{end-is}
+use Rattle.format.proofs.FieldRanges.{end-is}
 use Rattle.records.specs.Opening.{bodyOf}
-use Rattle.variables.specs.Vdr.{countPlace, layoutAt, layoutOf, variableOf}
-use Rattle.variables.proofs.Right.{right}
-use Rattle.variables.proofs.Dimensions.{Dimensions, of-variable}
+use Rattle.variables.specs.Vdr.{numDimsAt, layoutAt, layoutOf, variableOf}
+use Rattle.variables.proofs.Rule.{vdr-reads, Dimensions, of-variable}
 use Rattle.lookup.specs.Lists.{kindAmong, meets, variableWay, attributeWay, entryWay}
 use Rattle.lookup.specs.declared.lists.Wanted.{Wanted}
 use Rattle.lookup.specs.declared.lists.Way.{Way}
@@ -22,8 +23,8 @@ use Rattle.descriptors.specs.Descriptors.{variableDimensions}
 use Rattle.descriptors.specs.Bounds.{fieldBytes, Holds, Lie}
 
 counted : (f : List ℕ) (o : ℕ) → layoutOf f 8 o .sizes + 4 * layoutOf f 8 o .count ≤ endOf f → o + 132 ≤ length f
-unfolding layoutOf layoutAt countPlace endOf
-counted f o e = omega (arith, e)
+unfolding layoutOf layoutAt numDimsAt
+counted f o e = omega (arith, e, end-is f)
 
 module _ (f : List ℕ) where
   variable-bytes : (k : ℤ) (o : ℕ) → meets f (kindAmong 3 8 k) o ≡ true → o + fieldBytes (kindAmong 3 8 k) ≤ length f
@@ -31,7 +32,7 @@ module _ (f : List ℕ) where
     where
       go : (b : Bool) → eqZ k (pos 3) ≡ b → o + fieldBytes (kindAmong 3 8 k) ≤ length f
       go true e = rw e (variable-inside f o k m)
-      go false e = rw e (counted f o (right f 8 o (rw e at (variable-right f o k m)) .sizes))
+      go false e = rw e (counted f o (vdr-reads f 8 o (rw e at (variable-right f o k m)) .sizes))
 
   entry-bytes : (k : ℤ) (o : ℕ) → meets f (kindAmong 5 9 k) o ≡ true → o + fieldBytes (kindAmong 5 9 k) ≤ length f
   entry-bytes k o m = go (eqZ k (pos 5)) refl

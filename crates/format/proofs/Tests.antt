@@ -71,6 +71,11 @@ chain [] h = refl
 chain (a ∷ bs) h = all-chain a bs h
 
 -- ---- a choice
+-- what each branch has where the test leads to it, the choice has
+pub cond-cases : {A : Type 0} (P : A → Type 0) (b : Bool) {x y : A} → (b ≡ true → P x) → (b ≡ false → P y) → P (cond b x y)
+cond-cases P true p q = p refl
+cond-cases P false p q = q refl
+
 -- what both branches have, a test between them has
 pub cond-keeps : {A : Type 0} (P : A → Type 0) (b : Bool) {x y : A} → P x → P y → P (cond b x y)
 cond-keeps P true p q = p

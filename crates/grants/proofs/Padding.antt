@@ -12,6 +12,8 @@ use lib.Seq.{getD-set-same, getD-set-other}
 use borrow.Author.Tests.{ltb-true, ltb-false, eqb-true, eqb-false}
 use Rattle.format.specs.Fields.{endOf}
 use Rattle.format.specs.Numbers.{first, unless}
+use Rattle.format.proofs.FieldRanges.{end-is}
+use Rattle.format.proofs.FieldRanges.{end-is}
 use Rattle.records.specs.Rules.{sizeAt}
 use Rattle.records.specs.Opening.{tooLong, bodyOf}
 use Rattle.records.specs.Tiles.{tile}
@@ -85,11 +87,11 @@ marked-agree e m o p n h w a = record {
 -- ---- what a step looks at of them, over the bytes b
 module _ (b m o : List ℕ) (a : Agree (length b) m o) where
   same-start : (t : ℕ) → startAt b m t ≡ startAt b o t
-  unfolding startAt endOf
-  same-start t = go (ltb t (length b)) refl
+  unfolding startAt
+  same-start t = go (ltb t (endOf b)) refl
     where
-      go : (q : Bool) → ltb t (length b) ≡ q → startAt b m t ≡ startAt b o t
-      go true e = rw (a .mark t (ltb-true t (length b) e))
+      go : (q : Bool) → ltb t (endOf b) ≡ q → startAt b m t ≡ startAt b o t
+      go true e = rw (a .mark t (omega (arith, ltb-true t (endOf b) e, end-is b)))
       go false e = rw (e, and-false)
 
   unless-first : (early typed late : ℕ) (x y : ℕ) (s : Bool) → (s ≡ true → x ≡ y)
@@ -110,15 +112,15 @@ module _ (b m o : List ℕ) (a : Agree (length b) m o) where
   same-unclaimed p h = rw (a .mark p h)
 
   same-from : (n p : ℕ) → leftFrom b m n p ≡ leftFrom b o n p
-  unfolding leftFrom endOf
+  unfolding leftFrom
   same-from zero p = refl
-  same-from (suc n) p = go (ltb (length b) (p + 8)) refl (same-from n (p + sizeAt b p))
+  same-from (suc n) p = go (ltb (endOf b) (p + 8)) refl (same-from n (p + sizeAt b p))
     where
-      go : (q : Bool) → ltb (length b) (p + 8) ≡ q → leftFrom b m n (p + sizeAt b p) ≡ leftFrom b o n (p + sizeAt b p)
+      go : (q : Bool) → ltb (endOf b) (p + 8) ≡ q → leftFrom b m n (p + sizeAt b p) ≡ leftFrom b o n (p + sizeAt b p)
           → leftFrom b m (suc n) p ≡ leftFrom b o (suc n) p
       go true e ih = rw e
       go false e ih =
-          let claimed : unclaimedAt b m p ≡ unclaimedAt b o p = same-unclaimed p (omega (arith, ltb-false (length b) (p + 8) e)) in
+          let claimed : unclaimedAt b m p ≡ unclaimedAt b o p = same-unclaimed p (omega (arith, ltb-false (endOf b) (p + 8) e, end-is b)) in
           rw (claimed, ih)
 
   same-left : leftOf b m ≡ leftOf b o
@@ -164,7 +166,7 @@ module _ (b m o : List ℕ) (n : ℕ) (a : Agree (length b) m o) (room : length 
   swept-pair : (p : ℕ) → Pair (length b) (swept b m n p) (swept b o n p)
   unfolding swept
   swept-pair p =
-      settled-pair (sweeping p) (length b) (tile b p) m o (record { length = n; stage = sweptTo b (p + sizeAt b p) }) (marked m p (sizeAt b p)) (marked o p (sizeAt b p)) a
+      settled-pair (sweeping p) (length b) (tile b (endOf b) p) m o (record { length = n; stage = sweptTo b (p + sizeAt b p) }) (marked m p (sizeAt b p)) (marked o p (sizeAt b p)) a
       (λ e. let t = tiled b p e in marked-agree (length b) m o p (sizeAt b p) (omega arith) (omega arith) a)
 
 -- ---- two files of one length, with one body

@@ -1,19 +1,17 @@
 -- A record that a way has found lies in the file. Assumes nothing.
 use mathlib.Core.Path.{_≡_, refl, subst}
-use mathlib.Core.Bool.{Bool, true, false, cond}
+use mathlib.Core.Bool.{true, false, cond}
 use mathlib.Core.List.{List}
 use Prim.Native.Nat.{ℕ, _+_, _≤_}
-use lib.Dec.{eqb}
+use native.Mathlib.Omega.{arith}
 use lib.ListN.{length}
 use lib.IntN.{ℤ, pos}
-use borrow.Author.Tests.{eqb-true}
 use Rattle.format.specs.Fields.{eqZ}
-use Rattle.records.specs.Rules.{reachOf, judged}
+use Rattle.format.proofs.FieldRanges.{end-is}
 use Rattle.records.specs.Opening.{bodyOf}
-use Rattle.records.specs.Attributes.{adrRight, adrRule, aedrRight, aedrRule}
-use Rattle.records.proofs.Judged.{reach-zero}
+use Rattle.records.proofs.Fielded.{adr-law, aedr-law}
 use Rattle.variables.specs.Vdr.{variableOf}
-use Rattle.variables.proofs.Known.{vdr-inside}
+use Rattle.variables.proofs.Rule.{vdr-inside}
 use Rattle.lookup.specs.Lists.{meets, placeWay, kindAmong, variableWay, attributeWay, headOfEntries, entryWay}
 use Rattle.lookup.specs.Bounds.{Opened}
 use Rattle.lookup.specs.declared.lists.Wanted.{Wanted}
@@ -56,23 +54,13 @@ module _ (f : List ℕ) where
       in-opened (ToEntry a k w) t (λ o r. first-met (bodyOf f) t w (headOfEntries (r .adr) t) 0 o (r .entry))
       (entryWay f a k w) (entry-found f a k w)
 
-judged-zero : (f : List ℕ) (o n : ℕ) (right : Bool) → judged f o n right ≡ 0 → o + n ≤ length f
-unfolding judged
-judged-zero f o n right e = go (eqb (reachOf f o n) 0) refl e
-  where
-    go : (b : Bool) → eqb (reachOf f o n) 0 ≡ b → cond b (cond right 0 10) (reachOf f o n) ≡ 0 → o + n ≤ length f
-    go true h e = reach-zero f o n (eqb-true _ 0 h)
-    go false h e = reach-zero f o n e
-
 -- by its kind
 module _ (f : List ℕ) (o : ℕ) where
   pub attribute-inside : meets f 4 o ≡ true → o + 116 ≤ length f
-  unfolding adrRule
-  attribute-inside e = judged-zero f o 116 (adrRight f o) (attribute-kept f o (meets-parts f 4 o e .1))
+  attribute-inside e = omega (arith, adr-law f o .0 (attribute-kept f o (meets-parts f 4 o e .1)) .reach .lies, end-is f)
 
   pub entry-inside : (k : ℤ) → meets f (kindAmong 5 9 k) o ≡ true → o + 48 ≤ length f
-  unfolding aedrRule
-  entry-inside k e = judged-zero f o 48 (aedrRight f o) (entry-kept f o (eqZ k (pos 5)) (meets-parts f (kindAmong 5 9 k) o e .1))
+  entry-inside k e = omega (arith, aedr-law f o .0 (entry-kept f o (eqZ k (pos 5)) (meets-parts f (kindAmong 5 9 k) o e .1)) .reach .lies, end-is f)
 
   pub variable-right : (k : ℤ) → meets f (kindAmong 3 8 k) o ≡ true → variableOf f (kindAmong 3 8 k) o .fault ≡ 0
   variable-right k e = variable-kept f o (eqZ k (pos 3)) (meets-parts f (kindAmong 3 8 k) o e .1) .1

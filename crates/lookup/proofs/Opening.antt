@@ -9,7 +9,8 @@ use lib.ListN.{length}
 use borrow.Author.Tests.{ltb-false, eqb-true, not-true}
 use Rattle.records.specs.Opening.{tooLong, gdrAt, opening, bodyOf}
 use Rattle.format.proofs.Tests.{both}
-use Rattle.records.proofs.Bodies.{opening-passes, gdr-parts, body-le, opening-body}
+use Rattle.records.proofs.Opens.{opening-passes, gdr-parts}
+use Rattle.records.proofs.Bodies.{body-le, opening-body}
 use Rattle.lookup.specs.Lists.{opened}
 use Rattle.lookup.specs.Bounds.{Opened}
 

@@ -7,7 +7,8 @@ use native.Mathlib.Omega.{arith}
 use native.Mathlib.Numerals.{add-one}
 use borrow.Author.Tests.{eq-eqb, ne-eqb, leb-true}
 use lib.Dec.{leb, eqb}
-use Rattle.records.specs.Index.{entryOf, Bounds}
+use Rattle.records.specs.Index.{entryOf}
+use Rattle.records.specs.Bounds.{Bounds}
 use Rattle.records.specs.declared.index.Entry.{Entry}
 use Rattle.format.proofs.Tests.{both}
 use Rattle.lookup.specs.declared.indexes.Scan.{Scan}

@@ -35,7 +35,8 @@ use Rattle.format.proofs.Tests.{both}
 use Rattle.format.specs.Numbers.{unless}
 use Rattle.format.proofs.Numbers.{zeros}
 use Rattle.lookup.proofs.Kept.{Lies, lies-lands}
-use Rattle.demands.proofs.Records.{Stands, stands-begins, type-reads, values-read, VdrParts}
+use Rattle.variables.proofs.Rule.{VdrParts}
+use Rattle.demands.proofs.Records.{Stands, stands-begins, type-reads, values-read}
 use Rattle.demands.proofs.Lists.{Listed}
 use Rattle.demands.proofs.Levels.{levelsOf as levelsAbove, most-named, most-top}
 use Rattle.demands.proofs.Nested.{entryIs, Carried, carried, EntryGood, afterEntry, RowGood, afterRow, chainCarried, chainRules}

@@ -11,6 +11,8 @@ use lib.ListN.{length, length-append}
 use borrow.Author.Tests.{eqb-true, eq-eqb}
 use Rattle.format.specs.Fields.{endOf}
 use Rattle.format.proofs.Tests.{not-both}
+use Rattle.format.proofs.FieldRanges.{end-is}
+use Rattle.format.proofs.FieldRanges.{end-is}
 use Rattle.records.specs.Rules.{sizeAt}
 use Rattle.lookup.specs.Lists.{allowance}
 use Rattle.demands.specs.Acceptance.{variableOffsets, attributeOffsets}
@@ -62,7 +64,7 @@ tiles-many f (s ∷ ss) o t = omega (arith, fits f o (t .1) .wide, tiles-many f 
 -- after the GDR: the records of the three lists and all that is below them
 pub room : (f : List ℕ) (v : Valid f 0 0 (NestedObeys f) (claimsOf f))
     → length (variableOffsets f (v .layout .0)) + length (variableOffsets f (v .layout .1 .0)) + length (attributeOffsets (v .layout .1 .1 .0)) ≤ allowance f
-unfolding allowance endOf
+unfolding allowance
 room f v =
     let y = v .layout in
     let rs = variableOffsets f (y .0) in
@@ -71,6 +73,7 @@ room f v =
     let us = y .1 .1 .1 in
     omega (
       arith,
+      end-is f,
       once-within (claimsOf f y) (8 ∷ v .starts) (v .reached .once) (v .reached .landed),
       tiles-many f (8 ∷ v .starts) 8 (v .tiles),
       length-append rs (zs ++ (ads ++ us)),

@@ -19,7 +19,7 @@ use Rattle.records.specs.Index.{vvrRule}
 use Rattle.records.specs.Tree.{Slot, firstOf, lastOf, namedBy}
 use Rattle.records.specs.declared.index.Entry.{Entry}
 use Rattle.variables.specs.Limit.{capped}
-use Rattle.variables.specs.Vdr.{layoutOf, valueBytes, padBytes, recordBytes, spread, vdrFields, variableOf}
+use Rattle.variables.specs.Vdr.{layoutOf, valueBytes, padBytes, recordBytes, valuesPerRecord, vdrFields, variableOf}
 use Rattle.variables.specs.Place.{elementPlace, indicesRight, rowFits, placed, placeOf}
 use Rattle.variables.specs.declared.vdr.Layout.{Layout}
 use Rattle.variables.specs.declared.vdr.Variable.{Variable}
@@ -42,12 +42,13 @@ use Rattle.answers.specs.declared.Read.the-variants.{Refused}
 use Rattle.read_theorems.specs.Reading.{Met, ElementShown, ValueShown, EntryShown, PadShown, LevelsShown, ValuesShown, reserved, inRecordAt, valueAt, entryAt, padAt, questionRight, padRight, ShownOrRefused}
 use Rattle.variables.proofs.Capped.{capped-small}
 use Rattle.variables.proofs.Bound.{place-below}
-use Rattle.variables.proofs.Right.{right, fields-right, variable-is, place-is}
-use Rattle.demands.proofs.Records.{judged-reads}
+use Rattle.variables.proofs.Rule.{vdr-fields, vdr-reads, vdr-makes, place-is}
+use Rattle.records.proofs.Fielded.{vvr-law, aedr-law, AedrFields, aedr-fields}
 use Rattle.demands.proofs.VariableFacts.{z-layout, r-layout, exact-size}
 use Rattle.format.proofs.Tests.{both}
 use Rattle.values.proofs.Agreeing.{Decodes, decodes}
-use Rattle.records.proofs.Bodies.{opening-passes, opening-body}
+use Rattle.records.proofs.Opens.{opening-passes}
+use Rattle.records.proofs.Bodies.{opening-body}
 use Rattle.lookup.proofs.Opening.{opened-parts}
 use Rattle.lookup.proofs.Kept.{Lies, lands-lies, meets-parts, variable-kept, entry-kept}
 use Rattle.lookup.proofs.Sought.{nth, first-met, listed-met, Finds, InOpened, ToVariable, variable-found, ToEntry, entry-found}
@@ -81,13 +82,12 @@ module _ (f : List ℕ) where
     pub is : at ≡ namedBy f (reached .slot) + 8 + (r - firstOf f (reached .slot)) * bytes
 
   pub locate : (v bytes : ℕ) (r : ℤ) (at : ℕ) → ToRecord f v r bytes at → Located v bytes (recordRead f v r) at
-  unfolding vvrRule
   locate v bytes r at t =
       let w = reached f v r (t .entry) (t .way) in
       let s = w .slot in
       let lands = subst (λ (e : Entry). landsOn f 7 (e .link) ≡ true) (w .is) (t .lands) in
       let rule = subst (λ (e : Entry). vvrRule f (e .link) (e .last - e .first + 1) bytes ≡ 0) (w .is) (t .rule) in
-      let size = judged-reads f (namedBy f s) 8 (eqb (sizeAt f (namedBy f s)) (8 + (lastOf f s - firstOf f s + 1) * bytes)) rule .1 in
+      let size = vvr-law f (namedBy f s) (lastOf f s - firstOf f s + 1) bytes .0 rule .right in
       record {
         entry = t .entry;
         depth = t .way .down .depth;
@@ -110,24 +110,13 @@ value-is : (f : List ℕ) (o : ℕ) → valueBytes f o ≡ natAt f (o + 48) * el
 unfolding valueBytes
 value-is f o = refl
 
-record-is : (f : List ℕ) (o : ℕ) (l : Layout) → recordBytes f o l ≡ valueBytes f o * spread f (l .count) (l .sizes) (l .variances)
+record-is : (f : List ℕ) (o : ℕ) (l : Layout) → recordBytes f o l ≡ valueBytes f o * valuesPerRecord f (l .count) (l .sizes) (l .variances)
 unfolding recordBytes
 record-is f o l = refl
 
 -- a data type has a size
 vdr-sized : (f : List ℕ) (o : ℕ) → vdrFields f o ≡ true → 1 ≤ elementSize f (o + 12)
-unfolding vdrFields
-vdr-sized f o e =
-    let a = leb 1 (elementSize f (o + 12)) in
-    let b = atLeast f (o + 16) (negsuc 0) in
-    let c = ltb (bigAt f (o + 28) 4) 8 in
-    let d = atLeast f (o + 32) (pos 0) in
-    let g = atMost f (o + 32) (pos 2) in
-    let h = atLeast f (o + 48) (pos 1) in
-    let i = isAt f (o + 12) (pos 51) || isAt f (o + 12) (pos 52) || isAt f (o + 48) (pos 1) in
-    let p = both (a && b && c && d && g) h (both (a && b && c && d && g && h) i e .0) .0 in
-    let q = both (a && b) c (both (a && b && c) d (both (a && b && c && d) g p .0) .0) .0 in
-    leb-true 1 (elementSize f (o + 12)) (both a b q .0)
+vdr-sized f o e = vdr-fields f o .0 e .typed
 
 -- ---- an element that is given
 module _ (f : List ℕ) (at t : ℕ) (a : Answer) (e : elementOf f at t ≡ Given a) where
@@ -142,7 +131,7 @@ module _ (f : List ℕ) (at t : ℕ) (a : Answer) (e : elementOf f at t ≡ Give
 -- ---- A VALUE OF A VARIABLE, in the bytes f, whose encoding has an order: Fact of every answer, N of every number that a refusal gives
 bytes-are : (f : List ℕ) (t v : ℕ) → variableOf f t v .fault ≡ 0 → variableOf f t v .bytes ≡ recordBytes f v (layoutOf f t v)
 bytes-are f t v fault =
-    ap (λ (u : Variable). u .bytes) (variable-is f t v fault) ∙ capped-small (recordBytes f v (layoutOf f t v)) (omega (arith, right f t v fault .bytes))
+    ap (λ (u : Variable). u .bytes) (vdr-makes f t v (vdr-reads f t v fault)) ∙ capped-small (recordBytes f v (layoutOf f t v)) (omega (arith, vdr-reads f t v fault .small))
 
 found-fault : (f : List ℕ) (k n : ℤ) (v : ℕ) → ToVariable k n f v → variableOf f (kindAmong 3 8 k) v .fault ≡ 0
 found-fault f k n v found = variable-kept f v (eqZ k (pos 3)) (meets-parts f (kindAmong 3 8 k) v (listed-met f (kindAmong 3 8 k) n v (found .listed)) .1) .1
@@ -153,7 +142,7 @@ module _ (f : List ℕ) (k n r : ℤ) (is : List ℤ) (x : ℤ) (Fact : Answer �
     l = layoutOf f (kindAmong 3 8 k) v
 
     abbrev many : ℕ
-    many = spread f (l .count) (l .sizes) (l .variances)
+    many = valuesPerRecord f (l .count) (l .sizes) (l .variances)
 
     abbrev place : ℕ
     place = elementPlace f l (rowMajority f) is
@@ -175,7 +164,7 @@ module _ (f : List ℕ) (k n r : ℤ) (is : List ℤ) (x : ℤ) (Fact : Answer �
         → (elementThere f (v + 48) x ≡ false → N 18) → (elementThere f (v + 48) x ≡ true → operand at ≡ true → N 22)
         → Tells Fact N (elementRead f (at + place * valueBytes f v) (v + 12) (v + 48) x)
     in-place at there loc ok fact wrong refused =
-        element-tells f (at + place * valueBytes f v) (v + 12) (v + 48) x Fact N wrong refused (vdr-sized f v (fields-right f (kindAmong 3 8 k) v fault)) order
+        element-tells f (at + place * valueBytes f v) (v + 12) (v + 48) x Fact N wrong refused (vdr-sized f v (vdr-reads f (kindAmong 3 8 k) v fault .fields)) order
         (λ h. let b = inside h in omega (arith, b, loc .is, loc .size, loc .lies .inside))
         (λ a h d.
         let b = inside h in
@@ -217,7 +206,7 @@ module _ (f : List ℕ) (k n r : ℤ) (is : List ℤ) (x : ℤ) (Fact : Answer �
     small h =
         let p = place-below f l (rowMajority f) is h in
         let a : suc 0 * valueBytes f v ≤ many * valueBytes f v = mul-le-mul-right (valueBytes f v) (omega (arith, p)) in
-        let b = right f (kindAmong 3 8 k) v fault .bytes in
+        let b = vdr-reads f (kindAmong 3 8 k) v fault .small in
         omega (arith, a, b, record-is f v l, mul-comm (valueBytes f v) many)
 
     abbrev asked : Bool
@@ -228,7 +217,7 @@ module _ (f : List ℕ) (k n r : ℤ) (is : List ℤ) (x : ℤ) (Fact : Answer �
         → (asked ≡ false → N 18) → (asked ≡ true → operand at ≡ true → N 22)
         → Tells Fact N (inRecord f v (variableOf f (kindAmong 3 8 k) v) at is x)
     unfolding inRecord placeOf
-    in-record at there loc fact wrong refused = rw (variable-is f (kindAmong 3 8 k) v fault) (go (placed f l is) refl)
+    in-record at there loc fact wrong refused = rw (vdr-makes f (kindAmong 3 8 k) v (vdr-reads f (kindAmong 3 8 k) v fault)) (go (placed f l is) refl)
       where
         go : (b : Bool) → placed f l is ≡ b → Tells Fact N (atPlace f v (capped (valueBytes f v)) at x (cond b (At (capped place)) Wrong))
         go true e =
@@ -290,17 +279,6 @@ found-bytes f k n v left e =
     (found-fault (bodyOf f) k n v (subst (Finds (InOpened f (ToVariable k n))) e (variable-found f k n) .1))
 
 -- ---- AN ENTRY'S VALUE
-aedr-parts : (f : List ℕ) (e : ℕ) → aedrRight f e ≡ true → (1 ≤ elementSize f (e + 16)) × (sizeAt f e ≡ 48 + natAt f (e + 24) * elementSize f (e + 16))
-unfolding aedrRight
-aedr-parts f e h =
-    let a = leb 1 (elementSize f (e + 16)) in
-    let b = atLeast f (e + 20) (pos 0) in
-    let c = atLeast f (e + 24) (pos 1) in
-    let p = both (a && b && c) (eqb (sizeAt f e) (48 + natAt f (e + 24) * elementSize f (e + 16))) h in (
-      leb-true 1 (elementSize f (e + 16)) (both a b (both (a && b) c (p .0) .0) .0),
-      eqb-true (sizeAt f e) (48 + natAt f (e + 24) * elementSize f (e + 16)) (p .1),
-    )
-
 pub entry-meets : (f : List ℕ) (b k : ℤ) (w : Wanted) (e : ℕ) → ToEntry b k w f e → meets f (kindAmong 5 9 k) e ≡ true
 entry-meets f b k w e t = first-met f (kindAmong 5 9 k) w (headOfEntries (t .adr) (kindAmong 5 9 k)) 0 e (t .entry)
 
@@ -309,17 +287,16 @@ module _ (f : List ℕ) (k : ℤ) (e : ℕ) (m : meets f (kindAmong 5 9 k) e ≡
   pub entry-lies : Lies f (kindAmong 5 9 k) e
   entry-lies = meets-parts f (kindAmong 5 9 k) e m .0
 
-  parts : (1 ≤ elementSize f (e + 16)) × (sizeAt f e ≡ 48 + natAt f (e + 24) * elementSize f (e + 16))
-  unfolding aedrRule
-  parts = aedr-parts f e (judged-reads f e 48 (aedrRight f e) (entry-kept f e (eqZ k (pos 5)) (meets-parts f (kindAmong 5 9 k) e m .1)) .1)
+  parts : AedrFields f e
+  parts = aedr-fields f e .0 (aedr-law f e .0 (entry-kept f e (eqZ k (pos 5)) (meets-parts f (kindAmong 5 9 k) e m .1)) .right)
 
   pub entry-sized : 1 ≤ elementSize f (e + 16)
-  entry-sized = parts .0
+  entry-sized = parts .typed
 
   pub entry-element : (x : ℤ) → elementThere f (e + 24) x ≡ true → e + 48 + natOr 0 x * elementSize f (e + 16) + elementSize f (e + 16) ≤ e + sizeAt f e
   entry-element x h =
       let a : suc (natOr 0 x) * elementSize f (e + 16) ≤ natAt f (e + 24) * elementSize f (e + 16) = mul-le-mul-right (elementSize f (e + 16)) (element-below f (e + 24) x h) in
-      omega (arith, a, parts .1, suc-mul (natOr 0 x) (elementSize f (e + 16)))
+      omega (arith, a, parts .size, suc-mul (natOr 0 x) (elementSize f (e + 16)))
 
 -- of the entry at e in a file: the element is there; it is a reserved operand
 abbrev pub entryHas : List ℕ → ℤ → ℕ → Bool
@@ -412,7 +389,7 @@ module _ (f : List ℕ) (k n x : ℤ) (Fact : Answer → Type 0) (N : ℕ → Ty
       → (padRight f v x ≡ false → N 18) → (padRight f v x ≡ true → reserved f (padAt f v x) (v + 12) ≡ true → N 22)
       → Tells Fact N (padIn f v (variableOf f (kindAmong 3 8 k) v) x)
   unfolding padIn
-  in-pad order v t fact wrong refused = rw (variable-is f (kindAmong 3 8 k) v fault) (go (bitAt f (v + 28) 2) refl)
+  in-pad order v t fact wrong refused = rw (vdr-makes f (kindAmong 3 8 k) v (vdr-reads f (kindAmong 3 8 k) v fault)) (go (bitAt f (v + 28) 2) refl)
     where
       met : Lies f (kindAmong 3 8 k) v
       met = meets-parts f (kindAmong 3 8 k) v (listed-met f (kindAmong 3 8 k) n v (t .listed)) .0
@@ -430,7 +407,7 @@ module _ (f : List ℕ) (k n x : ℤ) (Fact : Answer → Type 0) (N : ℕ → Ty
       begins = layoutOf f (kindAmong 3 8 k) v .variances + 4 * layoutOf f (kindAmong 3 8 k) v .count
 
       ends : bitAt f (v + 28) 2 ≡ true → v + sizeAt f v ≡ begins + valueBytes f v
-      ends e = omega (arith, exact-size f (kindAmong 3 8 k) v (right f (kindAmong 3 8 k) v fault .exact), pad-is f v e)
+      ends e = omega (arith, exact-size f (kindAmong 3 8 k) v (vdr-reads f (kindAmong 3 8 k) v fault .exact), pad-is f v e)
 
       here : bitAt f (v + 28) 2 ≡ true → elementAt f begins (v + 12) x ≡ padAt f v x
       here e = let b : begins ≡ v + sizeAt f v - valueBytes f v = omega (arith, ends e) in ap (λ (o : ℕ). elementAt f o (v + 12) x) b
@@ -439,7 +416,7 @@ module _ (f : List ℕ) (k n x : ℤ) (Fact : Answer → Type 0) (N : ℕ → Ty
       go true e =
           element-tells f begins (v + 12) (v + 48) x Fact N
           (λ h. wrong (rw (e, h))) (λ h q. refused (rw (e, h)) (subst (λ (o : ℕ). reserved f o (v + 12) ≡ true) (here e) q))
-          (vdr-sized f v (fields-right f (kindAmong 3 8 k) v fault)) order
+          (vdr-sized f v (vdr-reads f (kindAmong 3 8 k) v fault .fields)) order
           (λ h. omega (arith, inside h, ends e, met .inside))
           (λ a h d.
           let g : elementOf f (padAt f v x) (v + 12) ≡ Given a = subst (λ (o : ℕ). elementOf f o (v + 12) ≡ Given a) (here e) d in

@@ -19,7 +19,8 @@ use Rattle.lookup.specs.declared.lists.Way.{Way}
 use Rattle.lookup.specs.declared.lists.Way.the-variants.{Found, Stopped}
 use Rattle.demands.specs.Acceptance.{_∈_, ListedVdr, ListedAdr, offsets, indexOffsets, variableOffsets, attributeOffsets}
 use Rattle.lookup.proofs.Kept.{parts-meet, kept-attribute, kept-entry, kept-variable}
-use Rattle.demands.proofs.Records.{Stands, stands-nonzero, type-reads, VdrParts, vdr-reads}
+use Rattle.variables.proofs.Rule.{VdrParts, vdr-reads}
+use Rattle.demands.proofs.Records.{Stands, stands-nonzero, type-reads}
 use Rattle.demands.proofs.Lists.{Rules, Listed}
 use Rattle.demands.proofs.Nested.{chainRules, varsRules, entriesRules, attrsRules}
 use Rattle.demands.proofs.Splits.{split-in, each-in, listed-reads, length-earlier, offset-in, below-in}

@@ -1,4 +1,4 @@
--- The opening of a file and what lies before its end. Assumes nothing.
+-- The end of a file, and what lies before it: the opening goes by that alone. Assumes nothing.
 use mathlib.Core.Path.{_≡_, refl, sym, ap, _∙_}
 use mathlib.Core.Bool.{Bool, true, false, cond, _&&_}
 use mathlib.Core.List.{List, _++_}
@@ -10,92 +10,14 @@ use lib.ListN.{length, take, length-append}
 use lib.Seq.{length-take-le, take-length, take-append-seam, take-take}
 use borrow.Author.Tests.{leb-true, eqb-true, le-leb}
 use Rattle.format.specs.Fields.{endOf, isAt, atLeast, atMost, eachWithin, natAt, linkAt, bitAt}
-use Rattle.format.proofs.Tests.{both, cond-left, cond-right}
+use Rattle.format.proofs.Tests.{both}
+use Rattle.format.proofs.FieldRanges.{end-is}
 use Rattle.format.proofs.Agree.{same-big, same-field, same-each}
 use Rattle.records.specs.Rules.{sizeAt, typedAt}
-use Rattle.records.specs.Opening.{magicsRight, whollyCompressed, cdrRight, singleFile, gdrAt, eofOf, eofRight, gdrFields, rNumDims, gdrRight, opening, fileEnd, bodyOf, Unpadded}
+use Rattle.records.specs.Opening.{magicsRight, whollyCompressed, cdrRight, singleFile, gdrAt, eofOf, eofRight, gdrFields, rNumDims, gdrRight, magicsNumber, descriptorsNumber, opening, fileEnd, bodyOf, Unpadded}
+use Rattle.records.proofs.Opens.{window, Passes, opening-passes, passes-opening, gdr-parts}
 
--- ---- what an opening lets pass
 module _ (f : List ℕ) where
-  pub record Passes : Type 0 where
-    pub least : 372 ≤ length f
-    pub magics : magicsRight f ≡ true
-    pub uncompressed : whollyCompressed f ≡ false
-    pub cdr : cdrRight f ≡ true
-    pub single : singleFile f ≡ true
-    pub gdr : gdrRight f (gdrAt f) ≡ true
-
-  pub opening-passes : opening f ≡ 0 → Passes
-  unfolding opening
-  opening-passes e =
-      let gdr : ℕ = cond (gdrRight f (gdrAt f)) 0 6 in
-      let one : ℕ = cond (singleFile f) gdr 14 in
-      let cdr : ℕ = cond (cdrRight f) one 5 in
-      let a = cond-left (leb 372 (length f) && magicsRight f) 2 (cond (whollyCompressed f) 4 cdr) e in
-      let w = both (leb 372 (length f)) (magicsRight f) (a .0) in
-      let b = cond-right (whollyCompressed f) 3 cdr (a .1) in
-      let c = cond-left (cdrRight f) 4 one (b .1) in
-      let d = cond-left (singleFile f) 13 gdr (c .1) in
-      record {
-        least = leb-true 372 (length f) (w .0);
-        magics = w .1;
-        uncompressed = b .0;
-        cdr = c .0;
-        single = d .0;
-        gdr = cond-left (gdrRight f (gdrAt f)) 5 0 (d .1) .0;
-      }
-
-  pub passes-opening : Passes → opening f ≡ 0
-  unfolding opening
-  passes-opening o = rw (le-leb 372 (length f) (o .least), o .magics, o .uncompressed, o .cdr, o .single, o .gdr)
-
-  -- an eof in its window
-  pub window : (eof : ℕ) → eofRight f eof ≡ true → (eof ≤ length f) × (length f ≤ eof + 511)
-  unfolding eofRight
-  window eof e =
-      let a = both (leb eof (length f)) (leb (length f) (eof + 511)) e in
-      (leb-true eof (length f) (a .0), leb-true (length f) (eof + 511) (a .1))
-
-  pub eof-there : (g : ℕ) → gdrFields f g ≡ true → eofRight f (eofOf f g) ≡ true
-  unfolding gdrFields
-  eof-there g e =
-      both (
-      typedAt f g (pos 2)
-      && atLeast f (g + 36) (pos 0)
-      && atMost f (g + 36) (pos 10)
-      && atLeast f (g + 24) (pos 0)
-      && atLeast f (g + 28) (pos 0)
-      && atLeast f (g + 40) (pos 0)
-      && atLeast f (g + 32) (negsuc 0)
-      ) (eofRight f (eofOf f g)) e .1
-
-  -- where a GDR that keeps its rule lies
-  pub record GdrParts (g : ℕ) : Type 0 where
-    pub placed : 312 ≤ g
-    pub size : sizeAt f g ≡ 60 + 4 * rNumDims f g
-    pub inside : g + sizeAt f g ≤ eofOf f g
-    pub eof : eofOf f g ≤ length f
-    pub near : length f ≤ eofOf f g + 511
-
-  pub gdr-parts : (g : ℕ) → gdrRight f g ≡ true → GdrParts g
-  unfolding gdrRight
-  gdr-parts g e =
-      let each = eachWithin f (g + 60) (rNumDims f g) (pos 1) (pos 2147483647) in
-      let all = leb (g + sizeAt f g) (eofOf f g) && each in
-      let sized = eqb (sizeAt f g) (60 + 4 * rNumDims f g) && all in
-      let a = both (leb 312 g) (leb (g + 60) (endOf f) && (gdrFields f g && sized)) e in
-      let b = both (leb (g + 60) (endOf f)) (gdrFields f g && sized) (a .1) in
-      let c = both (gdrFields f g) sized (b .1) in
-      let d = both (eqb (sizeAt f g) (60 + 4 * rNumDims f g)) all (c .1) in
-      let w = window (eofOf f g) (eof-there g (c .0)) in
-      record {
-        placed = leb-true 312 g (a .0);
-        size = eqb-true (sizeAt f g) (60 + 4 * rNumDims f g) (d .0);
-        inside = leb-true (g + sizeAt f g) (eofOf f g) (both (leb (g + sizeAt f g) (eofOf f g)) each (d .1) .0);
-        eof = w .0;
-        near = w .1;
-      }
-
   -- ---- the end
   abbrev eof : ℕ
   eof = eofOf f (gdrAt f)
@@ -119,7 +41,7 @@ module _ (f : List ℕ) where
   at-eof : goesBy ≡ true → AtEof
   at-eof e =
       let a = both (leb (gdrAt f + 60) eof) (eofRight f eof) e in
-      let w = window eof (a .1) in
+      let w = window f eof (a .1) in
       record { gdr = leb-true (gdrAt f + 60) eof (a .0); within = w .0; near = w .1 }
 
   pub ends-at : AtEof → fileEnd f ≡ eof
@@ -161,12 +83,12 @@ module _ (f : List ℕ) where
   whole e = rw e (take-length f)
 
   -- a file that opens ends at its eof
-  pub opens-at : Passes → AtEof
-  opens-at p = let g = gdr-parts (gdrAt f) (p .gdr) in record { gdr = omega arith; within = g .eof; near = g .near }
+  pub opens-at : Passes f → AtEof
+  opens-at p = let g = gdr-parts f (gdrAt f) (p .gdr) in record { gdr = omega arith; within = g .eof; near = g .near }
 
   pub body-below : opening f ≡ 0 → bodyOf f ≡ take eof f
   unfolding bodyOf
-  body-below e = ap (λ (k : ℕ). take k f) (ends-at (opens-at (opening-passes e)))
+  body-below e = ap (λ (k : ℕ). take k f) (ends-at (opens-at (opening-passes f e)))
 
 guarded : (a b x y : Bool) → (a ≡ true → b ≡ true → x ≡ y) → (a && (b && x)) ≡ (a && (b && y))
 guarded true true x y h = h refl refl
@@ -232,7 +154,7 @@ module _ (e : ℕ) (f g : List ℕ) (same : take e f ≡ take e g) (far : gdrAt 
 
   -- both end at their eof, which is not above that offset
   pub same-rule : AtEof f → AtEof g → eofOf g (gdrAt g) ≤ e → gdrRight f (gdrAt f) ≡ gdrRight g (gdrAt g)
-  unfolding gdrRight endOf
+  unfolding gdrRight
   same-rule a b h =
       let at = gdrAt g in
       let n = rNumDims g at in
@@ -241,8 +163,8 @@ module _ (e : ℕ) (f g : List ℕ) (same : take e f ≡ take e g) (far : gdrAt 
       let each = same-each e f g same n (at + 60) (pos 1) (pos 2147483647) in
       rw (
         same-fields (eof-right f a) (eof-right g b),
-        le-leb (gdrAt f + 60) (length f) (omega (arith, a .gdr, a .within)),
-        le-leb (gdrAt g + 60) (length g) (omega (arith, b .gdr, b .within)),
+        le-leb (gdrAt f + 60) (endOf f) (omega (arith, a .gdr, a .within, end-is f)),
+        le-leb (gdrAt g + 60) (endOf g) (omega (arith, b .gdr, b .within, end-is g)),
         same-size,
         same-dims,
         same-eof,
@@ -284,7 +206,7 @@ module _ (f g : List ℕ) (long : length f ≡ length g) (same : bodyOf f ≡ bo
   same-end = sym (body-length f) ∙ ap length same ∙ body-length g
 
   by-eof : AtEof f → AtEof g → opening f ≡ opening g
-  unfolding opening bodyOf
+  unfolding opening magicsNumber descriptorsNumber bodyOf
   by-eof a b =
       let e = eofOf f (gdrAt f) in
       let eofs : eofOf g (gdrAt g) ≡ e = sym (ends-at g b) ∙ sym same-end ∙ ends-at f a in

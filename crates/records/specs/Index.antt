@@ -1,37 +1,36 @@
 -- Index records, their entries, and value records; request #104's lower index records. Assumes nothing.
-use Prim.Native.Nat.{ℕ, _+_, _*_, _≤_, _<_}
+use Prim.Native.Nat.{ℕ, _+_, _*_}
 use mathlib.Core.Bool.{Bool, cond, _&&_}
 use mathlib.Core.List.{List}
-use mathlib.Core.Path.{_≡_}
-use lib.ListN.{length}
 use lib.Dec.{ltb, leb, eqb}
 use lib.IntN.{pos}
 use Rattle.format.specs.Fields.{endOf, atLeast, inOrder, natAt, linkAt}
+use Rattle.records.specs.Layout.{vxrEntriesAt, vxrUsedAt, firstsAt}
 use Rattle.records.specs.Rules.{sizeAt, typedAt, judged}
 use Rattle.records.specs.declared.index.Entry.{Entry}
 
 -- "VXR (6). .. entries 12, used 16 (0 to entries), .. Size 20 + 12 × entries"
 abbrev pub entriesAt : List ℕ → ℕ → ℕ
-entriesAt f x = natAt f (x + 12)
+entriesAt f x = natAt f (vxrEntriesAt x)
 
 abbrev pub usedAt : List ℕ → ℕ → ℕ
-usedAt f x = natAt f (x + 16)
+usedAt f x = natAt f (vxrUsedAt x)
 
 unfoldable pub vxrRight : List ℕ → ℕ → Bool
-vxrRight f x = atLeast f (x + 16) (pos 0) && inOrder f (x + 16) (x + 12) && eqb (sizeAt f x) (20 + 12 * entriesAt f x)
+vxrRight f x = atLeast f (vxrUsedAt x) (pos 0) && inOrder f (vxrUsedAt x) (vxrEntriesAt x) && eqb (sizeAt f x) (20 + 12 * entriesAt f x)
 
 unfoldable pub vxrRule : List ℕ → ℕ → ℕ
 vxrRule f x = judged f x 20 (vxrRight f x)
 
 -- "then all Firsts, all Lasts, all Offsets": where those of entry i of n stand
-abbrev pub firstPlace : ℕ → ℕ → ℕ
-firstPlace x i = x + 20 + 4 * i
+abbrev pub firstFieldAt : ℕ → ℕ → ℕ
+firstFieldAt x i = firstsAt x + 4 * i
 
-abbrev pub lastPlace : ℕ → ℕ → ℕ → ℕ
-lastPlace x n i = firstPlace x i + 4 * n
+abbrev pub lastFieldAt : ℕ → ℕ → ℕ → ℕ
+lastFieldAt x n i = firstFieldAt x i + 4 * n
 
-abbrev pub offsetPlace : ℕ → ℕ → ℕ → ℕ
-offsetPlace x n i = lastPlace x n i + 4 * n
+abbrev pub offsetFieldAt : ℕ → ℕ → ℕ → ℕ
+offsetFieldAt x n i = lastFieldAt x n i + 4 * n
 
 -- size and type at o lie before the file's end, and the type is an index record's
 abbrev pub indexAt : List ℕ → ℕ → Bool
@@ -57,6 +56,10 @@ rangeNumber f first last offset floor most =
     (cond (ltb (endOf f) (last + 4)) 20 (cond (closes f first last most) (cond (ltb (endOf f) (offset + 4)) 20 0) 12))
     12
 
+-- record r lies in an entry's range
+abbrev pub entryCovers : Entry → ℕ → Bool
+entryCovers e r = leb (e .first) r && leb r (e .last)
+
 abbrev pub entryFault : ℕ → Entry
 entryFault v = record { fault = v; first = 0; last = 0; link = 0 }
 
@@ -68,26 +71,13 @@ entryBy f first last offset number =
 -- entry i of the n of the VXR at x: first 20 if its First passes the file's end
 abbrev pub entryAmong : List ℕ → ℕ → ℕ → ℕ → ℕ → ℕ → Entry
 entryAmong f x n i floor most =
-    let first = firstPlace x i in
-    let last = lastPlace x n i in
-    let offset = offsetPlace x n i in
+    let first = firstFieldAt x i in
+    let last = lastFieldAt x n i in
+    let offset = offsetFieldAt x n i in
     cond (ltb (endOf f) (first + 4)) (entryFault 20) (entryBy f first last offset (rangeNumber f first last offset floor most))
 
 unfoldable pub entryOf : List ℕ → ℕ → ℕ → ℕ → ℕ → Entry
 entryOf f x i floor most = entryAmong f x (entriesAt f x) i floor most
-
--- the bounds of a range that is right
-pub record Ranged (f : List ℕ) (first last offset : ℕ) : Type 0 where
-  pub order : natAt f first ≤ natAt f last
-  pub last-lies : last + 4 ≤ length f
-  pub offset-lies : offset + 4 ≤ length f
-
--- the bounds of an entry that was looked at
-pub record Bounds (f : List ℕ) (x : ℕ) (e : Entry) : Type 0 where
-  pub order : e .first ≤ e .last
-  pub small : e .last < 2147483648
-  pub link : e .link < 2147483648
-  pub inside : e .fault ≡ 0 → x + 20 ≤ length f
 
 -- "VVR (7). Size 8 + (Last - First + 1) × record bytes": of n records of the given bytes each
 unfoldable pub vvrRule : List ℕ → ℕ → ℕ → ℕ → ℕ

@@ -3,7 +3,7 @@ use Prim.Native.Nat.{ℕ, zero, suc, _+_}
 use mathlib.Core.Bool.{Bool, cond}
 use mathlib.Core.List.{List, [], _∷_, _++_}
 use Rattle.format.specs.Fields.{natAt, linkAt}
-use Rattle.records.specs.Index.{entriesAt, usedAt, firstPlace, lastPlace, offsetPlace, indexAt}
+use Rattle.records.specs.Index.{entriesAt, usedAt, firstFieldAt, lastFieldAt, offsetFieldAt, indexAt}
 
 -- entry number `entry` of the VXR at `vxr`
 pub record Slot : Type 0 where
@@ -20,10 +20,10 @@ slotsOf f x = slotsFrom x 0 (usedAt f x)
 
 -- where an entry's First, Last and Offset stand, and what they say
 abbrev pub firstAt : Slot → ℕ
-firstAt s = firstPlace (s .vxr) (s .entry)
+firstAt s = firstFieldAt (s .vxr) (s .entry)
 
 abbrev pub lastAt : List ℕ → Slot → ℕ
-lastAt f s = lastPlace (s .vxr) (entriesAt f (s .vxr)) (s .entry)
+lastAt f s = lastFieldAt (s .vxr) (entriesAt f (s .vxr)) (s .entry)
 
 abbrev pub firstOf : List ℕ → Slot → ℕ
 firstOf f s = natAt f (firstAt s)
@@ -32,7 +32,7 @@ abbrev pub lastOf : List ℕ → Slot → ℕ
 lastOf f s = natAt f (lastAt f s)
 
 abbrev pub namedBy : List ℕ → Slot → ℕ
-namedBy f s = linkAt f (offsetPlace (s .vxr) (entriesAt f (s .vxr)) (s .entry))
+namedBy f s = linkAt f (offsetFieldAt (s .vxr) (entriesAt f (s .vxr)) (s .entry))
 
 abbrev pub namedByAll : List ℕ → List Slot → List ℕ
 namedByAll f [] = []

@@ -123,3 +123,5 @@ pub const NR_VARS_USIZE: usize = NR_VARS as usize;
 pub const NUM_ATTR_USIZE: usize = NUM_ATTR as usize;
 
 pub const NZ_VARS_USIZE: usize = NZ_VARS as usize;
+
+pub const R_MAX_REC_USIZE: usize = R_MAX_REC as usize;

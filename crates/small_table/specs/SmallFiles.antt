@@ -13,13 +13,13 @@ use Rattle.format.specs.Fields.{endOf, fieldAt, eqZ, isAt, atLeast, atMost, inO
 use Rattle.format.specs.Types.{typeOf}
 use Rattle.format.specs.Encodings.{encodingOf}
 use Rattle.records.specs.Rules.{reachOf, judged}
-use Rattle.records.specs.Opening.{tooLong, magicsRight, whollyCompressed, cdrRight, singleFile, gdrAt, eofOf, eofRight, gdrFields, gdrRight, opening, fileEnd, bodyOf}
+use Rattle.records.specs.Opening.{tooLong, magicsRight, whollyCompressed, cdrRight, singleFile, gdrAt, eofOf, eofRight, gdrFields, gdrRight, magicsNumber, descriptorsNumber, opening, fileEnd, bodyOf}
 use Rattle.records.specs.Tiles.{typeKnown, tileFields, tileRight, typeUncarried, tile}
 use Rattle.records.specs.Attributes.{adrRight, adrRule, elementSize, aedrRight, aedrRule}
 use Rattle.records.specs.Index.{vxrRight, vxrRule, rises, closes, rangeNumber, entryOf, vvrRule}
 use Rattle.records.specs.Unused.{uirRule}
 use Rattle.variables.specs.Limit.{capped}
-use Rattle.variables.specs.Vdr.{carriedOf, vdrFields, countPlace, countRight, layoutAt, layoutOf, valueBytes, padBytes, sizeExact, dimensionsRight, factorOf, spread, recordBytes, dimensioned, variableOf}
+use Rattle.variables.specs.Vdr.{carriedOf, vdrFields, numDimsAt, countRight, layoutAt, layoutOf, valueBytes, padBytes, sizeExact, dimensionsRight, factorOf, valuesPerRecord, recordBytes, dimensioned, variableOf}
 use Rattle.variables.specs.Place.{placeAfter, elementPlace, indicesRight, rowFits, placed, placeOf}
 use Rattle.values.specs.Values.{rawAt, valueOf, bitsOf, isVax, isNothing, decodedOf}
 use Rattle.values.specs.declared.value.Value.{Value}
@@ -216,10 +216,10 @@ rows =
 -- THE TABLE
 pub small-files : allOf rows ≡ true
 unfolding bigAt endOf fieldAt isAt atLeast atMost inOrder sameAt eachWithin natAt afterAt linkAt bitAt typeOf encodingOf
-    reachOf judged tooLong magicsRight whollyCompressed cdrRight singleFile gdrAt eofOf eofRight gdrFields gdrRight opening fileEnd bodyOf typeKnown
+    reachOf judged tooLong magicsRight whollyCompressed cdrRight singleFile gdrAt eofOf eofRight gdrFields gdrRight magicsNumber descriptorsNumber opening fileEnd bodyOf typeKnown
     tileFields tileRight typeUncarried tile adrRight adrRule elementSize aedrRight aedrRule vxrRight vxrRule rises closes rangeNumber
-    entryOf vvrRule uirRule capped carriedOf vdrFields countPlace countRight layoutAt layoutOf valueBytes padBytes
-    sizeExact dimensionsRight factorOf spread recordBytes dimensioned variableOf typeNumber leadsTo listStep lowerNext gdrNamed fieldNumber tallied varsTally
+    entryOf vvrRule uirRule capped carriedOf vdrFields numDimsAt countRight layoutAt layoutOf valueBytes padBytes
+    sizeExact dimensionsRight factorOf valuesPerRecord recordBytes dimensioned variableOf typeNumber leadsTo listStep lowerNext gdrNamed fieldNumber tallied varsTally
     varNumber chainTally attrNumber valuesNumber lowerNumber entriesTally numNumber entryNumber oneMore unusedNumber isNone mostOf roomBelow walkStepBy cleared marked startAt unclaimedAt
     followedAt leftFrom leftOf holderOf faultAt openNumber swept linkNumber stepped stepBy runOf littleAt placeAfter elementPlace indicesRight
     rowFits placed placeOf rawAt valueOf bitsOf isVax isNothing decodedOf opened allowance landsOn vdrKept ruleKept meets

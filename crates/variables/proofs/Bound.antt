@@ -14,7 +14,7 @@ use Rattle.format.specs.Fields.{natOr}
 use Rattle.format.proofs.Tests.{both}
 use Rattle.variables.specs.declared.vdr.Layout.{Layout}
 use Rattle.variables.specs.Limit.{capped}
-use Rattle.variables.specs.Vdr.{factorOf, spread}
+use Rattle.variables.specs.Vdr.{factorOf, valuesPerRecord}
 use Rattle.variables.specs.Place.{slower, moved, placeAfter, sizeOf, variesOf, indexOf, elementPlace, indexRight, indicesRight}
 use Rattle.variables.proofs.Capped.{capped-small}
 use Rattle.variables.proofs.Product.{product, product-same, product-first, product-back}
@@ -58,22 +58,22 @@ either-way : (row : Bool) (n : ℕ) (g : ℕ → ℕ) → product (λ k. g (slow
 either-way true n g = refl
 either-way false n g = product-back g n
 
-spread-product : (f : List ℕ) (n p q : ℕ) → product (λ d. factorOf f (p + 4 * d) (q + 4 * d)) n ≡ spread f n p q
-unfolding spread
-spread-product f zero p q = refl
-spread-product f (suc n) p q =
+values-product : (f : List ℕ) (n p q : ℕ) → product (λ d. factorOf f (p + 4 * d) (q + 4 * d)) n ≡ valuesPerRecord f n p q
+unfolding valuesPerRecord
+values-product f zero p q = refl
+values-product f (suc n) p q =
     let next : (a d : ℕ) → a + 4 * suc d ≡ a + 4 + 4 * d = λ a d. omega arith in
     let rest : product (λ d. factorOf f (p + 4 * suc d) (q + 4 * suc d)) n ≡ product (λ d. factorOf f (p + 4 + 4 * d) (q + 4 + 4 * d)) n
     = product-same _ _ n (λ d l. rw (next p d, next q d)) in
-    rw (product-first (λ d. factorOf f (p + 4 * d) (q + 4 * d)) n, rest, spread-product f n (p + 4) (q + 4), mul-zero, add-zero, add-zero)
+    rw (product-first (λ d. factorOf f (p + 4 * d) (q + 4 * d)) n, rest, values-product f n (p + 4) (q + 4), mul-zero, add-zero, add-zero)
 
 module _ (f : List ℕ) (l : Layout) (row : Bool) (is : List ℤ) (right : indicesRight f (l .sizes) is (l .count) ≡ true) where
-  pub place-below : elementPlace f l row is < spread f (l .count) (l .sizes) (l .variances)
+  pub place-below : elementPlace f l row is < valuesPerRecord f (l .count) (l .sizes) (l .variances)
   unfolding elementPlace factorOf
   place-below =
-      rw (← spread-product f (l .count) (l .sizes) (l .variances), ← either-way row (l .count) (λ d. factorOf f (l .sizes + 4 * d) (l .variances + 4 * d)))
+      rw (← values-product f (l .count) (l .sizes) (l .variances), ← either-way row (l .count) (λ d. factorOf f (l .sizes + 4 * d) (l .variances + 4 * d)))
       (after-below row (l .count) (sizeOf f (l .sizes)) (variesOf f (l .variances)) (indexOf is) (index-below f (l .sizes) is (l .count) right) (l .count) (omega arith))
 
   -- where the record's values can be counted, the place is not capped
-  pub place-exact : spread f (l .count) (l .sizes) (l .variances) ≤ 2147483648 → capped (elementPlace f l row is) ≡ elementPlace f l row is
+  pub place-exact : valuesPerRecord f (l .count) (l .sizes) (l .variances) ≤ 2147483648 → capped (elementPlace f l row is) ≡ elementPlace f l row is
   place-exact h = capped-small (elementPlace f l row is) (omega (arith, place-below))

@@ -8,7 +8,7 @@ use native.Mathlib.Omega.{arith}
 use lib.Dec.{ltb, leb}
 use borrow.Author.Tests.{leb-true, leb-false, lt-ltb, le-ltb}
 use Rattle.variables.specs.Limit.{capped}
-use Rattle.variables.specs.Vdr.{factorOf, spread}
+use Rattle.variables.specs.Vdr.{factorOf, valuesPerRecord}
 
 -- numbers up to the limit have a product that 64 bits hold
 pub within : (a b : ℕ) → a ≤ 2147483648 → b ≤ 2147483648 → a * b ≤ 4611686018427387904
@@ -53,13 +53,13 @@ capped-times a b = simp add-zero at (capped-on a b 0)
 
 module _ (f : List ℕ) (n p q : ℕ) where
   -- the first dimension, and the rest
-  spread-first : 0 < n → spread f n p q ≡ factorOf f p q * spread f (n - 1) (p + 4) (q + 4)
-  unfolding spread
-  spread-first h = let up : suc (n - 1) ≡ n = omega arith in ap (λ (k : ℕ). spread f k p q) (sym up)
+  values-first : 0 < n → valuesPerRecord f n p q ≡ factorOf f p q * valuesPerRecord f (n - 1) (p + 4) (q + 4)
+  unfolding valuesPerRecord
+  values-first h = let up : suc (n - 1) ≡ n = omega arith in ap (λ (k : ℕ). valuesPerRecord f k p q) (sym up)
 
-  pub spread-more : (a : ℕ) → 0 < n → capped (capped (a * factorOf f p q) * spread f (n - 1) (p + 4) (q + 4)) ≡ capped (a * spread f n p q)
-  spread-more a h = capped-times (a * factorOf f p q) _ ∙ rw (mul-assoc, spread-first h)
+  pub values-more : (a : ℕ) → 0 < n → capped (capped (a * factorOf f p q) * valuesPerRecord f (n - 1) (p + 4) (q + 4)) ≡ capped (a * valuesPerRecord f n p q)
+  values-more a h = capped-times (a * factorOf f p q) _ ∙ rw (mul-assoc, values-first h)
 
-  pub spread-none : (a : ℕ) → a ≤ 2147483648 → n ≤ 0 → capped (a * spread f n p q) ≡ a
-  unfolding spread
-  spread-none a h e = let z : n ≡ 0 = omega arith in rw (z, mul-one) (capped-small a h)
+  pub values-none : (a : ℕ) → a ≤ 2147483648 → n ≤ 0 → capped (a * valuesPerRecord f n p q) ≡ a
+  unfolding valuesPerRecord
+  values-none a h e = let z : n ≡ 0 = omega arith in rw (z, mul-one) (capped-small a h)

@@ -2,6 +2,4 @@ pub mod Capped
 pub mod Places
 pub mod Product
 pub mod Bound
-pub mod Right
-pub mod Dimensions
-pub mod Known
+pub mod Rule

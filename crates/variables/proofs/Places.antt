@@ -9,6 +9,7 @@ use lib.Dec.{leb}
 use lib.ListN.{length}
 use borrow.Author.Tests.{le-leb, lt-leb, leb-true, leb-false}
 use Rattle.format.specs.Fields.{endOf}
+use Rattle.format.proofs.FieldRanges.{end-is}
 use Rattle.variables.specs.Limit.{capped}
 use Rattle.variables.specs.Place.{slower, moved, placeAfter, rowFits}
 use Rattle.variables.proofs.Capped.{capped-on}
@@ -22,8 +23,8 @@ leb-left p m e h = go (leb p (e - m)) refl
     go false q = sym (lt-leb (p + m) e (omega (arith, leb-false p (e - m) q)))
 
 pub row-in : (f : List ℕ) (p n : ℕ) → rowFits f p n ≡ true → p + 4 * n ≤ length f
-unfolding rowFits endOf
-row-in f p n e = leb-true (p + 4 * n) (length f) e
+unfolding rowFits
+row-in f p n e = omega (arith, leb-true (p + 4 * n) (endOf f) e, end-is f)
 
 capped-moved : (varies : Bool) (size index place : ℕ) → capped (moved varies size index (capped place)) ≡ capped (moved varies size index place)
 unfolding capped

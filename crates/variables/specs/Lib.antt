@@ -1,3 +1,4 @@
 pub mod Limit
 pub mod Vdr
 pub mod Place
+pub mod Bounds

@@ -1,11 +1,12 @@
 -- Variables: the rule of a VDR of either kind, and record bytes. A kind is a record type: 8 for zVariables, 3 for rVariables. Assumes nothing.
-use Prim.Native.Nat.{ℕ, zero, suc, _+_, _*_, _<_}
+use Prim.Native.Nat.{ℕ, zero, suc, _+_, _*_}
 use mathlib.Core.Bool.{Bool, cond, _&&_, _||_}
 use mathlib.Core.List.{List}
 use lib.Dec.{ltb, leb, eqb}
 use lib.IntN.{pos, negsuc}
 use Rattle.format.specs.Bytes.{bigAt}
 use Rattle.format.specs.Fields.{endOf, isAt, atLeast, atMost, eachWithin, natAt, bitAt}
+use Rattle.records.specs.Layout.{rNumDimsAt, dataTypeAt, maxRecAt, varFlagsAt, sRecordsAt, elementsAt, rVariancesAt, zNumDimsAt}
 use Rattle.records.specs.Rules.{sizeAt, reachOf}
 use Rattle.records.specs.Opening.{gdrAt}
 use Rattle.records.specs.Attributes.{elementSize}
@@ -16,55 +17,51 @@ use Rattle.variables.specs.Limit.{capped}
 -- "14 looks at Flags only in a VDR of 32 bytes or more": 14 if bit 2 is set there, else 0. Where the file ends before them the VDR's
 -- rule says whether that is 10 or 20
 unfoldable pub carriedOf : List ℕ → ℕ → ℕ
-carriedOf f o = cond (ltb (endOf f) (o + 32)) 0 (cond (ltb (sizeAt f o) 32) 0 (cond (bitAt f (o + 28) 4) 14 0))
+carriedOf f o = cond (ltb (endOf f) (o + 32)) 0 (cond (ltb (sizeAt f o) 32) 0 (cond (bitAt f (varFlagsAt o) 4) 14 0))
 
 -- "type 12, MaxRec 16 (-1 or more), .. flags 28 (bit 0 record variance, 1 pad, 2 compressed, others clear), sRecords 32 (0 to 2),
 -- elements 48 (1 or more; exactly 1 unless type 51 or 52)"; "any other type 10"
 unfoldable pub vdrFields : List ℕ → ℕ → Bool
 vdrFields f o =
-    leb 1 (elementSize f (o + 12))
-    && atLeast f (o + 16) (negsuc 0)
-    && ltb (bigAt f (o + 28) 4) 8
-    && atLeast f (o + 32) (pos 0)
-    && atMost f (o + 32) (pos 2)
-    && atLeast f (o + 48) (pos 1)
-    && (isAt f (o + 12) (pos 51) || isAt f (o + 12) (pos 52) || isAt f (o + 48) (pos 1))
+    leb 1 (elementSize f (dataTypeAt o))
+    && atLeast f (maxRecAt o) (negsuc 0)
+    && ltb (bigAt f (varFlagsAt o) 4) 8
+    && atLeast f (sRecordsAt o) (pos 0)
+    && atMost f (sRecordsAt o) (pos 2)
+    && atLeast f (elementsAt o) (pos 1)
+    && (isAt f (dataTypeAt o) (pos 51) || isAt f (dataTypeAt o) (pos 52) || isAt f (elementsAt o) (pos 1))
 
 -- "An rVDR has variances at 128, as many as rNumDims; a zVDR has a dimension count (0 to 10) at 128, sizes (1 or more), then variances":
 -- the bytes before its dimensions, and where their count stands, in the zVDR or in the GDR
 abbrev pub headOf : ℕ → ℕ
 headOf k = cond (eqb k 8) 132 128
 
-unfoldable pub countPlace : List ℕ → ℕ → ℕ → ℕ
-countPlace f k o = cond (eqb k 8) (o + 128) (gdrAt f + 36)
+unfoldable pub numDimsAt : List ℕ → ℕ → ℕ → ℕ
+numDimsAt f k o = cond (eqb k 8) (zNumDimsAt o) (rNumDimsAt (gdrAt f))
 
 unfoldable pub countRight : List ℕ → ℕ → Bool
 countRight f p = atLeast f p (pos 0) && atMost f p (pos 10)
 
 -- n dimensions counted at p: where their sizes and variances stand. An rVariable's sizes stand in the GDR (60); where it has no
--- dimensions nothing more of the GDR is needed, and their place is that of the variances
-abbrev pub rSizes : ℕ → ℕ → ℕ → ℕ
-rSizes o p n = cond (eqb n 0) (o + 128) (p + 24)
+-- dimensions nothing more of the GDR is needed, and their offset is that of the variances
+abbrev pub rSizesAt : ℕ → ℕ → ℕ → ℕ
+rSizesAt o p n = cond (eqb n 0) (rVariancesAt o) (p + 24)
 
 unfoldable pub layoutAt : ℕ → ℕ → ℕ → ℕ → Layout
 layoutAt k o p n =
     cond (eqb k 8) (record { count = n; sizes = p + 4; variances = p + 4 + 4 * n })
-    (record { count = n; sizes = rSizes o p n; variances = o + 128 })
-
--- places that the code can count with
-abbrev pub layoutFits : Layout → Type 0
-layoutFits l = (l .count < 2147483648) × (l .sizes < 1099511627776) × (l .variances < 1099511627776)
+    (record { count = n; sizes = rSizesAt o p n; variances = rVariancesAt o })
 
 unfoldable pub layoutOf : List ℕ → ℕ → ℕ → Layout
-layoutOf f k o = layoutAt k o (countPlace f k o) (natAt f (countPlace f k o))
+layoutOf f k o = layoutAt k o (numDimsAt f k o) (natAt f (numDimsAt f k o))
 
 -- the bytes of one value: elements × element size
 unfoldable pub valueBytes : List ℕ → ℕ → ℕ
-valueBytes f o = natAt f (o + 48) * elementSize f (o + 12)
+valueBytes f o = natAt f (elementsAt o) * elementSize f (dataTypeAt o)
 
 -- "Pad value last if bit 1 is set. Size is exact"
 unfoldable pub padBytes : List ℕ → ℕ → ℕ
-padBytes f o = cond (bitAt f (o + 28) 2) (valueBytes f o) 0
+padBytes f o = cond (bitAt f (varFlagsAt o) 2) (valueBytes f o) 0
 
 unfoldable pub sizeExact : List ℕ → ℕ → Layout → Bool
 sizeExact f o l = eqb (o + sizeAt f o) (l .variances + 4 * l .count + padBytes f o)
@@ -74,17 +71,18 @@ unfoldable pub dimensionsRight : List ℕ → Layout → Bool
 dimensionsRight f l =
     eachWithin f (l .sizes) (l .count) (pos 1) (pos 2147483647) && eachWithin f (l .variances) (l .count) (negsuc 0) (pos 0)
 
--- "the sizes of dimensions whose variance is true", multiplied: n of them, sizes from p and variances from q on
+-- what a dimension with its size at p and its variance at q multiplies the values of a record by
 unfoldable pub factorOf : List ℕ → ℕ → ℕ → ℕ
 factorOf f p q = cond (isAt f q (negsuc 0)) (natAt f p) 1
 
-unfoldable pub spread : List ℕ → ℕ → ℕ → ℕ → ℕ
-spread f zero p q = 1
-spread f (suc n) p q = factorOf f p q * spread f n (p + 4) (q + 4)
+-- "the sizes of dimensions whose variance is true", multiplied: of n dimensions, sizes from p and variances from q on
+unfoldable pub valuesPerRecord : List ℕ → ℕ → ℕ → ℕ → ℕ
+valuesPerRecord f zero p q = 1
+valuesPerRecord f (suc n) p q = factorOf f p q * valuesPerRecord f n (p + 4) (q + 4)
 
 -- "Record bytes: elements × element size × the sizes of dimensions whose variance is true"
 unfoldable pub recordBytes : List ℕ → ℕ → Layout → ℕ
-recordBytes f o l = valueBytes f o * spread f (l .count) (l .sizes) (l .variances)
+recordBytes f o l = valueBytes f o * valuesPerRecord f (l .count) (l .sizes) (l .variances)
 
 abbrev pub vdrFault : ℕ → Variable
 vdrFault v = record { fault = v; dimensions = record { count = 0; sizes = 0; variances = 0 }; value = 0; bytes = 0 }
@@ -107,7 +105,7 @@ unfoldable pub variableOf : List ℕ → ℕ → ℕ → Variable
 variableOf f k o =
     cond (eqb (reachOf f o (headOf k)) 0)
     (cond (vdrFields f o)
-    (cond (ltb (endOf f) (countPlace f k o + 4)) (vdrFault 20)
-    (cond (countRight f (countPlace f k o)) (dimensioned f o (layoutOf f k o)) (vdrFault 10)))
+    (cond (ltb (endOf f) (numDimsAt f k o + 4)) (vdrFault 20)
+    (cond (countRight f (numDimsAt f k o)) (dimensioned f o (layoutOf f k o)) (vdrFault 10)))
     (vdrFault 10))
     (vdrFault (reachOf f o (headOf k)))

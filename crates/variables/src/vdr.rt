@@ -3,12 +3,14 @@ ghost use mathlib.Core.Path.{_≡_};
 ghost use Prim.Native.Nat.{_+_, _*_, _≤_, _<_};
 ghost use lib.ListN.{length};
 ghost use Rattle.records.specs.Attributes.{elementSize};
+ghost use Rattle.variables.specs.Bounds.{layoutFits};
 ghost use Rattle.variables.specs.Limit.{capped};
-ghost use Rattle.variables.specs.Vdr.{carriedOf, vdrFields, headOf, countPlace, countRight, rSizes, layoutOf, layoutFits, valueBytes, factorOf, sizeExact, dimensionsRight, spread, vdrFault, dimensioned, variableOf};
+ghost use Rattle.variables.specs.Vdr.{carriedOf, vdrFields, headOf, numDimsAt, countRight, rSizesAt, layoutOf, valueBytes, factorOf, sizeExact, dimensionsRight, valuesPerRecord, vdrFault, dimensioned, variableOf};
 use crate::limit;
 use format::bytes;
 use format::fields;
 use records::attributes;
+use records::layout;
 use records::rules;
 
 // The dimensions of a variable: how many, and where their sizes and variances stand.
@@ -37,7 +39,7 @@ pub fn carried(f: &[u8], at: u32) -> u32
     if fields::nat_at(f, o) < 32 {
         return 0;
     }
-    if fields::bit(f, o + 28, 4) {
+    if fields::bit(f, o + layout::VAR_FLAGS, 4) {
         return 14;
     }
     0
@@ -48,13 +50,15 @@ fn vdr_fields(f: &[u8], o: usize, element: u32) -> bool
     requires { ⌜ (o + 128 ≤ length (now f)) × (element ≡ elementSize (now f) (o + 12)) ⌝ }
     ensures { λ r. ⌜ r ≡ vdrFields (now (f .entry)) o ⌝ }
 {
-    let single = fields::is(f, o + 12, 51) | fields::is(f, o + 12, 52) | fields::is(f, o + 48, 1);
+    let single = fields::is(f, o + layout::DATA_TYPE, 51)
+        | fields::is(f, o + layout::DATA_TYPE, 52)
+        | fields::is(f, o + layout::ELEMENTS, 1);
     (1 <= element)
-        & fields::at_least(f, o + 16, -1)
-        & (bytes::big4(f, o + 28) < 8)
-        & fields::at_least(f, o + 32, 0)
-        & fields::at_most(f, o + 32, 2)
-        & fields::at_least(f, o + 48, 1)
+        & fields::at_least(f, o + layout::MAX_REC, -1)
+        & (bytes::big4(f, o + layout::VAR_FLAGS) < 8)
+        & fields::at_least(f, o + layout::S_RECORDS, 0)
+        & fields::at_most(f, o + layout::S_RECORDS, 2)
+        & fields::at_least(f, o + layout::ELEMENTS, 1)
         & single
 }
 
@@ -66,14 +70,14 @@ fn head_of(kind: u32) -> u32
 }
 
 // Where the number of its dimensions stands.
-fn count_place(f: &[u8], kind: u32, o: usize) -> usize
+fn num_dims_at(f: &[u8], kind: u32, o: usize) -> usize
     requires { ⌜ (o + 128 ≤ length (now f)) × (o < 4294967296) ⌝ }
-    ensures { λ r. ⌜ (r ≡ countPlace (now (f .entry)) kind o) × (r < 8589934592) ⌝ }
+    ensures { λ r. ⌜ (r ≡ numDimsAt (now (f .entry)) kind o) × (r < 8589934592) ⌝ }
 {
     if kind == 8 {
-        o + 128
+        o + layout::Z_NUM_DIMS
     } else {
-        fields::link_at(f, 16) as usize + 36
+        fields::link_at(f, layout::GDR_LINK) as usize + layout::R_NUM_DIMS
     }
 }
 
@@ -86,16 +90,20 @@ fn count_right(f: &[u8], p: usize) -> bool
 }
 
 // Where the sizes of the n dimensions of an rVariable stand: behind the GDR's other fields, if there are any.
-fn r_sizes(o: usize, p: usize, n: usize) -> usize
+fn r_sizes_at(o: usize, p: usize, n: usize) -> usize
     requires { ⌜ (o < 4294967296) × (p < 8589934592) ⌝ }
-    ensures { λ r. ⌜ (r ≡ rSizes o p n) × (r < 1099511627776) ⌝ }
+    ensures { λ r. ⌜ (r ≡ rSizesAt o p n) × (r < 1099511627776) ⌝ }
 {
-    if n == 0 { o + 128 } else { p + 24 }
+    if n == 0 {
+        o + layout::R_VARIANCES
+    } else {
+        p + 24
+    }
 }
 
 // The dimensions that are counted at p.
 fn dimensions_at(f: &[u8], kind: u32, o: usize, p: usize) -> Layout
-    requires { ⌜ (o < 4294967296) × (p < 8589934592) × (p + 4 ≤ length (now f)) × (p ≡ countPlace (now f) kind o) ⌝ }
+    requires { ⌜ (o < 4294967296) × (p < 8589934592) × (p + 4 ≤ length (now f)) × (p ≡ numDimsAt (now f) kind o) ⌝ }
     ensures { λ r. ⌜ (r ≡ layoutOf (now (f .entry)) kind o) × layoutFits r ⌝ }
 {
     let n = fields::nat_at(f, p) as usize;
@@ -108,8 +116,8 @@ fn dimensions_at(f: &[u8], kind: u32, o: usize, p: usize) -> Layout
     } else {
         Layout {
             count: n,
-            sizes: r_sizes(o, p, n),
-            variances: o + 128,
+            sizes: r_sizes_at(o, p, n),
+            variances: o + layout::R_VARIANCES,
         }
     }
 }
@@ -119,7 +127,7 @@ fn value_bytes(f: &[u8], o: usize, element: u32) -> u64
     requires { ⌜ (o + 128 ≤ length (now f)) × (element ≡ elementSize (now f) (o + 12)) × (element ≤ 8) ⌝ }
     ensures { λ r. ⌜ (r ≡ valueBytes (now (f .entry)) o) × (r ≤ 17179869184) ⌝ }
 {
-    let elements = fields::nat_at(f, o + 48) as u64;
+    let elements = fields::nat_at(f, o + layout::ELEMENTS) as u64;
     elements * element as u64
 }
 
@@ -130,7 +138,7 @@ fn size_exact(f: &[u8], o: usize, l: Layout, value: u64) -> bool
 {
     let dimensions = l.variances as u64 + 4 * (l.count as u64);
     let size = o as u64 + fields::nat_at(f, o) as u64;
-    if fields::bit(f, o + 28, 2) {
+    if fields::bit(f, o + layout::VAR_FLAGS, 2) {
         return size == dimensions + value;
     }
     size == dimensions
@@ -161,7 +169,7 @@ fn factor(f: &[u8], p: usize, q: usize) -> u64
 // The bytes of a record, and 2,147,483,648 for every larger number.
 fn record_bytes(f: &[u8], l: Layout, value: u64) -> u64
     requires { ⌜ (l .sizes + 4 * l .count ≤ length (now f)) × (l .variances + 4 * l .count ≤ length (now f)) ⌝ }
-    ensures { λ r. ⌜ (r ≡ capped (value * spread (now (f .entry)) (l .count) (l .sizes) (l .variances))) × (r ≤ 2147483648) ⌝ }
+    ensures { λ r. ⌜ (r ≡ capped (value * valuesPerRecord (now (f .entry)) (l .count) (l .sizes) (l .variances))) × (r ≤ 2147483648) ⌝ }
 {
     let mut acc = limit::cap(value);
     let mut p = l.sizes;
@@ -233,11 +241,11 @@ pub fn variable_at(f: &[u8], kind: u32, at: u32) -> Variable
     if reached != 0 {
         return faulty(reached);
     }
-    let element = attributes::element_size(f, o + 12);
+    let element = attributes::element_size(f, o + layout::DATA_TYPE);
     if !vdr_fields(f, o, element) {
         return faulty(10);
     }
-    let p = count_place(f, kind, o);
+    let p = num_dims_at(f, kind, o);
     if fields::end(f) < p + 4 {
         return faulty(20);
     }
@@ -253,8 +261,8 @@ pub fn known_at(f: &[u8], kind: u32, at: u32) -> Variable
     ensures { λ r. ⌜ r ≡ variableOf (now (f .entry)) kind at ⌝ }
 {
     let o = at as usize;
-    let l = dimensions_at(f, kind, o, count_place(f, kind, o));
-    let value = value_bytes(f, o, attributes::element_size(f, o + 12));
+    let l = dimensions_at(f, kind, o, num_dims_at(f, kind, o));
+    let value = value_bytes(f, o, attributes::element_size(f, o + layout::DATA_TYPE));
     Variable {
         fault: 0,
         dimensions: l,

@@ -2,12 +2,10 @@
 use mathlib.Core.List.{List}
 use Prim.Native.Nat.{ℕ, _+_, _<_}
 use native.Mathlib.Omega.{arith}
-use lib.Dec.{ltb, eqb}
-use Rattle.format.specs.Fields.{endOf}
-use Rattle.format.proofs.Tests.{cond-keeps}
 use Rattle.format.proofs.FieldRanges.{nat-small, link-small}
 use Rattle.records.specs.Opening.{gdrAt}
-use Rattle.records.specs.Index.{entriesAt, firstPlace, lastPlace, offsetPlace, rangeNumber, entryFault, entryOf}
+use Rattle.records.specs.Index.{entriesAt, firstFieldAt, lastFieldAt, offsetFieldAt, entryFault, entryOf}
+use Rattle.records.proofs.Ranges.{entry-cases}
 use Rattle.records.specs.declared.index.Entry as E
 
 module _ (f : List ℕ) where
@@ -24,12 +22,10 @@ module _ (f : List ℕ) where
   fault-small v = record { first-small = omega arith; last-small = omega arith; named-small = omega arith }
 
   pub entry-small : (x i floor most : ℕ) → EntrySmall (entryOf f x i floor most)
-  unfolding entryOf
   entry-small x i floor most =
-      let first = firstPlace x i in
-      let last = lastPlace x (entriesAt f x) i in
-      let offset = offsetPlace x (entriesAt f x) i in
-      let number = rangeNumber f first last offset floor most in
-      cond-keeps EntrySmall (ltb (endOf f) (first + 4)) (fault-small 20)
-      (cond-keeps EntrySmall (eqb number 0)
-      (record { first-small = nat-small f first; last-small = nat-small f last; named-small = link-small f offset }) (fault-small number))
+      entry-cases f x i floor most EntrySmall (fault-small 12) (fault-small 20) (λ _.
+      record {
+        first-small = nat-small f (firstFieldAt x i);
+        last-small = nat-small f (lastFieldAt x (entriesAt f x) i);
+        named-small = link-small f (offsetFieldAt x (entriesAt f x) i);
+      })

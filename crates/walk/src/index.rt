@@ -2,7 +2,8 @@
 ghost use mathlib.Core.Path.{_≡_};
 ghost use Prim.Native.Nat.{_+_, _-_, _≤_, _<_};
 ghost use lib.ListN.{length};
-ghost use Rattle.records.specs.Index.{Bounds, entryOf};
+ghost use Rattle.records.specs.Bounds.{Bounds};
+ghost use Rattle.records.specs.Index.{entryOf};
 ghost use Rattle.variables.specs.Vdr.{variableOf};
 ghost use Rattle.walk.specs.Levels.{mostOf};
 ghost use Rattle.walk.specs.Bounds.{SmallLevel};

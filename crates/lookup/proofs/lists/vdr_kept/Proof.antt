@@ -1,5 +1,5 @@
 use Rattle.lookup.specs.Lists.{vdrKept}
-use Rattle.variables.proofs.Known.{vdr-inside}
+use Rattle.variables.proofs.Rule.{vdr-inside}
 use Rattle.variables.specs.declared.vdr.Variable.{Variable}
 use borrow.Author.Tests.{eq-eqb, ne-eqb, eqb-true}
 use mathlib.Core.Bool.{true, false, true≢false}

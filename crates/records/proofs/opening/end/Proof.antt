@@ -4,7 +4,8 @@ use Prim.Native.Nat.{ℕ}
 use native.Mathlib.Omega.{arith}
 use borrow.Author.Tests.{not-true, not-false}
 use Rattle.records.specs.Opening.{gdrAt, eofOf, eofRight}
-use Rattle.records.proofs.Bodies.{eof-right, window, ends-at, ends-with}
+use Rattle.records.proofs.Opens.{window}
+use Rattle.records.proofs.Bodies.{eof-right, ends-at, ends-with}
 use borrow.Author.Needs.{needs}
 use Rattle.records.proofs.opening.end.Statement.{statement}
 use Rattle.records.proofs.opening.end.Tie as tie

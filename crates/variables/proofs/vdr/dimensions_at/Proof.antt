@@ -22,8 +22,8 @@ mul-t11 c = search needs
 add-t12 : tie.Need-add-t12
 add-t12 c = search needs
 
-r-sizes-requires : tie.Need-r-sizes-requires
-r-sizes-requires c κs = search needs
+r-sizes-at-requires : tie.Need-r-sizes-at-requires
+r-sizes-at-requires c κs = search needs
 
 add-t14 : tie.Need-add-t14
 add-t14 c = search needs
@@ -34,7 +34,7 @@ returns c = (simp (← c .before .before .before .pre .3, ← c .before .nat-at 
 
 returns-2 : tie.Need-returns-2
 unfolding layoutOf layoutAt
-returns-2 c = (simp (← c .before .before .before .before .pre .3, c .r-sizes .ensures .0, ← c .before .before .nat-at .ensures .0, ne-eqb _ _ (c .before .if1 .left)), search needs)
+returns-2 c = (simp (← c .before .before .before .before .pre .3, c .r-sizes-at .ensures .0, ← c .before .before .nat-at .ensures .0, ne-eqb _ _ (c .before .if1 .left)), search needs)
 
 pub dimensions-at-spec : {M : Type 1} → statement M
 dimensions-at-spec =
@@ -46,7 +46,7 @@ dimensions-at-spec =
     add-t10
     mul-t11
     add-t12
-    r-sizes-requires
+    r-sizes-at-requires
     add-t14
     returns
     returns-2)

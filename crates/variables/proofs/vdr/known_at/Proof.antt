@@ -1,20 +1,19 @@
-use Rattle.variables.proofs.Right.{right, count-inside, variable-is}
-use Rattle.variables.proofs.Known.{vdr-inside}
+use Rattle.variables.proofs.Rule.{vdr-reads, vdr-makes, count-inside, vdr-inside}
 use Rattle.variables.specs.Vdr.{recordBytes}
-use Rattle.format.specs.Fields.{endOf}
+use Rattle.format.proofs.FieldRanges.{end-is}
 use native.Mathlib.Omega.{arith}
 use borrow.Author.Needs.{needs}
 use Rattle.variables.proofs.vdr.known_at.Statement.{statement}
 use Rattle.variables.proofs.vdr.known_at.Tie as tie
 
-count-place-requires : tie.Need-count-place-requires
-count-place-requires c κs = let a = c .before in (vdr-inside (a .args .f .now) (a .args .kind) (a .args .at) (a .pre), search needs)
+num-dims-at-requires : tie.Need-num-dims-at-requires
+num-dims-at-requires c κs = let a = c .before in (vdr-inside (a .args .f .now) (a .args .kind) (a .args .at) (a .pre), search needs)
 
 dimensions-at-requires : tie.Need-dimensions-at-requires
 dimensions-at-requires c κs =
     let a = c .before .before in
     let n = count-inside (a .args .f .now) (a .args .kind) (a .args .at) (a .pre) in
-    (search needs, c .count-place .ensures .1, omega (arith, n, c .count-place .ensures .0), c .count-place .ensures .0)
+    (search needs, c .num-dims-at .ensures .1, omega (arith, n, c .num-dims-at .ensures .0), c .num-dims-at .ensures .0)
 
 add-element-size : tie.Need-add-element-size
 add-element-size c = search needs
@@ -29,23 +28,24 @@ cap-requires : tie.Need-cap-requires
 cap-requires c κs = search needs
 
 record-bytes-requires : tie.Need-record-bytes-requires
-unfolding endOf
 record-bytes-requires c κs =
     let a = c .before .before .before .before .before .before in
-    let r = right (a .args .f .now) (a .args .kind) (a .args .at) (a .pre) in
-    rw (c .before .before .before .dimensions-at .ensures .0) (r .sizes, r .variances)
+    let r = vdr-reads (a .args .f .now) (a .args .kind) (a .args .at) (a .pre) in
+    let l = end-is (a .args .f .now) in
+    rw (c .before .before .before .dimensions-at .ensures .0) (omega (arith, r .sizes), omega (arith, r .variances))
 
 returns : tie.Need-returns
 unfolding recordBytes
 returns c =
     let a = c .before .before .before .before .before .before .before in
-    rw (variable-is (a .args .f .now) (a .args .kind) (a .args .at) (a .pre), c .record-bytes .ensures .0, c .before .cap .ensures .0, c .before .before .value-bytes .ensures .0, c .before .before .before .before .dimensions-at .ensures .0)
+    let is = vdr-makes (a .args .f .now) (a .args .kind) (a .args .at) (vdr-reads (a .args .f .now) (a .args .kind) (a .args .at) (a .pre)) in
+    rw (is, c .record-bytes .ensures .0, c .before .cap .ensures .0, c .before .before .value-bytes .ensures .0, c .before .before .before .before .dimensions-at .ensures .0)
 
 pub known-at-spec : {M : Type 1} → statement M
 known-at-spec =
     tie.close
     (tie.spec
-    count-place-requires
+    num-dims-at-requires
     dimensions-at-requires
     add-element-size
     element-size-requires

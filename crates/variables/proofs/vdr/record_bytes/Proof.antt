@@ -1,6 +1,6 @@
 use mathlib.Core.Path.{_≡_, sym, _∙_}
-use Rattle.variables.specs.Vdr.{spread}
-use Rattle.variables.proofs.Capped.{within, spread-more, spread-none, capped-times}
+use Rattle.variables.specs.Vdr.{valuesPerRecord}
+use Rattle.variables.proofs.Capped.{within, values-more, values-none, capped-times}
 use native.Mathlib.Omega.{arith}
 use Prim.Native.Nat.{_+_, _*_, _≤_}
 use lib.ListN.{length}
@@ -10,7 +10,7 @@ use Rattle.variables.proofs.vdr.record_bytes.Statement.{statement}
 use Rattle.variables.proofs.vdr.record_bytes.Tie as tie
 
 abbrev Inv-loop : tie.InvT-loop
-Inv-loop f value acc₀ p₀ q₀ left₀ acc p q left = (p + 4 * left ≤ length f) × (q + 4 * left ≤ length f) × (acc ≤ 2147483648) × (capped (acc * spread f left p q) ≡ capped (acc₀ * spread f left₀ p₀ q₀))
+Inv-loop f value acc₀ p₀ q₀ left₀ acc p q left = (p + 4 * left ≤ length f) × (q + 4 * left ≤ length f) × (acc ≤ 2147483648) × (capped (acc * valuesPerRecord f left p q) ≡ capped (acc₀ * valuesPerRecord f left₀ p₀ q₀))
 
 abbrev μ-loop : tie.MeasureT-loop
 μ-loop f value acc₀ p₀ q₀ left₀ acc p q left = left
@@ -49,14 +49,14 @@ loop-again : tie.Need-loop-again Inv-loop μ-loop
 loop-again c =
     let a = c .before .before .before .before .before .before .args in
     let l = c .before .before .before .loop in
-    (omega arith, omega arith, c .cap2 .ensures .1, rw (c .cap2 .ensures .0, c .before .factor .ensures .0) (spread-more (a .f .now) (l .left) (l .p) (l .q) (l .acc) (c .before .before .loop-test .taken) ∙ l .inv .3))
+    (omega arith, omega arith, c .cap2 .ensures .1, rw (c .cap2 .ensures .0, c .before .factor .ensures .0) (values-more (a .f .now) (l .left) (l .p) (l .q) (l .acc) (c .before .before .loop-test .taken) ∙ l .inv .3))
 
 returns : tie.Need-returns Inv-loop μ-loop
 returns c =
     let a = c .before .before .before .before .args in
     let l = c .before .loop in
     let start = rw (c .before .before .cap .ensures .0) at (l .inv .3) in
-    (sym (spread-none (a .f .now) (l .left) (l .p) (l .q) (l .acc) (l .inv .2) (c .loop-test .left)) ∙ start ∙ capped-times _ _, l .inv .2)
+    (sym (values-none (a .f .now) (l .left) (l .p) (l .q) (l .acc) (l .inv .2) (c .loop-test .left)) ∙ start ∙ capped-times _ _, l .inv .2)
 
 pub record-bytes-spec : {M : Type 1} → statement M
 record-bytes-spec =

@@ -36,8 +36,8 @@ returns-2 : tie.Need-returns-2
 unfolding variableOf
 returns-2 c = simp (c .faulty2 .ensures, not-true (c .before .before .vdr-fields .result) (c .before .if2 .taken), ← c .before .before .vdr-fields .ensures, eq-eqb _ _ (c .before .before .before .before .if1 .left), ← c .before .before .before .before .before .reach .ensures .0, ← c .before .before .before .before .before .before .head-of .ensures .0)
 
-count-place-requires : tie.Need-count-place-requires
-count-place-requires c κs = omega (arith, c .before .before .before .before .reach .ensures .1 (c .before .before .before .if1 .left), c .before .before .before .before .before .head-of .ensures .1)
+num-dims-at-requires : tie.Need-num-dims-at-requires
+num-dims-at-requires c κs = omega (arith, c .before .before .before .before .reach .ensures .1 (c .before .before .before .if1 .left), c .before .before .before .before .before .head-of .ensures .1)
 
 end-requires : tie.Need-end-requires
 end-requires c κs = search needs
@@ -50,7 +50,7 @@ faulty-requires-3 c κs = search needs
 
 returns-3 : tie.Need-returns-3
 unfolding variableOf
-returns-3 c = simp (c .faulty3 .ensures, lt-ltb _ _ (c .before .if3 .taken), ← c .before .before .end .ensures .0, ← c .before .before .before .count-place .ensures .0, not-false (c .before .before .before .before .before .vdr-fields .result) (c .before .before .before .before .if2 .left), ← c .before .before .before .before .before .vdr-fields .ensures, eq-eqb _ _ (c .before .before .before .before .before .before .before .if1 .left), ← c .before .before .before .before .before .before .before .before .reach .ensures .0, ← c .before .before .before .before .before .before .before .before .before .head-of .ensures .0)
+returns-3 c = simp (c .faulty3 .ensures, lt-ltb _ _ (c .before .if3 .taken), ← c .before .before .end .ensures .0, ← c .before .before .before .num-dims-at .ensures .0, not-false (c .before .before .before .before .before .vdr-fields .result) (c .before .before .before .before .if2 .left), ← c .before .before .before .before .before .vdr-fields .ensures, eq-eqb _ _ (c .before .before .before .before .before .before .before .if1 .left), ← c .before .before .before .before .before .before .before .before .reach .ensures .0, ← c .before .before .before .before .before .before .before .before .before .head-of .ensures .0)
 
 count-right-requires : tie.Need-count-right-requires
 count-right-requires c κs = search needs
@@ -60,7 +60,7 @@ faulty-requires-4 c κs = search needs
 
 returns-4 : tie.Need-returns-4
 unfolding variableOf
-returns-4 c = simp (c .faulty4 .ensures, not-true (c .before .before .count-right .result) (c .before .if4 .taken), ← c .before .before .count-right .ensures, le-ltb _ _ (c .before .before .before .if3 .left), ← c .before .before .before .before .end .ensures .0, ← c .before .before .before .before .before .count-place .ensures .0, not-false (c .before .before .before .before .before .before .before .vdr-fields .result) (c .before .before .before .before .before .before .if2 .left), ← c .before .before .before .before .before .before .before .vdr-fields .ensures, eq-eqb _ _ (c .before .before .before .before .before .before .before .before .before .if1 .left), ← c .before .before .before .before .before .before .before .before .before .before .reach .ensures .0, ← c .before .before .before .before .before .before .before .before .before .before .before .head-of .ensures .0)
+returns-4 c = simp (c .faulty4 .ensures, not-true (c .before .before .count-right .result) (c .before .if4 .taken), ← c .before .before .count-right .ensures, le-ltb _ _ (c .before .before .before .if3 .left), ← c .before .before .before .before .end .ensures .0, ← c .before .before .before .before .before .num-dims-at .ensures .0, not-false (c .before .before .before .before .before .before .before .vdr-fields .result) (c .before .before .before .before .before .before .if2 .left), ← c .before .before .before .before .before .before .before .vdr-fields .ensures, eq-eqb _ _ (c .before .before .before .before .before .before .before .before .before .if1 .left), ← c .before .before .before .before .before .before .before .before .before .before .reach .ensures .0, ← c .before .before .before .before .before .before .before .before .before .before .before .head-of .ensures .0)
 
 dimensions-at-requires : tie.Need-dimensions-at-requires
 dimensions-at-requires c κs = search needs
@@ -78,7 +78,7 @@ dimensioned-vdr-requires c κs =
 
 returns-5 : tie.Need-returns-5
 unfolding variableOf
-returns-5 c = simp (← c .dimensioned-vdr .ensures, ← c .before .dimensions-at .ensures .0, not-false (c .before .before .before .count-right .result) (c .before .before .if4 .left), ← c .before .before .before .count-right .ensures, le-ltb _ _ (c .before .before .before .before .if3 .left), ← c .before .before .before .before .before .end .ensures .0, ← c .before .before .before .before .before .before .count-place .ensures .0, not-false (c .before .before .before .before .before .before .before .before .vdr-fields .result) (c .before .before .before .before .before .before .before .if2 .left), ← c .before .before .before .before .before .before .before .before .vdr-fields .ensures, eq-eqb _ _ (c .before .before .before .before .before .before .before .before .before .before .if1 .left), ← c .before .before .before .before .before .before .before .before .before .before .before .reach .ensures .0, ← c .before .before .before .before .before .before .before .before .before .before .before .before .head-of .ensures .0)
+returns-5 c = simp (← c .dimensioned-vdr .ensures, ← c .before .dimensions-at .ensures .0, not-false (c .before .before .before .count-right .result) (c .before .before .if4 .left), ← c .before .before .before .count-right .ensures, le-ltb _ _ (c .before .before .before .before .if3 .left), ← c .before .before .before .before .before .end .ensures .0, ← c .before .before .before .before .before .before .num-dims-at .ensures .0, not-false (c .before .before .before .before .before .before .before .before .vdr-fields .result) (c .before .before .before .before .before .before .before .if2 .left), ← c .before .before .before .before .before .before .before .before .vdr-fields .ensures, eq-eqb _ _ (c .before .before .before .before .before .before .before .before .before .before .if1 .left), ← c .before .before .before .before .before .before .before .before .before .before .before .reach .ensures .0, ← c .before .before .before .before .before .before .before .before .before .before .before .before .head-of .ensures .0)
 
 pub variable-at-spec : {M : Type 1} → statement M
 variable-at-spec =
@@ -93,7 +93,7 @@ variable-at-spec =
     vdr-fields-requires
     faulty-requires-2
     returns-2
-    count-place-requires
+    num-dims-at-requires
     end-requires
     add-if3
     faulty-requires-3

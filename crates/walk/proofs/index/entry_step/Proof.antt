@@ -1,6 +1,6 @@
 use Rattle.walk.proofs.Entered.{faulty-step}
 use Rattle.walk.specs.Walk.{entryFaulty, entryStep}
-use Rattle.variables.proofs.Known.{bytes-small}
+use Rattle.variables.proofs.Rule.{bytes-small}
 use Rattle.variables.specs.declared.vdr.Variable.{Variable}
 use Rattle.records.specs.Index.{entryOf}
 use native.Mathlib.Omega.{arith}

@@ -1,6 +1,6 @@
 use Rattle.walk.proofs.Entered.{values-late, values-on}
 use Rattle.walk.specs.Walk.{valuesNumber, entered}
-use Rattle.variables.proofs.Known.{bytes-small, vdr-inside}
+use Rattle.variables.proofs.Rule.{bytes-small, vdr-inside}
 use Rattle.variables.specs.declared.vdr.Variable.{Variable}
 use Prim.Native.Nat.{_+_}
 use mathlib.Core.Bool.{Bool, _||_}
