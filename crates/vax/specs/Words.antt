@@ -1,6 +1,6 @@
 -- The bits of a VAX float as one number, most significant first: the sign, an exponent of x bits, a mantissa of w bits; and the words that it is made of.
 -- They serve the contracts; that they are the fields of the tables is proved (proofs/Words.antt). Assumes nothing.
-use Prim.Native.Nat.{ℕ, _+_, _*_, _/_, _%_, _^_, _≤_}
+use Prim.Native.Nat.{ℕ, _+_, _*_, _/_, _%_, _^_}
 use mathlib.Core.Bool.{Bool}
 use mathlib.Core.List.{List}
 use lib.Dec.{leb}
@@ -19,14 +19,6 @@ mantissaIn w raw = raw % 2 ^ w
 
 unfoldable pub vaxIn : ℕ → ℕ → ℕ → ℕ → Vax
 vaxIn w x b raw = vaxOf w b (signIn w x raw) (exponentIn w x raw) (mantissaIn w raw)
-
--- what a kind may be: with the leading digit its mantissa fits 63 bits; its exponent has no more bits than a double's; its greatest value is below
--- 2 ^ 1023, and its least is no less than the smallest double
-pub record Bounds (w x b : ℕ) : Type 0 where
-  pub width : w ≤ 62
-  pub range : x ≤ 11
-  pub greatest : 2 ^ x ≤ b + 1024
-  pub least : b ≤ 1074
 
 -- a word of two bytes, the second the more significant; of two and of four words the first is the most significant
 abbrev pub wordAt : List ℕ → ℕ → ℕ

@@ -4,7 +4,8 @@ ghost use Prim.Native.Nat.{_+_, _-_, _*_, _/_, _%_, _^_, _≤_, _<_};
 ghost use lib.ListN.{length};
 ghost use Rattle.vax.specs.Layouts.{ffloat, dfloat, gfloat};
 ghost use Rattle.vax.specs.Rounding.{nearestOf, keptOf, sizeOf, vaxAt};
-ghost use Rattle.vax.specs.Words.{vaxIn, Bounds, wordAt, pairAt, fourAt};
+ghost use Rattle.vax.specs.Words.{vaxIn, wordAt, pairAt, fourAt};
+ghost use Rattle.vax.specs.Bounds.{Bounds};
 
 // A VAX float: the bits of the nearest double, or the reserved operand.
 pub enum Vax {
