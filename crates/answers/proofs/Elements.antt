@@ -1,5 +1,5 @@
 -- An element by its number: that there is one, and where it begins. Assumes nothing.
-use mathlib.Core.Path.{_≡_, refl, sym}
+use mathlib.Core.Path.{_≡_, refl, sym, _∙_}
 use mathlib.Core.Bool.{Bool, true, false, _||_, true≢false}
 use mathlib.Core.List.{List}
 use Prim.Native.Nat.{ℕ, _+_, _*_, _≤_, _<_}
@@ -7,8 +7,12 @@ use native.Mathlib.Nat.{mul-le-mul}
 use native.Mathlib.Omega.{arith}
 use borrow.Author.Tests.{lt-ltb, le-ltb, le-leb, ltb-true}
 use lib.Dec.{ltb, eqb}
-use lib.IntN.{ℤ, pos, negsuc}
+use lib.IntN.{ℤ, pos, negsuc, natAbs}
 use lib.Signed.{ltZ}
+use mir.Syntax.{w64}
+use mir.Val.{SFits, toZ, ofZ}
+use mir.Facts.{toZ-ofZ}
+use Rattle.format.proofs.SignedTests.{is-nat}
 use Rattle.format.specs.Types.{typeOf}
 use Rattle.format.specs.Fields.{endOf, fieldAt, natAt, natOr}
 use Rattle.records.specs.Attributes.{elementSize}
@@ -37,8 +41,19 @@ module _ (f : List ℕ) (p : ℕ) where
   there-not-below (pos n) e = le-ltb n 0 (omega arith)
   there-not-below (negsuc n) e = absurd (true≢false (sym e))
 
-pub element-bytes : (n size : ℕ) → n < 2147483648 → size ≤ 8 → n * size ≤ 17179869184
+element-bytes : (n size : ℕ) → n < 2147483648 → size ≤ 8 → n * size ≤ 17179869184
 element-bytes n size h k = let l : n ≤ 2147483648 = omega arith in mul-le-mul {n₂ = 2147483648} {m₂ = 8} l k
+
+-- so many bytes an element that is there lies behind the first, from what the code read
+pub there-bytes : (f : List ℕ) (c : ℕ) (x : ℤ) → SFits w64 x → {r : Bool} {size : ℕ}
+    → r ≡ elementThere f c (toZ w64 (ofZ w64 x))
+    → (r ≡ true → natOr 0 (toZ w64 (ofZ w64 x)) < 2147483648)
+    → r ≡ true
+    → size ≤ 8
+    → natAbs (toZ w64 (ofZ w64 x)) * size ≤ 17179869184
+there-bytes f c x fits {size = size} e small there s =
+    let n = is-nat w64 0 x fits (there-not-below f c (toZ w64 (ofZ w64 x)) (sym e ∙ there)) in
+    element-bytes (natAbs (toZ w64 (ofZ w64 x))) size (rw n (rw (toZ-ofZ {w = w64} fits) at (small there))) s
 
 -- an element that begins past the file's end
 pub past-end : (f : List ℕ) (at t e : ℕ) → endOf f < at → decodedOf f at t e ≡ Nothing

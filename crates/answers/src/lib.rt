@@ -5,6 +5,8 @@ ghost use Prim.Native.Nat.{_+_, _≤_, _<_};
 ghost use lib.ListN.{length};
 ghost use Rattle.format.specs.Fields.{natOr};
 ghost use Rattle.values.specs.Values.{decodedOf};
+ghost use Rattle.variables.specs.Vdr.{variableOf};
+ghost use Rattle.lookup.specs.Lists.{kindAmong};
 ghost use Rattle.answers.specs.Answers.{answered, elementThere, elementRead, inRecord, inVariable, valueRead, entryValue, padIn, padRead};
 ghost use Rattle.answers.specs.Bounds.{Inside, Fits};
 use format::fields;
@@ -148,15 +150,16 @@ pub fn read_entry(f: &[u8], attribute: i64, kind: i64, w: Wanted, x: i64) -> Rea
     }
 }
 
-// An element of the pad value of a variable and its VDR at v.
-fn in_pad(f: &[u8], v: u32, u: Variable, x: i64) -> Read
-    requires { ⌜ Inside (now f) v 128 × Fits u ⌝ }
-    ensures { λ r. ⌜ r ≡ padIn (now (f .entry)) v u x ⌝ }
+// An element of the pad value of the variable of a kind whose VDR is at v.
+fn in_pad(f: &[u8], kind: i64, v: u32, x: i64) -> Read
+    requires { ⌜ Inside (now f) v 128 × (variableOf (now f) (kindAmong 3 8 kind) v .fault ≡ 0) ⌝ }
+    ensures { λ r. ⌜ r ≡ padIn (now (f .entry)) v (variableOf (now (f .entry)) (kindAmong 3 8 kind) v) x ⌝ }
 {
-    let l = u.dimensions;
     if !fields::bit(f, v as usize + layout::VAR_FLAGS, 2) {
         return Read::Refused(18);
     }
+    let u = vdr::known_at(f, lists::kind_among(3, 8, kind), v);
+    let l = u.dimensions;
     element(
         f,
         l.variances as u64 + 4 * l.count as u64,
@@ -173,10 +176,7 @@ pub fn read_pad(f: &[u8], kind: i64, number: i64, x: i64) -> Read
     let b = opening::body(f);
     let way = lists::to_variable(f, b, kind, number);
     match way {
-        Way::Found { at, left: _ } => {
-            let u = vdr::known_at(b, lists::kind_among(3, 8, kind), at);
-            in_pad(b, at, u, x)
-        }
+        Way::Found { at, left: _ } => in_pad(b, kind, at, x),
         Way::Stopped { number } => Read::Refused(number),
     }
 }

@@ -2,11 +2,12 @@
 use mathlib.Core.Path.{_≡_, sym, ap, _∙_}
 use mathlib.Core.Bool.{Bool, true, false, cond}
 use mathlib.Core.List.{List}
-use Prim.Native.Nat.{ℕ, zero, suc, _+_, _<_}
+use Prim.Native.Nat.{ℕ, zero, suc, _-_, _<_}
 use native.Mathlib.Omega.{arith}
 use borrow.Author.Tests.{eq-eqb, ne-eqb}
 use lib.Dec.{eqb}
 use Rattle.format.specs.Fields.{linkAt}
+use Rattle.records.specs.Layout.{nextAt}
 use Rattle.records.specs.Index.{usedAt, noLimit}
 use Rattle.lookup.specs.declared.indexes.Index.{Index}
 use Rattle.lookup.specs.declared.indexes.Index.the-variants.{Halted}
@@ -19,7 +20,7 @@ module _ (f : List ℕ) (r p floor x : ℕ) (is : x ≡ linkAt f p) where
   abbrev linked : ℕ → ℕ → Index
   linked n y =
       cond (eqb y 0) (Halted 17)
-      (cond (indexMet f y) (afterScan (scanned f y r noLimit (usedAt f y) 0 floor) n (λ upper. indexed f r (y + 8) upper n)) (Halted 20))
+      (cond (indexMet f y) (afterScan (scanned f y r noLimit (usedAt f y) 0 floor) n (λ upper. indexed f r (nextAt y) upper n)) (Halted 20))
 
   first-linked : (n : ℕ) → indexed f r p floor (suc n) ≡ linked n x
   unfolding indexed
@@ -34,10 +35,13 @@ module _ (f : List ℕ) (r p floor x : ℕ) (is : x ≡ linkAt f p) where
   seek-unmet (suc n) h z m = sym (first-linked n ∙ simp (ne-eqb x 0 z, m))
 
   -- the VXR is met, and s is what its entries say
-  pub seek-met : (n k : ℕ) → n ≡ suc k → (x ≡ 0 → ⊥) → indexMet f x ≡ true → (u : ℕ) → u ≡ usedAt f x → (s : Scan) → s ≡ scanned f x r noLimit u 0 floor → indexed f r p floor n ≡ afterScan s k (λ upper. indexed f r (x + 8) upper k)
-  seek-met n k h z m u v s e =
-      ap (indexed f r p floor) h ∙ first-linked k ∙ (simp (ne-eqb x 0 z, m))
-      ∙ ap (λ (t : Scan). afterScan t k (λ upper. indexed f r (x + 8) upper k)) (sym (e ∙ ap (λ (w : ℕ). scanned f x r noLimit w 0 floor) v))
+  pub seek-met : (n : ℕ) → 0 < n → (x ≡ 0 → ⊥) → indexMet f x ≡ true → (u : ℕ) → u ≡ usedAt f x → (s : Scan) → s ≡ scanned f x r noLimit u 0 floor
+      → indexed f r p floor n ≡ afterScan s (n - 1) (λ upper. indexed f r (nextAt x) upper (n - 1))
+  seek-met n h z m u v s e =
+      let k = n - 1 in
+      let one : n ≡ suc k = omega arith in
+      ap (indexed f r p floor) one ∙ first-linked k ∙ (simp (ne-eqb x 0 z, m))
+      ∙ ap (λ (t : Scan). afterScan t k (λ upper. indexed f r (nextAt x) upper k)) (sym (e ∙ ap (λ (w : ℕ). scanned f x r noLimit w 0 floor) v))
 
 pub seek-last : (f : List ℕ) (r p floor n : ℕ) → n ≡ 0 → lastIndex f p ≡ indexed f r p floor n
 unfolding indexed

@@ -5,6 +5,7 @@ ghost use Prim.Native.Nat.{_+_, _-_, _*_, _≤_, _<_};
 ghost use lib.ListN.{length};
 ghost use Rattle.lookup.specs.Indexes.{recordNumber, entryCovers, scanned, indexMet, lowerMet, lowered, lowestOf, indexed, lastIndex, valuesMet, recordAt, valuesNamed, valuesOf, recordWay, levelsTold, levelsOf, levelsWay};
 ghost use Rattle.lookup.specs.Bounds.{EntryFits, ScanFits, IndexFits, ValuesFits, LevelsFit};
+ghost use Rattle.records.specs.Layout.{headOfIndex};
 ghost use Rattle.records.specs.Tree.{levelsBelow};
 use crate::lists;
 use format::fields;
@@ -114,12 +115,12 @@ fn last_index(f: &[u8], link: usize) -> Index
     Index::Halted { number: 20 }
 }
 
-// An index chain, from the link at an offset to the entry that covers a record, where so many records may be met.
-pub fn seek_record(f: &[u8], r: u32, link: usize, allowed: u32) -> Index
-    requires { ⌜ link + 4 ≤ length (now f) ⌝ }
-    ensures { λ q. ⌜ (q ≡ indexed (now (f .entry)) r link 0 allowed) × IndexFits r q ⌝ }
+// The index chain of the variable whose VDR is at an offset, to the entry that covers a record, where so many records may be met.
+fn seek_record(f: &[u8], v: u32, r: u32, allowed: u32) -> Index
+    requires { ⌜ v + 48 ≤ length (now f) ⌝ }
+    ensures { λ q. ⌜ (q ≡ indexed (now (f .entry)) r (headOfIndex v) 0 allowed) × IndexFits r q ⌝ }
 {
-    let mut p = link;
+    let mut p = v as usize + layout::HEAD_OF_INDEX_USIZE;
     let mut floor: u32 = 0;
     let mut left = allowed;
     while 0 < left {
@@ -264,7 +265,7 @@ pub fn to_record(f: &[u8], v: u32, bytes: u32, r: i64, left: u32) -> Values
     let n = record_number(f, v, r);
     match n {
         RecordNumber::There(k) => {
-            let i = seek_record(f, k, v as usize + layout::HEAD_OF_INDEX_USIZE, left);
+            let i = seek_record(f, v, k, left);
             values_below(f, k, bytes, i)
         }
         RecordNumber::Missing => Values::Refused(16),
@@ -306,7 +307,7 @@ pub fn to_levels(f: &[u8], v: u32, r: i64, left: u32) -> Levels
     let n = record_number(f, v, r);
     match n {
         RecordNumber::There(k) => {
-            let i = seek_record(f, k, v as usize + layout::HEAD_OF_INDEX_USIZE, left);
+            let i = seek_record(f, v, k, left);
             levels_of(f, k, i)
         }
         RecordNumber::Missing => Levels::Unknown(16),

@@ -1,6 +1,5 @@
 use mathlib.Core.Path.{sym, ap, _∙_}
-use Prim.Native.Nat.{ℕ, _<_}
-use lib.IntN.{natAbs}
+use Prim.Native.Nat.{ℕ}
 use mir.Syntax.{w64}
 use mir.Val.{toZ, ofZ}
 use mir.Facts.{toZ-ofZ}
@@ -11,7 +10,7 @@ use Rattle.format.specs.Types.{typeOf}
 use Rattle.format.specs.declared.types.DataType.{DataType}
 use Rattle.records.specs.Attributes.{elementSize}
 use Rattle.answers.specs.Answers.{elementRead}
-use Rattle.answers.proofs.Elements.{there-not-below, element-bytes, read-there}
+use Rattle.answers.proofs.Elements.{there-not-below, there-bytes, read-there}
 use borrow.Author.Needs.{needs}
 use Rattle.answers.proofs.element.Statement.{statement}
 use Rattle.answers.proofs.element.Tie as tie
@@ -48,24 +47,14 @@ mul-decode-at c =
     let a = c .before .before .before .before .before in
     let t = c .before .before .before .element-there in
     let there = not-false (t .result) (c .before .before .if1 .left) in
-    let low = there-not-below (a .args .f .now) (a .args .c) (toZ w64 (ofZ w64 (a .args .x))) (sym (t .ensures .0) ∙ there) in
-    let n = is-nat w64 0 (a .args .x) (a .fits .x) low in
-    let h : natAbs (toZ w64 (ofZ w64 (a .args .x))) < 2147483648 = rw n (rw (toZ-ofZ {w = w64} (a .fits .x)) at (t .ensures .1 there)) in
-    let s = c .size-of in
-    let k = element-bytes (natAbs (toZ w64 (ofZ w64 (a .args .x)))) (s .result) h (s .ensures .1) in
-    record { fits = omega (arith, k) }
+    record { fits = omega (arith, there-bytes (a .args .f .now) (a .args .c) (a .args .x) (a .fits .x) (t .ensures .0) (t .ensures .1) there (c .size-of .ensures .1)) }
 
 add-decode-at : tie.Need-add-decode-at
 add-decode-at c =
     let a = c .before .before .before .before .before in
     let t = c .before .before .before .element-there in
     let there = not-false (t .result) (c .before .before .if1 .left) in
-    let low = there-not-below (a .args .f .now) (a .args .c) (toZ w64 (ofZ w64 (a .args .x))) (sym (t .ensures .0) ∙ there) in
-    let n = is-nat w64 0 (a .args .x) (a .fits .x) low in
-    let h : natAbs (toZ w64 (ofZ w64 (a .args .x))) < 2147483648 = rw n (rw (toZ-ofZ {w = w64} (a .fits .x)) at (t .ensures .1 there)) in
-    let s = c .size-of in
-    let k = element-bytes (natAbs (toZ w64 (ofZ w64 (a .args .x)))) (s .result) h (s .ensures .1) in
-    record { fits = omega (arith, k, a .pre .4) }
+    record { fits = omega (arith, there-bytes (a .args .f .now) (a .args .c) (a .args .x) (a .fits .x) (t .ensures .0) (t .ensures .1) there (c .size-of .ensures .1), a .pre .4) }
 
 nat-at-requires-2 : tie.Need-nat-at-requires-2
 nat-at-requires-2 c κs = search needs
@@ -76,15 +65,15 @@ decode-at-requires c κs = search needs
 returns-2 : tie.Need-returns-2
 unfolding elementSize
 returns-2 c =
-    let a = c .before .before .before .before .before .before .before in
-    let t = c .before .before .before .before .before .element-there in
-    let there = not-false (t .result) (c .before .before .before .before .if1 .left) in
+    let first = c .before .before .before in
+    let t = first .before .before .element-there in
+    let a = first .before .before .before .before in
+    let there = not-false (t .result) (first .before .if1 .left) in
     let low = there-not-below (a .args .f .now) (a .args .c) (toZ w64 (ofZ w64 (a .args .x))) (sym (t .ensures .0) ∙ there) in
     let n = is-nat w64 0 (a .args .x) (a .fits .x) low in
-    let h : natAbs (toZ w64 (ofZ w64 (a .args .x))) < 2147483648 = rw n (rw (toZ-ofZ {w = w64} (a .fits .x)) at (t .ensures .1 there)) in
-    let s = c .before .before .size-of in
-    let k = element-bytes (natAbs (toZ w64 (ofZ w64 (a .args .x)))) (s .result) h (s .ensures .1) in
-    c .decode-at .ensures ∙ read-there (a .args .f .now) (a .args .at) (a .args .t) (a .args .c) (a .args .x) (sym (rw (toZ-ofZ {w = w64} (a .fits .x)) at (t .ensures .0)) ∙ there) n (s .ensures .0 ∙ ap (λ (m : ℕ). typeOf m .size) (c .before .before .before .nat-at .ensures .0)) (c .before .before .before .nat-at .ensures .0) (c .before .nat-at2 .ensures .0)
+    let size = c .before .before .size-of .ensures .0 ∙ ap (λ (m : ℕ). typeOf m .size) (first .nat-at .ensures .0) in
+    c .decode-at .ensures
+    ∙ read-there (a .args .f .now) (a .args .at) (a .args .t) (a .args .c) (a .args .x) (sym (rw (toZ-ofZ {w = w64} (a .fits .x)) at (t .ensures .0)) ∙ there) n size (first .nat-at .ensures .0) (c .before .nat-at2 .ensures .0)
 
 pub element-spec : {M : Type 1} → statement M
 element-spec =

@@ -1,7 +1,12 @@
+use mathlib.Core.Path.{ap, _∙_}
+use Prim.Native.Nat.{ℕ}
 use mir.Syntax.{w64}
 use mir.Facts.{toZ-ofZ}
+use native.Mathlib.Omega.{arith}
 use borrow.Author.Tests.{not-true, not-false}
+use Rattle.variables.specs.Vdr.{variableOf}
 use Rattle.answers.specs.Answers.{padIn}
+use Rattle.answers.proofs.Fitting.{fitting}
 use borrow.Author.Needs.{needs}
 use Rattle.answers.proofs.in_pad.Statement.{statement}
 use Rattle.answers.proofs.in_pad.Tie as tie
@@ -16,11 +21,19 @@ returns : tie.Need-returns
 unfolding padIn
 returns c = rw (← c .before .bit .ensures, not-true (c .before .bit .result) (c .if1 .taken))
 
+kind-among-requires : tie.Need-kind-among-requires
+kind-among-requires c κs = search needs
+
+known-at-requires : tie.Need-known-at-requires
+known-at-requires c κs =
+    let a = c .before .before .before .before in
+    rw (rw (toZ-ofZ {w = w64} (a .fits .kind)) at (c .kind-among .ensures .0)) (a .pre .1)
+
 mul-element : tie.Need-mul-element
-mul-element c = search needs
+mul-element c = let u = c .before .known-at in record { fits = omega (arith, fitting _ _ _ (c .before .before .before .before .before .before .pre .0) (u .result) (u .ensures) .variances) }
 
 add-element : tie.Need-add-element
-add-element c = search needs
+add-element c = let u = c .before .known-at in record { fits = omega (arith, fitting _ _ _ (c .before .before .before .before .before .before .pre .0) (u .result) (u .ensures) .variances) }
 
 add-element-2 : tie.Need-add-element-2
 add-element-2 c = search needs
@@ -29,13 +42,20 @@ add-element-3 : tie.Need-add-element-3
 add-element-3 c = search needs
 
 element-requires : tie.Need-element-requires
-element-requires c κs = search needs
+element-requires c κs =
+    let u = c .before .known-at in
+    let a = c .before .before .before .before .before .before in
+    let i = a .pre .0 in
+    (i .short, omega (arith, i .long), omega (arith, i .bytes), omega (arith, i .bytes), omega (arith, fitting _ _ _ i (u .result) (u .ensures) .variances))
 
 returns-2 : tie.Need-returns-2
 unfolding padIn
 returns-2 c =
-    let a = c .before .before .before .before .before in
-    rw (← c .before .before .bit .ensures, not-false (c .before .before .bit .result) (c .before .if1 .left)) (rw (toZ-ofZ {w = w64} (a .fits .x)) at (c .element .ensures))
+    let b = c .before .before .before .before .before in
+    let a = b .before .before in
+    let k = rw (toZ-ofZ {w = w64} (a .fits .kind)) at (c .before .before .before .kind-among .ensures .0) in
+    let u = c .before .before .known-at .ensures ∙ ap (λ (t : ℕ). variableOf (a .args .f .now) t (a .args .v)) k in
+    rw (← b .bit .ensures, not-false (b .bit .result) (c .before .before .before .before .if1 .left), ← u) (rw (toZ-ofZ {w = w64} (a .fits .x)) at (c .element .ensures))
 
 pub in-pad-spec : {M : Type 1} → statement M
 in-pad-spec =
@@ -44,6 +64,8 @@ in-pad-spec =
     add-bit
     bit-requires
     returns
+    kind-among-requires
+    known-at-requires
     mul-element
     add-element
     add-element-2

@@ -1,10 +1,8 @@
 use Rattle.lookup.proofs.Found.{found-right}
 use Rattle.answers.proofs.Asked.{in-variable, pad-found, pad-stopped}
-use Rattle.answers.proofs.Fitting.{variable-fits}
-use Rattle.answers.specs.Bounds.{Fits}
 use mir.Facts.{toZ-ofZ}
 use mir.Syntax.{w64}
-use mathlib.Core.Path.{sym, _∙_, subst}
+use mathlib.Core.Path.{sym, _∙_}
 use borrow.Author.Needs.{needs}
 use Rattle.answers.proofs.read_pad.Statement.{statement}
 use Rattle.answers.proofs.read_pad.Tie as tie
@@ -18,32 +16,24 @@ to-variable-requires c κs = c .body .ensures
 enum-known-way : tie.Need-enum-known-way
 enum-known-way c = search needs
 
-kind-among-requires : tie.Need-kind-among-requires
-kind-among-requires c κs = search needs
-
-known-at-requires : tie.Need-known-at-requires
-known-at-requires c κs =
-    let a = c .before .before .before .before .before .before .before in
-    let b = c .before .before .before .before .before .body in
-    rw (c .kind-among .ensures .0) (found-right (a .args .f .now) (b .result .now) (b .ensures) _ _ _ _ (sym (c .before .before .before .before .to-variable .ensures) ∙ c .before .before .way .given .1))
-
 in-pad-requires : tie.Need-in-pad-requires
 in-pad-requires c κs =
-    let a = c .before .before .before .before .before .before .before .before in
-    let b = c .before .before .before .before .before .before .body in
-    let i = in-variable (a .args .f .now) (b .result .now) (b .ensures) _ _ _ _ (sym (c .before .before .before .before .before .to-variable .ensures) ∙ c .before .before .before .way .given .1) in
-    (i, subst Fits (sym (c .known-at .ensures)) (variable-fits (b .result .now) _ _ (i .short)))
+    let found = c .before .before .before in
+    let b = found .before .body in
+    let w = sym (found .to-variable .ensures) ∙ c .before .way .given .1 in
+    (in-variable _ (b .result .now) (b .ensures) _ _ _ _ w, found-right _ (b .result .now) (b .ensures) _ _ _ _ w)
 
 enum-known-way-2 : tie.Need-enum-known-way-2
 enum-known-way-2 c = search needs
 
 returns : tie.Need-returns
 returns c =
-    let a = c .before .before .before .before .before .before .before .before .before in
-    let b = c .before .before .before .before .before .before .before .body in
-    let e = rw (toZ-ofZ {w = w64} (a .fits .kind), toZ-ofZ {w = w64} (a .fits .number)) at (sym (c .before .before .before .before .before .before .to-variable .ensures) ∙ c .before .before .before .before .way .given .1) in
-    let k = rw (toZ-ofZ {w = w64} (a .fits .kind)) at (c .before .before .kind-among .ensures .0) in
-    c .in-pad .ensures ∙ rw (c .before .known-at .ensures, k, toZ-ofZ {w = w64} (a .fits .x)) (sym (pad-found (a .args .f .now) (b .result .now) (b .ensures) (a .args .kind) (a .args .number) (a .args .x) _ _ e))
+    let found = c .before .before .before .before in
+    let b = found .before .body in
+    let a = found .before .before .before in
+    let e = rw (toZ-ofZ {w = w64} (a .fits .kind), toZ-ofZ {w = w64} (a .fits .number)) at (sym (found .to-variable .ensures) ∙ c .before .before .way .given .1) in
+    rw (toZ-ofZ {w = w64} (a .fits .kind), toZ-ofZ {w = w64} (a .fits .x)) at (c .in-pad .ensures)
+    ∙ sym (pad-found (a .args .f .now) (b .result .now) (b .ensures) (a .args .kind) (a .args .number) (a .args .x) _ _ e)
 
 returns-2 : tie.Need-returns-2
 returns-2 c =
@@ -58,8 +48,6 @@ read-pad-spec =
     body-requires
     to-variable-requires
     enum-known-way
-    kind-among-requires
-    known-at-requires
     in-pad-requires
     enum-known-way-2
     returns

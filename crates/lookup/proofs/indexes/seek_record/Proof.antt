@@ -4,40 +4,51 @@ use mathlib.Core.Path.{_≡_, refl, sym, _∙_}
 use Prim.Native.Nat.{suc, _+_, _-_, _≤_}
 use lib.ListN.{length}
 use native.Mathlib.Omega.{arith}
+use Rattle.records.specs.Layout.{headOfIndex}
 use Rattle.lookup.specs.Indexes.{indexed}
 use Rattle.lookup.proofs.Seeks.{seek-over, seek-unmet, seek-met, seek-last, last-fits}
 use Rattle.lookup.proofs.indexes.seek_record.Statement.{statement}
 use Rattle.lookup.proofs.indexes.seek_record.Tie as tie
 
+-- The chain is followed VXR by VXR. What remains is always the same question, asked from the link at p, with ranges from floor on and left
+-- more records that may be met; left falls.
 abbrev Inv-loop : tie.InvT-loop
-Inv-loop f r link allowed p₀ floor₀ left₀ p floor left = (p + 4 ≤ length f) × (floor ≤ 2147483648) × (indexed f r link 0 allowed ≡ indexed f r p floor left)
+Inv-loop f v r allowed p₀ floor₀ left₀ p floor left = (p + 4 ≤ length f) × (floor ≤ 2147483648) × (indexed f r (headOfIndex v) 0 allowed ≡ indexed f r p floor left)
 
 abbrev μ-loop : tie.MeasureT-loop
-μ-loop f r link allowed p₀ floor₀ left₀ p floor left = left
+μ-loop f v r allowed p₀ floor₀ left₀ p floor left = left
+
+add-p : tie.Need-add-p Inv-loop μ-loop
+add-p c = search needs
 
 loop-holds : tie.Need-loop-holds Inv-loop μ-loop
-loop-holds c = (c .before .pre, omega arith, refl)
+loop-holds c = (omega (arith, c .before .pre), omega arith, refl)
 
 link-at-requires : tie.Need-link-at-requires Inv-loop μ-loop
 link-at-requires c κs = search needs
 
 returns : tie.Need-returns Inv-loop μ-loop
 returns c =
-    let a = c .before .before .before .before .before .args in
-    let l = c .before .before .before .loop in
-    let x = c .before .link-at in
-    (seek-over (a .f .now) (a .r) (l .p) (l .floor) (x .result) (x .ensures .0) (l .left) (c .before .before .loop-test .taken) (c .if1 .taken) ∙ sym (l .inv .2), tt)
+    let link = c .before in
+    let at-loop = link .before .before in
+    let a = at-loop .before .before .args in
+    let l = at-loop .loop in
+    let x = link .link-at in
+    (seek-over (a .f .now) (a .r) (l .p) (l .floor) (x .result) (x .ensures .0) (l .left) (link .before .loop-test .taken) (c .if1 .taken) ∙ sym (l .inv .2), tt)
 
 index-met-requires : tie.Need-index-met-requires Inv-loop μ-loop
 index-met-requires c κs = search needs
 
 returns-2 : tie.Need-returns-2 Inv-loop μ-loop
 returns-2 c =
-    let a = c .before .before .before .before .before .before .before .args in
-    let l = c .before .before .before .before .before .loop in
-    let x = c .before .before .before .link-at in
-    let m = c .before .index-met in
-    (seek-unmet (a .f .now) (a .r) (l .p) (l .floor) (x .result) (x .ensures .0) (l .left) (c .before .before .before .before .loop-test .taken) (c .before .before .if1 .left) (sym (m .ensures .0) ∙ not-true (m .result) (c .if2 .taken)) ∙ sym (l .inv .2), tt)
+    let met = c .before in
+    let link = met .before .before in
+    let at-loop = link .before .before in
+    let a = at-loop .before .before .args in
+    let l = at-loop .loop in
+    let x = link .link-at in
+    let m = sym (met .index-met .ensures .0) ∙ not-true (met .index-met .result) (c .if2 .taken) in
+    (seek-unmet (a .f .now) (a .r) (l .p) (l .floor) (x .result) (x .ensures .0) (l .left) (link .before .loop-test .taken) (met .before .if1 .left) m ∙ sym (l .inv .2), tt)
 
 sub-left : tie.Need-sub-left Inv-loop μ-loop
 sub-left c = search needs
@@ -59,14 +70,13 @@ enum-known-s c = search needs
 
 returns-3 : tie.Need-returns-3 Inv-loop μ-loop
 returns-3 c =
-    let a = c .before .before .before .before .before .before .before .before .before .before .before .before .args in
-    let l = c .before .before .before .before .before .before .before .before .before .before .loop in
-    let x = c .before .before .before .before .before .before .before .before .link-at in
-    let m = c .before .before .before .before .before .before .index-met in
-    let s = c .before .before .before .scan-entries in
-    let h : l .left ≡ suc (l .left - 1) = omega (arith, c .before .before .before .before .before .before .before .before .before .loop-test .taken) in
-    let t = l .inv .2 ∙ seek-met (a .f .now) (a .r) (l .p) (l .floor) (x .result) (x .ensures .0) (l .left) (l .left - 1) h (c .before .before .before .before .before .before .before .if1 .left) (sym (m .ensures .0) ∙ not-false (m .result) (c .before .before .before .before .before .if2 .left)) (c .before .before .before .before .nat-at .result) (c .before .before .before .before .nat-at .ensures .0) (s .result) (s .ensures .0) in
-    (sym (rw (c .before .s .given .1) at t), rw (c .before .s .given .1) at (s .ensures .1))
+    let scan = c .before .before .before in
+    let met = scan .before .before .before in
+    let link = met .before .before in
+    let at-loop = link .before .before in
+    let here = not-false (met .index-met .result) (scan .before .before .if2 .left) in
+    let t = at-loop .loop .inv .2 ∙ seek-met _ _ _ _ _ (link .link-at .ensures .0) _ (link .before .loop-test .taken) (met .before .if1 .left) (sym (met .index-met .ensures .0) ∙ here) _ (scan .before .nat-at .ensures .0) _ (scan .scan-entries .ensures .0) in
+    (sym (rw (c .before .s .given .1) at t), rw (c .before .s .given .1) at (scan .scan-entries .ensures .1))
 
 enum-known-s-2 : tie.Need-enum-known-s-2 Inv-loop μ-loop
 enum-known-s-2 c = search needs
@@ -74,35 +84,33 @@ enum-known-s-2 c = search needs
 cast-p : tie.Need-cast-p Inv-loop μ-loop
 cast-p c = search needs
 
-add-p : tie.Need-add-p Inv-loop μ-loop
-add-p c = search needs
+add-p-2 : tie.Need-add-p-2 Inv-loop μ-loop
+add-p-2 c = search needs
 
 loop-less : tie.Need-loop-less Inv-loop μ-loop
 loop-less c = search needs
 
 loop-again : tie.Need-loop-again Inv-loop μ-loop
 loop-again c =
-    let a = c .before .before .before .before .before .before .before .before .before .before .before .before .args in
-    let l = c .before .before .before .before .before .before .before .before .before .before .loop in
-    let x = c .before .before .before .before .before .before .before .before .link-at in
-    let m = c .before .before .before .before .before .before .index-met in
-    let s = c .before .before .before .scan-entries in
-    let h : l .left ≡ suc (l .left - 1) = omega (arith, c .before .before .before .before .before .before .before .before .before .loop-test .taken) in
-    let t = l .inv .2 ∙ seek-met (a .f .now) (a .r) (l .p) (l .floor) (x .result) (x .ensures .0) (l .left) (l .left - 1) h (c .before .before .before .before .before .before .before .if1 .left) (sym (m .ensures .0) ∙ not-false (m .result) (c .before .before .before .before .before .if2 .left)) (c .before .before .before .before .nat-at .result) (c .before .before .before .before .nat-at .ensures .0) (s .result) (s .ensures .0) in
-    (omega (arith, m .ensures .1 (not-false (m .result) (c .before .before .before .before .before .if2 .left))), rw (c .before .s2 .given .1) at (s .ensures .1), rw (c .before .s2 .given .1) at t)
+    let scan = c .before .before .before in
+    let met = scan .before .before .before in
+    let link = met .before .before in
+    let at-loop = link .before .before in
+    let here = not-false (met .index-met .result) (scan .before .before .if2 .left) in
+    let t = at-loop .loop .inv .2 ∙ seek-met _ _ _ _ _ (link .link-at .ensures .0) _ (link .before .loop-test .taken) (met .before .if1 .left) (sym (met .index-met .ensures .0) ∙ here) _ (scan .before .nat-at .ensures .0) _ (scan .scan-entries .ensures .0) in
+    (omega (arith, met .index-met .ensures .1 here), rw (c .before .s2 .given .1) at (scan .scan-entries .ensures .1), rw (c .before .s2 .given .1) at t)
 
 enum-told : tie.Need-enum-told Inv-loop μ-loop
 enum-told c = search needs
 
 returns-4 : tie.Need-returns-4 Inv-loop μ-loop
 returns-4 c =
-    let a = c .before .before .before .before .before .before .before .before .before .before .before .args in
-    let l = c .before .before .before .before .before .before .before .before .before .loop in
-    let x = c .before .before .before .before .before .before .before .link-at in
-    let m = c .before .before .before .before .before .index-met in
-    let s = c .before .before .scan-entries in
-    let h : l .left ≡ suc (l .left - 1) = omega (arith, c .before .before .before .before .before .before .before .before .loop-test .taken) in
-    let t = l .inv .2 ∙ seek-met (a .f .now) (a .r) (l .p) (l .floor) (x .result) (x .ensures .0) (l .left) (l .left - 1) h (c .before .before .before .before .before .before .if1 .left) (sym (m .ensures .0) ∙ not-false (m .result) (c .before .before .before .before .if2 .left)) (c .before .before .before .nat-at .result) (c .before .before .before .nat-at .ensures .0) (s .result) (s .ensures .0) in
+    let scan = c .before .before in
+    let met = scan .before .before .before in
+    let link = met .before .before in
+    let at-loop = link .before .before in
+    let here = not-false (met .index-met .result) (scan .before .before .if2 .left) in
+    let t = at-loop .loop .inv .2 ∙ seek-met _ _ _ _ _ (link .link-at .ensures .0) _ (link .before .loop-test .taken) (met .before .if1 .left) (sym (met .index-met .ensures .0) ∙ here) _ (scan .before .nat-at .ensures .0) _ (scan .scan-entries .ensures .0) in
     (sym (rw (c .enum-told .given .1) at t), tt)
 
 last-index-requires : tie.Need-last-index-requires Inv-loop μ-loop
@@ -121,6 +129,7 @@ seek-record-spec =
     (tie.spec
     Inv-loop
     μ-loop
+    add-p
     loop-holds
     link-at-requires
     returns
@@ -135,7 +144,7 @@ seek-record-spec =
     returns-3
     enum-known-s-2
     cast-p
-    add-p
+    add-p-2
     loop-less
     loop-again
     enum-told

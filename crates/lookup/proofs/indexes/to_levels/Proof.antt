@@ -12,9 +12,6 @@ record-number-requires c κs = search needs
 enum-known-n : tie.Need-enum-known-n
 enum-known-n c = search needs
 
-add-seek-record : tie.Need-add-seek-record
-add-seek-record c = search needs
-
 seek-record-requires : tie.Need-seek-record-requires
 seek-record-requires c κs = search needs
 
@@ -48,7 +45,6 @@ to-levels-spec =
     (tie.spec
     record-number-requires
     enum-known-n
-    add-seek-record
     seek-record-requires
     levels-of-requires
     enum-told

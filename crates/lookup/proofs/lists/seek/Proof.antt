@@ -10,6 +10,8 @@ use Rattle.lookup.proofs.Links.{over-here, broken-here, found-here, goe
 use Rattle.lookup.proofs.lists.seek.Statement.{statement}
 use Rattle.lookup.proofs.lists.seek.Tie as tie
 
+-- The list is followed link by link. What remains is always the same question, asked from the link at p, at the place i, with left more
+-- records that may be met; left falls.
 abbrev Inv-loop : tie.InvT-loop
 Inv-loop f t w link allowed p₀ i₀ left₀ p i left = (i + left ≡ allowed) × (p + 4 ≤ length f) × (sought f t w link 0 allowed ≡ sought f t w p i left)
 
@@ -27,21 +29,24 @@ over-requires c κs = search needs
 
 returns : tie.Need-returns Inv-loop μ-loop
 returns c =
-    let a = c .before .before .before .before .before .before .args in
-    let l = c .before .before .before .before .loop in
-    let e = c .before .before .link-at .ensures .0 in
-    c .over .ensures ∙ sym (l .inv .2 ∙ over-here (a .f .now) (a .t) (a .w) (l .p) (l .i) _ e (l .left) (c .before .before .before .loop-test .taken) (c .before .if1 .taken))
+    let link = c .before .before in
+    let at-loop = link .before .before in
+    let a = at-loop .before .before .args in
+    let l = at-loop .loop in
+    c .over .ensures ∙ sym (l .inv .2 ∙ over-here (a .f .now) (a .t) (a .w) (l .p) (l .i) _ (link .link-at .ensures .0) (l .left) (link .before .loop-test .taken) (c .before .if1 .taken))
 
 is-met-requires : tie.Need-is-met-requires Inv-loop μ-loop
 is-met-requires c κs = search needs
 
 returns-2 : tie.Need-returns-2 Inv-loop μ-loop
 returns-2 c =
-    let a = c .before .before .before .before .before .before .before .args in
-    let l = c .before .before .before .before .before .loop in
-    let e = c .before .before .before .link-at .ensures .0 in
-    let m = sym (c .before .is-met .ensures .0) ∙ not-true _ (c .if2 .taken) in
-    sym (l .inv .2 ∙ broken-here (a .f .now) (a .t) (a .w) (l .p) (l .i) _ e (c .before .before .if1 .left) (l .left) (c .before .before .before .before .loop-test .taken) m)
+    let met = c .before in
+    let link = met .before .before in
+    let at-loop = link .before .before in
+    let a = at-loop .before .before .args in
+    let l = at-loop .loop in
+    let m = sym (met .is-met .ensures .0) ∙ not-true _ (c .if2 .taken) in
+    sym (l .inv .2 ∙ broken-here (a .f .now) (a .t) (a .w) (l .p) (l .i) _ (link .link-at .ensures .0) (met .before .if1 .left) (l .left) (link .before .loop-test .taken) m)
 
 sub-left : tie.Need-sub-left Inv-loop μ-loop
 sub-left c = search needs
@@ -51,11 +56,14 @@ is-wanted-requires c κs = omega (arith, c .before .is-met .ensures .1 (not-fals
 
 returns-3 : tie.Need-returns-3 Inv-loop μ-loop
 returns-3 c =
-    let a = c .before .before .before .before .before .before .before .before .before .args in
-    let l = c .before .before .before .before .before .before .before .loop in
-    let e = c .before .before .before .before .before .link-at .ensures .0 in
-    let m = sym (c .before .before .before .is-met .ensures .0) ∙ not-false _ (c .before .before .if2 .left) in
-    sym (l .inv .2 ∙ found-here (a .f .now) (a .t) (a .w) (l .p) (l .i) _ e (c .before .before .before .before .if1 .left) m (l .left) (c .before .before .before .before .before .before .loop-test .taken) (sym (c .before .is-wanted .ensures) ∙ c .if3 .taken))
+    let met = c .before .before .before in
+    let link = met .before .before in
+    let at-loop = link .before .before in
+    let a = at-loop .before .before .args in
+    let l = at-loop .loop in
+    let m = sym (met .is-met .ensures .0) ∙ not-false _ (c .before .before .if2 .left) in
+    let here = sym (c .before .is-wanted .ensures) ∙ c .if3 .taken in
+    sym (l .inv .2 ∙ found-here (a .f .now) (a .t) (a .w) (l .p) (l .i) _ (link .link-at .ensures .0) (met .before .if1 .left) m (l .left) (link .before .loop-test .taken) here)
 
 cast-p : tie.Need-cast-p Inv-loop μ-loop
 cast-p c = search needs
@@ -71,13 +79,16 @@ loop-less c = search needs
 
 loop-again : tie.Need-loop-again Inv-loop μ-loop
 loop-again c =
-    let a = c .before .before .before .before .before .before .before .before .before .args in
-    let l = c .before .before .before .before .before .before .before .loop in
-    let e = c .before .before .before .before .before .link-at .ensures .0 in
-    let t = not-false _ (c .before .before .if2 .left) in
-    let m = sym (c .before .before .before .is-met .ensures .0) ∙ t in
-    let on = goes-on (a .f .now) (a .t) (a .w) (l .p) (l .i) _ e (c .before .before .before .before .if1 .left) m (l .left) (c .before .before .before .before .before .before .loop-test .taken) (sym (c .before .is-wanted .ensures) ∙ c .if3 .left) in
-    (omega arith, omega (arith, c .before .before .before .is-met .ensures .1 t), l .inv .2 ∙ on)
+    let met = c .before .before .before in
+    let link = met .before .before in
+    let at-loop = link .before .before in
+    let a = at-loop .before .before .args in
+    let l = at-loop .loop in
+    let kept = not-false _ (c .before .before .if2 .left) in
+    let m = sym (met .is-met .ensures .0) ∙ kept in
+    let other = sym (c .before .is-wanted .ensures) ∙ c .if3 .left in
+    let on = goes-on (a .f .now) (a .t) (a .w) (l .p) (l .i) _ (link .link-at .ensures .0) (met .before .if1 .left) m (l .left) (link .before .loop-test .taken) other in
+    (omega arith, omega (arith, met .is-met .ensures .1 kept), l .inv .2 ∙ on)
 
 last-link-requires : tie.Need-last-link-requires Inv-loop μ-loop
 last-link-requires c κs = search needs
