@@ -90,6 +90,10 @@ ofKinds a b k = eqZ k (pos a) || eqZ k (pos b)
 abbrev pub kindAmong : ℕ → ℕ → ℤ → ℕ
 kindAmong a b k = cond (eqZ k (pos a)) a b
 
+-- the number that a question for a record of one of two kinds is refused with before a list is followed, or 0
+abbrev pub kindNumber : List ℕ → ℕ → ℕ → ℤ → ℕ
+kindNumber f a b k = cond (opened f) (cond (ofKinds a b k) 0 15) 20
+
 -- THE WAY TO A VARIABLE of a kind and a number
 unfoldable pub variableWay : List ℕ → ℤ → ℤ → Way
 variableWay f k n = cond (opened f) (cond (ofKinds 3 8 k) (fileWay f (kindAmong 3 8 k) n) (Stopped 15)) (Stopped 20)

@@ -5,7 +5,7 @@ ghost use Prim.Native.Nat.{_+_, _≤_, _<_};
 ghost use lib.ListN.{length};
 ghost use Rattle.format.specs.Fields.{isAt};
 ghost use Rattle.records.specs.Opening.{gdrAt, bodyOf};
-ghost use Rattle.lookup.specs.Lists.{opened, allowance, landsOn, isEntryKind, vdrKept, ruleKept, meets, wantedAt, overOf, lastLink, sought, headOfList, placeWay, kindAmong, variableWay, attributeWay, headOfEntries, entriesOf, entryWay};
+ghost use Rattle.lookup.specs.Lists.{opened, allowance, landsOn, isEntryKind, vdrKept, ruleKept, meets, wantedAt, overOf, lastLink, sought, headOfList, placeWay, kindAmong, kindNumber, variableWay, attributeWay, headOfEntries, entriesOf, entryWay};
 ghost use Rattle.lookup.specs.Bounds.{Opened};
 ghost use Rattle.lookup.specs.declared.lists.Way.the-variants.{Stopped};
 use format::fields;
@@ -201,19 +201,30 @@ pub fn kind_among(a: u32, b: u32, kind: i64) -> u32
     if kind == a as i64 { a } else { b }
 }
 
+// The number that a question for a record of one of two kinds is refused with before a list is followed, or 0.
+fn kind_number(f: &[u8], a: u32, b: u32, kind: i64) -> u8
+    requires { ⌜ (a < 2147483648) × (b < 2147483648) ⌝ }
+    ensures { λ r. ⌜ (r ≡ kindNumber (now (f .entry)) a b kind) × (r ≡ 0 → Opened (now (f .entry)) (bodyOf (now (f .entry)))) ⌝ }
+{
+    if !opens(f) {
+        return 20;
+    }
+    if kind != kind_among(a, b, kind) as i64 {
+        return 15;
+    }
+    0
+}
+
 // The way to a variable, by its kind, 3 or 8, and its number: in a file, whose part before its end is b.
 pub fn to_variable(f: &[u8], b: &[u8], kind: i64, number: i64) -> Way
     requires { ⌜ now b ≡ bodyOf (now f) ⌝ }
     ensures { λ r. ⌜ r ≡ variableWay (now (f .entry)) kind number ⌝ }
 {
-    if !opens(f) {
-        return Way::Stopped { number: 20 };
+    let refused = kind_number(f, 3, 8, kind);
+    if refused != 0 {
+        return Way::Stopped { number: refused };
     }
-    let t = kind_among(3, 8, kind);
-    if kind != t as i64 {
-        return Way::Stopped { number: 15 };
-    }
-    to_place(b, t, number, allowed(f))
+    to_place(b, kind_among(3, 8, kind), number, allowed(f))
 }
 
 // The way to an attribute, by its number.
@@ -256,12 +267,9 @@ pub fn to_entry(f: &[u8], b: &[u8], attribute: i64, kind: i64, w: Wanted) -> Way
     requires { ⌜ now b ≡ bodyOf (now f) ⌝ }
     ensures { λ r. ⌜ r ≡ entryWay (now (f .entry)) attribute kind w ⌝ }
 {
-    if !opens(f) {
-        return Way::Stopped { number: 20 };
+    let refused = kind_number(f, 5, 9, kind);
+    if refused != 0 {
+        return Way::Stopped { number: refused };
     }
-    let t = kind_among(5, 9, kind);
-    if kind != t as i64 {
-        return Way::Stopped { number: 15 };
-    }
-    to_listed(b, attribute, t, w, allowed(f))
+    to_listed(b, attribute, kind_among(5, 9, kind), w, allowed(f))
 }
