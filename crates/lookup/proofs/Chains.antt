@@ -8,12 +8,13 @@ use lib.Dec.{leb, eqb}
 use lib.IntN.{ℤ}
 use borrow.Author.Tests.{eqb-true}
 use Rattle.format.specs.Fields.{linkAt}
-use Rattle.records.specs.Index.{usedAt, indexAt, noLimit, entryOf, vvrRule}
+use Rattle.records.specs.Layout.{nextAt, headOfIndex}
+use Rattle.records.specs.Index.{usedAt, indexAt, noLimit, entryOf, entryCovers, vvrRule}
 use Rattle.records.specs.Tree.{levelsBelow}
 use Rattle.format.proofs.Tests.{both}
 use Rattle.records.specs.declared.index.Entry.{Entry}
 use Rattle.lookup.specs.Lists.{landsOn}
-use Rattle.lookup.specs.Indexes.{entryCovers, scanned, indexMet, lowerMet, lowerScan, afterLower, lowered, lowestOf, afterScan, lastIndex, indexed, valuesMet, recordAt, valuesOf, valuesBy, recordThere, recordRead, recordNumber, recordWay, levelsFrom, levelsTold, levelsOf, levelsBy, levelsWay}
+use Rattle.lookup.specs.Indexes.{scanned, indexMet, lowerMet, lowerScan, afterLower, lowered, lowestOf, afterScan, lastIndex, indexed, valuesMet, recordAt, valuesOf, valuesBy, recordThere, recordRead, recordNumber, recordWay, levelsFrom, levelsTold, levelsOf, levelsBy, levelsWay}
 use Rattle.lookup.specs.declared.indexes.RecordNumber.the-variants.{There, Missing}
 use Rattle.lookup.specs.declared.indexes.Scan.{Scan}
 use Rattle.lookup.specs.declared.indexes.Scan.the-variants.{Covering, Passed, Broken}
@@ -95,24 +96,24 @@ indexed-chained f r zero p floor = go (eqb (linkAt f p) 0)
 indexed-chained f r (suc left) p floor =
     go (eqb (linkAt f p) 0) (indexMet f (linkAt f p)) refl
     (scanned f (linkAt f p) r noLimit (usedAt f (linkAt f p)) 0 floor) (scanned-covers f (linkAt f p) r noLimit (usedAt f (linkAt f p)) 0 floor)
-    (λ upper. indexed-chained f r left (linkAt f p + 8) upper)
+    (λ upper. indexed-chained f r left (nextAt (linkAt f p)) upper)
   where
-    all : indexMet f (linkAt f p) ≡ true → (n : ℕ) → ((h : ℕ) → h ≤ n → indexMet f (nth f (linkAt f p + 8) h) ≡ true)
+    all : indexMet f (linkAt f p) ≡ true → (n : ℕ) → ((h : ℕ) → h ≤ n → indexMet f (nth f (nextAt (linkAt f p)) h) ≡ true)
         → (h : ℕ) → h ≤ suc n → indexMet f (nth f p h) ≡ true
     all m n g zero l = m
     all m n g (suc h) l = g h (omega arith)
 
-    further : indexMet f (linkAt f p) ≡ true → (s : Index) → Covers (Chained f r (linkAt f p + 8)) s → Covers (Chained f r p) s
+    further : indexMet f (linkAt f p) ≡ true → (s : Index) → Covers (Chained f r (nextAt (linkAt f p))) s → Covers (Chained f r p) s
     further m (Covered e n) w = record { vxr = w .vxr; place = suc (w .place); on = w .on; met = all m (w .place) (w .met); used = w .used }
     further m (Halted v) w = tt
 
     go : (b c : Bool) → indexMet f (linkAt f p) ≡ c → (s : Scan) → Scans (Scanned f (linkAt f p) r noLimit (usedAt f (linkAt f p)) 0) s
-        → ((upper : ℕ) → Covers (Chained f r (linkAt f p + 8)) (indexed f r (linkAt f p + 8) upper left))
-        → Covers (Chained f r p) (cond b (Halted 17) (cond c (afterScan s left (λ upper. indexed f r (linkAt f p + 8) upper left)) (Halted 20)))
+        → ((upper : ℕ) → Covers (Chained f r (nextAt (linkAt f p))) (indexed f r (nextAt (linkAt f p)) upper left))
+        → Covers (Chained f r p) (cond b (Halted 17) (cond c (afterScan s left (λ upper. indexed f r (nextAt (linkAt f p)) upper left)) (Halted 20)))
     go true c m s w ih = tt
     go false false m s w ih = tt
     go false true m (Covering e) w ih = record { vxr = linkAt f p; place = 0; on = refl; met = λ h l. let z : h ≡ 0 = omega arith in rw z m; used = w }
-    go false true m (Passed upper) w ih = further m (indexed f r (linkAt f p + 8) upper left) (ih upper)
+    go false true m (Passed upper) w ih = further m (indexed f r (nextAt (linkAt f p)) upper left) (ih upper)
     go false true m Broken w ih = tt
 
 -- ---- down from an entry: d is the lowest entry, m levels below e
@@ -160,7 +161,7 @@ lowered-down (suc n) f r e left =
 pub record ToLowest (f : List ℕ) (v : ℕ) (r : ℤ) (entry : Entry) : Type 0 where
   pub there : recordThere f v r ≡ true
   pub top : Entry
-  pub chained : Chained f (recordRead f v r) (v + 20) top
+  pub chained : Chained f (recordRead f v r) (headOfIndex v) top
   pub down : Down f (recordRead f v r) levelsBelow top entry
 
 abbrev pub Leads : (ℕ → Type 0) → Values → Type 0
@@ -184,7 +185,7 @@ module _ (f : List ℕ) (v : ℕ) (r : ℤ) where
   unfolding recordWay recordNumber valuesMet
   record-found bytes left = go (recordThere f v r) refl
     where
-      values : recordThere f v r ≡ true → (top : Entry) → Chained f (recordRead f v r) (v + 20) top → (s : Index)
+      values : recordThere f v r ≡ true → (top : Entry) → Chained f (recordRead f v r) (headOfIndex v) top → (s : Index)
           → Covers (Down f (recordRead f v r) levelsBelow top) s → Leads (ToRecord bytes) (valuesOf f (recordRead f v r) bytes s)
       values h top t (Halted n) w = tt
       values h top t (Covered e n) w = met (valuesMet f e bytes n) refl
@@ -202,13 +203,13 @@ module _ (f : List ℕ) (v : ℕ) (r : ℤ) where
               }
           met false q = tt
 
-      chain : recordThere f v r ≡ true → (s : Index) → Covers (Chained f (recordRead f v r) (v + 20)) s
+      chain : recordThere f v r ≡ true → (s : Index) → Covers (Chained f (recordRead f v r) (headOfIndex v)) s
           → Leads (ToRecord bytes) (valuesOf f (recordRead f v r) bytes (lowestOf f (recordRead f v r) s))
       chain h (Halted n) w = tt
       chain h (Covered e n) w = values h e w (lowered levelsBelow f (recordRead f v r) e n) (lowered-down levelsBelow f (recordRead f v r) e n)
 
       go : (b : Bool) → recordThere f v r ≡ b → Leads (ToRecord bytes) (valuesBy f v bytes left (cond b (There (recordRead f v r)) Missing))
-      go true h = chain h (indexed f (recordRead f v r) (v + 20) 0 left) (indexed-chained f (recordRead f v r) left (v + 20) 0)
+      go true h = chain h (indexed f (recordRead f v r) (headOfIndex v) 0 left) (indexed-chained f (recordRead f v r) left (headOfIndex v) 0)
       go false h = tt
 
   -- and how many levels there are on it: n
@@ -221,16 +222,16 @@ module _ (f : List ℕ) (v : ℕ) (r : ℤ) where
   unfolding levelsWay recordNumber
   levels-found left = go (recordThere f v r) refl
     where
-      told : recordThere f v r ≡ true → (top : Entry) → Chained f (recordRead f v r) (v + 20) top → (s : Index)
+      told : recordThere f v r ≡ true → (top : Entry) → Chained f (recordRead f v r) (headOfIndex v) top → (s : Index)
           → Covers (Down f (recordRead f v r) levelsBelow top) s → Counts ToLevels (levelsTold f (recordRead f v r) top s)
       told h top t (Covered e n) w = record { entry = e; way = record { there = h; top = top; chained = t; down = w }; is = w .told }
       told h top t (Halted n) w = tt
 
-      chain : recordThere f v r ≡ true → (s : Index) → Covers (Chained f (recordRead f v r) (v + 20)) s
+      chain : recordThere f v r ≡ true → (s : Index) → Covers (Chained f (recordRead f v r) (headOfIndex v)) s
           → Counts ToLevels (levelsOf f (recordRead f v r) s)
       chain h (Halted n) w = tt
       chain h (Covered e n) w = told h e w (lowered levelsBelow f (recordRead f v r) e n) (lowered-down levelsBelow f (recordRead f v r) e n)
 
       go : (b : Bool) → recordThere f v r ≡ b → Counts ToLevels (levelsBy f v left (cond b (There (recordRead f v r)) Missing))
-      go true h = chain h (indexed f (recordRead f v r) (v + 20) 0 left) (indexed-chained f (recordRead f v r) left (v + 20) 0)
+      go true h = chain h (indexed f (recordRead f v r) (headOfIndex v) 0 left) (indexed-chained f (recordRead f v r) left (headOfIndex v) 0)
       go false h = tt

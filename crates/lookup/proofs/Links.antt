@@ -10,6 +10,7 @@ use lib.Dec.{T}
 use lib.IntN.{ℤ, pos, negsuc}
 use lib.Signed.{ltZ}
 use Rattle.format.specs.Fields.{linkAt, natOr}
+use Rattle.records.specs.Layout.{nextAt}
 use Rattle.lookup.specs.Lists.{meets, wantedAt, overOf, lastLink, sought, headOfList, placeWay}
 use Rattle.lookup.specs.declared.lists.Wanted.{Wanted}
 use Rattle.lookup.specs.declared.lists.Wanted.the-variants.{Place}
@@ -34,7 +35,7 @@ module _ (f : List ℕ) (t : ℕ) (w : Wanted) (p i o : ℕ) (e : o ≡ linkAt f
       found-here zero h z = absurd (omega arith)
       found-here (suc left) h z = let one : suc left - 1 ≡ left = omega arith in simp (← e, ne-eqb o 0 n, m, z, one)
 
-      pub goes-on : (left : ℕ) → 0 < left → wantedAt f w i o ≡ false → sought f t w p i left ≡ sought f t w (o + 8) (i + 1) (left - 1)
+      pub goes-on : (left : ℕ) → 0 < left → wantedAt f w i o ≡ false → sought f t w p i left ≡ sought f t w (nextAt o) (i + 1) (left - 1)
       unfolding sought
       goes-on zero h z = absurd (omega arith)
       goes-on (suc left) h z = let one : suc left - 1 ≡ left = omega arith in simp (← e, ne-eqb o 0 n, m, z, one, add-one i)

@@ -7,13 +7,13 @@ use native.Mathlib.Omega.{arith}
 use native.Mathlib.Numerals.{add-one}
 use borrow.Author.Tests.{eq-eqb, ne-eqb, leb-true}
 use lib.Dec.{leb, eqb}
-use Rattle.records.specs.Index.{entryOf}
+use Rattle.records.specs.Index.{entryCovers, entryOf}
 use Rattle.records.specs.Bounds.{Bounds}
 use Rattle.records.specs.declared.index.Entry.{Entry}
 use Rattle.format.proofs.Tests.{both}
 use Rattle.lookup.specs.declared.indexes.Scan.{Scan}
 use Rattle.lookup.specs.declared.indexes.Scan.the-variants.{Covering, Passed, Broken}
-use Rattle.lookup.specs.Indexes.{entryCovers, scanned}
+use Rattle.lookup.specs.Indexes.{scanned}
 use Rattle.lookup.specs.Bounds.{EntryFits}
 
 -- the entry that covers a record has small numbers

@@ -7,7 +7,7 @@ use lib.IntN.{ℤ, pos}
 use lib.Signed.{leZ}
 use Rattle.format.specs.Fields.{fieldAt, atLeast, linkAt, natOr, bitAt}
 use Rattle.records.specs.Layout.{nextAt, maxRecAt, headOfIndex, varFlagsAt, valuesAt}
-use Rattle.records.specs.Index.{usedAt, vxrRule, indexAt, noLimit, entryOf, vvrRule}
+use Rattle.records.specs.Index.{usedAt, vxrRule, indexAt, noLimit, entryOf, entryCovers, vvrRule}
 use Rattle.records.specs.Tree.{levelsBelow}
 use Rattle.records.specs.declared.index.Entry.{Entry}
 use Rattle.lookup.specs.Lists.{landsOn}
@@ -36,10 +36,6 @@ recordRead f v r = cond (recordVaries f v) (natOr 0 r) 0
 -- the record number that is looked up, or none
 unfoldable pub recordNumber : List ℕ → ℕ → ℤ → RecordNumber
 recordNumber f v r = cond (recordThere f v r) (There (recordRead f v r)) Missing
-
--- "The index entry whose First..Last covers it"
-abbrev pub entryCovers : Entry → ℕ → Bool
-entryCovers e r = leb (e .first) r && leb r (e .last)
 
 -- n used entries of the VXR x from entry i on, to the one that covers r; "index entries rise as in the check, offsets passed over
 -- unjudged"; none ends above most

@@ -10,11 +10,11 @@ use lib.IntN.{ℤ}
 use lib.ListN.{length}
 use borrow.Author.Tests.{leb-true, eqb-true, eqb-false}
 use Rattle.format.specs.Fields.{linkAt}
-use Rattle.records.specs.Index.{usedAt, noLimit, entryOf}
+use Rattle.records.specs.Index.{entryCovers, usedAt, noLimit, entryOf}
 use Rattle.records.specs.Tree.{Slot, slotsFrom, slotsOf, firstOf, lastOf, namedBy, levelsBelow, flat, namesIndex, lowerSlots, lowest, entriesUnder}
 use Rattle.records.specs.declared.index.Entry.{Entry}
 use Rattle.records.proofs.Ranges.{entry-is, entry-reads}
-use Rattle.lookup.specs.Indexes.{entryCovers, indexMet, lowerMet, recordRead}
+use Rattle.lookup.specs.Indexes.{indexMet, lowerMet, recordRead}
 use Rattle.format.proofs.Tests.{both}
 use Rattle.lookup.proofs.Sought.{nth}
 use Rattle.lookup.proofs.Chains.{Scanned, Under, ToLowest}
