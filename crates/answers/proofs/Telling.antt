@@ -16,7 +16,7 @@ use Rattle.values.specs.Values.{reservedFloat}
 use Rattle.values.specs.declared.value.Answer.{Answer}
 use Rattle.values.specs.declared.value.Decoded.{Decoded}
 use Rattle.values.specs.declared.value.Decoded.the-variants.{Given, Reserved, Nothing}
-use Rattle.values.proofs.Places.{lies}
+use Rattle.values.proofs.Elements.{lies}
 use Rattle.values.proofs.Agreeing.{Decodes, decodes}
 use Rattle.format.proofs.Tests.{both}
 use Rattle.answers.specs.Answers.{answered, fileEncoding, elementThere, elementAt, elementOf, elementRead}

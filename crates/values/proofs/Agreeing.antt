@@ -19,7 +19,7 @@ use Rattle.vax.specs.declared.Vax.{Vax}
 use Rattle.vax.proofs.Floats.{numbers-right}
 use Rattle.vax.proofs.ThreeKinds.{bytes-right}
 use Rattle.values.specs.Agreement.{FloatBits, Agrees, VaxGiven}
-use Rattle.values.specs.Elements.{Element}
+use Rattle.values.specs.Bounds.{Element}
 use Rattle.values.specs.Values.{rawAt, valueOf, bitsOf, answerOf, isVax, vaxKind, reservedFloat, vaxAnswer, isNothing, decodedOf}
 use Rattle.values.specs.declared.value.Answer.{Answer}
 use Rattle.values.specs.declared.value.Decoded.{Decoded}

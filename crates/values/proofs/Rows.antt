@@ -12,7 +12,7 @@ use Rattle.format.specs.Tables.{lookup}
 use Rattle.format.specs.Types.{typeOf, types, takes, signed, single, double}
 use Rattle.format.specs.Encodings.{ieee}
 use Rattle.format.specs.declared.types.DataType.{DataType}
-use Rattle.values.specs.Elements.{greatest, Element}
+use Rattle.values.specs.Bounds.{greatest, Element}
 use Rattle.values.specs.Values.{isVax, vaxBytes}
 
 abbrev allRows : {A : Type 0} → (A → Bool) → List (ℕ × A) → Bool

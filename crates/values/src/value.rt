@@ -4,7 +4,7 @@ ghost use Prim.Native.Nat.{_+_, _-_, _*_, _^_, _≤_, _<_};
 ghost use lib.ListN.{length};
 ghost use Rattle.format.specs.Bytes.{signedOf};
 ghost use Rattle.format.specs.Types.{signed};
-ghost use Rattle.values.specs.Elements.{Element};
+ghost use Rattle.values.specs.Bounds.{Element};
 ghost use Rattle.vax.specs.Rounding.{vaxAt};
 ghost use Rattle.values.specs.Values.{rawAt, extendedOf, valueOf, bitsOf, answerOf, isVax, vaxKind, vaxBytes, vaxAnswer, decodedOf};
 use crate::floats;

@@ -7,6 +7,7 @@ use Rattle.descriptors.proofs.Names.{ends-here, goes-on, no-more, at-st
 use Rattle.descriptors.proofs.until_nul.Statement.{statement}
 use Rattle.descriptors.proofs.until_nul.Tie as tie
 
+-- The bytes are looked at one by one. The i before are none of them NUL, so the name is i bytes and what comes of the n - i behind them.
 abbrev Inv-loop : tie.InvT-loop
 Inv-loop f p n i₀ i = (i ≤ n) × (untilNul f p n ≡ i + untilNul f (p + i) (n - i))
 

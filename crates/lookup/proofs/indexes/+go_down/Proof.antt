@@ -19,6 +19,8 @@ use Rattle.lookup.proofs.indexes.scan_entries.Reads as scan-entries-rea
 use Rattle.lookup.proofs.indexes.+go_down.{statement}
 use Rattle.lookup.proofs.indexes.+go_down.Tie.{close}
 
+-- By recursion on the levels that are left: at each the lower record's entries are gone through, and the answer is that of the entry which
+-- covers the record, with one level and one record fewer.
 abbrev μ-go-down : Measures 1 go-down-kinds.ps ℕ
 μ-go-down κs a = a .1 .1 .1 .1 .0
 

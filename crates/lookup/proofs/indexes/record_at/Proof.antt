@@ -1,4 +1,3 @@
-use Prim.Native.Nat.{_-_, _≤_, _<_}
 use native.Mathlib.Omega.{arith}
 use Rattle.lookup.proofs.Offsets.{within}
 use borrow.Author.Needs.{needs}
@@ -18,34 +17,13 @@ add-result : tie.Need-add-result
 add-result c = search needs
 
 mul-result : tie.Need-mul-result
-mul-result c =
-    let a = c .before .before in
-    let first : a .args .e .first ≤ a .args .r = a .pre .first in
-    let last : a .args .r ≤ a .args .e .last = a .pre .last in
-    let small : a .args .e .last < 2147483648 = a .pre .small in
-    let h : a .args .r - a .args .e .first ≤ 2147483647 = omega arith in
-    let k : a .args .bytes ≤ 4294967295 = omega (arith, a .fits .bytes .fits) in
-    record { fits = omega (arith, within (a .args .r - a .args .e .first) (a .args .bytes) h k) }
+mul-result c = let a = c .before .before in record { fits = omega (arith, within (a .args .r) (a .args .bytes) (a .args .e) (a .pre) (a .fits .bytes .fits)) }
 
 add-result-2 : tie.Need-add-result-2
-add-result-2 c =
-    let a = c .before .before in
-    let first : a .args .e .first ≤ a .args .r = a .pre .first in
-    let last : a .args .r ≤ a .args .e .last = a .pre .last in
-    let small : a .args .e .last < 2147483648 = a .pre .small in
-    let h : a .args .r - a .args .e .first ≤ 2147483647 = omega arith in
-    let k : a .args .bytes ≤ 4294967295 = omega (arith, a .fits .bytes .fits) in
-    record { fits = omega (arith, within (a .args .r - a .args .e .first) (a .args .bytes) h k, a .pre .link) }
+add-result-2 c = let a = c .before .before in record { fits = omega (arith, within (a .args .r) (a .args .bytes) (a .args .e) (a .pre) (a .fits .bytes .fits), a .pre .link) }
 
 returns : tie.Need-returns
-returns c =
-    let a = c .before .before in
-    let first : a .args .e .first ≤ a .args .r = a .pre .first in
-    let last : a .args .r ≤ a .args .e .last = a .pre .last in
-    let small : a .args .e .last < 2147483648 = a .pre .small in
-    let h : a .args .r - a .args .e .first ≤ 2147483647 = omega arith in
-    let k : a .args .bytes ≤ 4294967295 = omega (arith, a .fits .bytes .fits) in
-    (search needs, omega (arith, within (a .args .r - a .args .e .first) (a .args .bytes) h k, a .pre .link))
+returns c = let a = c .before .before in (search needs, omega (arith, within (a .args .r) (a .args .bytes) (a .args .e) (a .pre) (a .fits .bytes .fits), a .pre .link))
 
 pub record-at-spec : {M : Type 1} → statement M
 record-at-spec =

@@ -4,7 +4,7 @@ use mir.Facts.{toZ-ofZ}
 use borrow.Author.Tests.{not-true, not-false}
 use Rattle.format.proofs.SignedTests.{cast-nat, is-nat}
 use Rattle.lookup.specs.declared.indexes.RecordNumber.the-variants.{There}
-use Rattle.lookup.proofs.Looking.{number-below, number-none, number-same, number-past, number-there}
+use Rattle.lookup.proofs.RecordNumbers.{number-below, number-none, number-same, number-past, number-there}
 use borrow.Author.Needs.{needs}
 use Rattle.lookup.proofs.indexes.record_number.Statement.{statement}
 use Rattle.lookup.proofs.indexes.record_number.Tie as tie
