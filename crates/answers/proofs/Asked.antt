@@ -5,6 +5,7 @@ use Prim.Native.Nat.{ℕ, _+_, _≤_}
 use native.Mathlib.Omega.{arith}
 use lib.IntN.{ℤ}
 use lib.ListN.{length}
+use Rattle.records.specs.Layout.{entryElementsAt, entryTypeAt, entryValueAt}
 use Rattle.records.specs.Opening.{bodyOf}
 use Rattle.variables.specs.Vdr.{variableOf}
 use Rattle.lookup.specs.Lists.{kindAmong, variableWay, entryWay}
@@ -54,7 +55,7 @@ module _ (f b : List ℕ) (part : b ≡ bodyOf f) where
   value-found k n r is x o left e = rw (e, part)
 
   pub entry-found : (a k : ℤ) (w : Wanted) (x : ℤ) (o left : ℕ) → entryWay f a k w ≡ Found o left
-      → entryValue f a k w x ≡ elementRead b (o + 48) (o + 16) (o + 24) x
+      → entryValue f a k w x ≡ elementRead b (entryValueAt o) (entryTypeAt o) (entryElementsAt o) x
   unfolding entryValue
   entry-found a k w x o left e = rw (e, part)
 

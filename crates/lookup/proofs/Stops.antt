@@ -5,6 +5,7 @@ use Prim.Native.Nat.{ℕ, zero, suc, _+_, _-_}
 use lib.Dec.{eqb, leb}
 use lib.IntN.{ℤ, pos, negsuc}
 use Rattle.format.specs.Fields.{linkAt}
+use Rattle.records.specs.Layout.{headOfIndex}
 use Rattle.records.specs.Index.{usedAt, indexAt, noLimit}
 use Rattle.records.specs.Opening.{bodyOf}
 use Rattle.records.specs.Tree.{levelsBelow}
@@ -121,7 +122,7 @@ module _ (P : ℕ → Type 0) (none : P 15) (missing : P 16) (gap : P 17) (broke
       at-lowest q (Halted m) h = h
 
       go : (l : RecordNumber) → Refuses P (valuesBy f v bytes left l)
-      go (There q) = at-lowest q (indexed f q (v + 20) 0 left) (indexed-halts q left (v + 20) 0)
+      go (There q) = at-lowest q (indexed f q (headOfIndex v) 0 left) (indexed-halts q left (headOfIndex v) 0)
       go Missing = missing
 
 -- ---- of a file, along its body

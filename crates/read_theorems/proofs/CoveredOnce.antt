@@ -6,6 +6,7 @@ use mathlib.Core.List.{List}
 use Prim.Native.Nat.{ℕ, _+_}
 use native.Mathlib.Omega.{arith}
 use lib.IntN.{ℤ}
+use Rattle.records.specs.Layout.{dataTypeAt}
 use Rattle.records.specs.Opening.{bodyOf}
 use Rattle.lookup.specs.Lists.{kindAmong, variableWay}
 use Rattle.lookup.specs.Indexes.{recordThere, recordRead, levelsWay}
@@ -83,16 +84,16 @@ module _ (f : List ℕ) (n : NestedAccepted f) (k j : ℤ) (v left : ℕ) (way :
     -- ---- where a lowest entry covers the record
     module _ (h : recordThere body v r ≡ true) (s : Slot) (i : s ∈ lowestEntries body vxrs) (c : CoveredBy body (recordRead body v r) s) where
       -- the record is found, and its slot is this one
-      judged : Judged (valueAsked f k is x v) (reserved body (valueAt body (kindAmong 3 8 k) v s (recordRead body v r) is x) (v + 12)) number
+      judged : Judged (valueAsked f k is x v) (reserved body (valueAt body (kindAmong 3 8 k) v s (recordRead body v r) is x) (dataTypeAt v)) number
       judged = go (wayOf f k r v left) refl (way-on f n k j v left way r)
         where
           go : (w : Values) → wayOf f k r v left ≡ w → On f n k j v left way r w
-              → Judged (valueAsked f k is x v) (reserved body (valueAt body (kindAmong 3 8 k) v s (recordRead body v r) is x) (v + 12)) number
+              → Judged (valueAsked f k is x v) (reserved body (valueAt body (kindAmong 3 8 k) v s (recordRead body v r) is x) (dataTypeAt v)) number
           go (Record at) e a =
               let b = begins f n k j v left way r at e in
-              subst (λ (t : Slot). Judged (valueAsked f k is x v) (reserved body (valueAt body (kindAmong 3 8 k) v t (recordRead body v r) is x) (v + 12)) number)
+              subst (λ (t : Slot). Judged (valueAsked f k is x v) (reserved body (valueAt body (kindAmong 3 8 k) v t (recordRead body v r) is x) (dataTypeAt v)) number)
               (once (recordRead body v r) (b .slot) s (b .member) i (b .covered) c)
-              (subst (λ (o : ℕ). Judged (valueAsked f k is x v) (reserved body o (v + 12)) number) (value-there f n k j v left way r at e is x)
+              (subst (λ (o : ℕ). Judged (valueAsked f k is x v) (reserved body o (dataTypeAt v)) number) (value-there f n k j v left way r at e is x)
               (value-judged f k j r is x v left at way e))
           go (NoRecord m) e (inl a) = absurd (true≢false (sym h ∙ a .1))
           go (NoRecord m) e (inr a) = absurd (a .2 s i c)

@@ -8,6 +8,7 @@ use Prim.Native.Nat.{ℕ, _+_, _-_, _*_}
 use native.Mathlib.Omega.{arith}
 use lib.IntN.{ℤ, pos}
 use Rattle.format.specs.Fields.{eqZ, natOr}
+use Rattle.records.specs.Layout.{dataTypeAt, headOfIndex}
 use Rattle.records.specs.Opening.{bodyOf}
 use Rattle.records.specs.Tree.{firstOf}
 use Rattle.variables.specs.Vdr.{variableOf}
@@ -89,8 +90,8 @@ module _ (f : List ℕ) (n : NestedAccepted f) where
     met = list-met body (kindAmong 3 8 k) (headOfList body (kindAmong 3 8 k)) (natOr 0 j) v (listed .is) (listed .met)
 
     -- ---- why a record is refused
-    linked : Linked body (λ x. x) (v + 20) chain
-    linked = listed-reads body (chainRules body (kindAmong 3 8 k) v) (v + 20) chain (vdr .index) .linked
+    linked : Linked body (λ x. x) (headOfIndex v) chain
+    linked = listed-reads body (chainRules body (kindAmong 3 8 k) v) (headOfIndex v) chain (vdr .index) .linked
 
     lost : (r : ℤ) (m : ℕ) → Lost body v chain r m
         → ((m ≡ 16) × (recordThere body v r ≡ false)) ⊎ ((m ≡ 17) × (recordThere body v r ≡ true) × InGap body v (recordRead body v r))
@@ -128,7 +129,7 @@ module _ (f : List ℕ) (n : NestedAccepted f) where
       operand-why : (is : List ℤ) (x : ℤ) → valueAsked f k is x v ≡ true → valueReserved f k is x v at ≡ true → RecordRefused body (kindAmong 3 8 k) v r is x 22
       unfolding in-range
       operand-why is x g h =
-          inr (inr (inr (refl, begins .there, in-range, g, subst (λ (o : ℕ). reserved body o (v + 12) ≡ true) (value-there is x) h)))
+          inr (inr (inr (refl, begins .there, in-range, g, subst (λ (o : ℕ). reserved body o (dataTypeAt v) ≡ true) (value-there is x) h)))
 
   -- ---- the entry found
   module _ (b k : ℤ) (w : Wanted) (e left : ℕ) (way : entryWay f b k w ≡ Found e left) where

@@ -10,6 +10,7 @@ use lib.IntN.{ℤ}
 use lib.ListN.{length}
 use borrow.Author.Tests.{leb-true, eqb-true, eqb-false}
 use Rattle.format.specs.Fields.{linkAt}
+use Rattle.records.specs.Layout.{headOfIndex}
 use Rattle.records.specs.Index.{entryCovers, usedAt, noLimit, entryOf}
 use Rattle.records.specs.Tree.{Slot, slotsFrom, slotsOf, firstOf, lastOf, namedBy, levelsBelow, flat, namesIndex, lowerSlots, lowest, entriesUnder}
 use Rattle.records.specs.declared.index.Entry.{Entry}
@@ -151,8 +152,8 @@ module _ (f : List ℕ) where
         way = record {
           top = a .slot;
           place = c .place;
-          chained = sym (nth-same f (v + 20) (c .place)) ∙ (c .on ∙ sym (a .at));
-          rules = λ h l. ap (indexMet f) (sym (nth-same f (v + 20) h)) ∙ c .met h l;
+          chained = sym (nth-same f (headOfIndex v) (c .place)) ∙ (c .on ∙ sym (a .at));
+          rules = λ h l. ap (indexMet f) (sym (nth-same f (headOfIndex v) h)) ∙ c .met h l;
           used = rw (a .at) (a .early);
           below = b .slots;
           down = b .down;

@@ -8,6 +8,7 @@ use native.Mathlib.Omega.{arith}
 use lib.Dec.{eqb}
 use lib.IntN.{ℤ}
 use Rattle.format.specs.Fields.{isAt, linkAt, natOr}
+use Rattle.records.specs.Layout.{entryNumAt, nextAt}
 use Rattle.records.specs.Opening.{bodyOf}
 use Rattle.variables.specs.Vdr.{variableOf}
 use Rattle.lookup.specs.Lists.{opened, allowance, ofKinds, meets, overOf, lastLink, sought, headOfList, kindAmong, headOfEntries, entriesOf, fileWay, variableWay, entryWay}
@@ -133,7 +134,7 @@ module _ (f : List ℕ) where
       move u rest h m = subst (λ (o : ℕ). Judged (padHas f x o) (padReserved f x o) m) (found-same v u left rest (sym h ∙ way) .0)
 
   -- ---- a list none of whose entries has the number n
-  none-sought : (t : ℕ) (n : ℤ) (es : List ℕ) (left p i : ℕ) → Linked f (λ e. e) p es → Each es (λ earlier e. isAt f (e + 20) n ≡ false)
+  none-sought : (t : ℕ) (n : ℤ) (es : List ℕ) (left p i : ℕ) → Linked f (λ e. e) p es → Each es (λ earlier e. isAt f (entryNumAt e) n ≡ false)
       → Finds (λ o. ⊥) (sought f t (Number n) p i left)
   unfolding sought lastLink
   none-sought t n es zero p i l h = go (eqb (linkAt f p) 0)
@@ -144,8 +145,8 @@ module _ (f : List ℕ) where
   none-sought t n [] (suc left) p i l h = rw l tt
   none-sought t n (e ∷ es) (suc left) p i l h =
       rw (l .0, h [] es e refl)
-      (go (eqb e 0) (meets f t e) (sought f t (Number n) (e + 8) (suc i) left)
-      (none-sought t n es left (e + 8) (suc i) (l .1) (λ earlier later x q. h (e ∷ earlier) later x (ap (λ (l : List ℕ). e ∷ l) q))))
+      (go (eqb e 0) (meets f t e) (sought f t (Number n) (nextAt e) (suc i) left)
+      (none-sought t n es left (nextAt e) (suc i) (l .1) (λ earlier later x q. h (e ∷ earlier) later x (ap (λ (l : List ℕ). e ∷ l) q))))
     where
       go : (b c : Bool) (s : Way) → Finds (λ o. ⊥) s → Finds (λ o. ⊥) (cond b (Stopped (overOf t)) (cond c s (Stopped 20)))
       go true c s a = tt

@@ -11,6 +11,7 @@ use lib.IntN.{ℤ, pos}
 use lib.ListN.{length, length-append}
 use borrow.Author.Tests.{leb-true, le-leb, ne-eqb, eq-eqb}
 use Rattle.format.specs.Fields.{endOf, isAt, linkAt}
+use Rattle.records.specs.Layout.{headOfIndex, nextAt}
 use Rattle.records.specs.Rules.{typedAt}
 use Rattle.records.specs.Index.{usedAt, vxrRule, noLimit, vvrRule}
 use Rattle.records.specs.Tree.{Slot, slotsFrom, slotsOf, usedEntries, firstAt, lastAt, firstOf, lastOf, namedBy, namedByAll, levelsBelow, flat, namesIndex, lowerSlots, lowest, lowestEntries, entriesUnder}
@@ -155,8 +156,8 @@ module _ (f : List ℕ) (r : ℕ) where
     lower-met : (x : ℕ) → Stands f x → typedAt f x (pos 6) ≡ true → lowerNumber f x ≡ 0 → lowerMet f x ≡ true
     unfolding lowerMet indexMet lowerNumber
     lower-met x s t e =
-        let p = zeros (vxrRule f x ∷ unless 11 (isAt f (x + 8) (pos 0)) ∷ []) e in
-        rw (lies-lands f 6 x (stands-lies f 6 x s t), eq-eqb (vxrRule f x) 0 (p 0), eq-eqb (linkAt f (x + 8)) 0 (lower-parts f k v x e .1))
+        let p = zeros (vxrRule f x ∷ unless 11 (isAt f (nextAt x) (pos 0)) ∷ []) e in
+        rw (lies-lands f 6 x (stands-lies f 6 x s t), eq-eqb (vxrRule f x) 0 (p 0), eq-eqb (linkAt f (nextAt x)) 0 (lower-parts f k v x e .1))
 
     module _ (vdr : VdrParts f k v) where
       -- ---- a row of entries, and the lowest ones under them
@@ -260,7 +261,7 @@ module _ (f : List ℕ) (r : ℕ) where
         (go (scanned f x r noLimit (usedAt f x) 0 (before .floor))
         (subst (λ (m : ℕ). ScanOn levelsBelow before (slotsOf f x) (scanned f x r m (usedAt f x) 0 (before .floor))) most-top
         (scan-row levelsBelow [] x (usedAt f x) 0 before (l .4)))
-        (index-way xs (x ∷ bs) (x + 8) left (l .5) (λ o m. h o (inr m)) (omega arith)))
+        (index-way xs (x ∷ bs) (nextAt x) left (l .5) (λ o m. h o (inr m)) (omega arith)))
       where
         before : Carried
         before = chainCarried f k v bs
@@ -277,14 +278,14 @@ module _ (f : List ℕ) (r : ℕ) where
         )
         further (Halted m) a i = (i .0, none-join (slotsOf f x) (usedEntries f xs) a (i .1))
 
-        go : (s : Scan) → ScanOn levelsBelow before (slotsOf f x) s → IndexOn left xs (indexed f r (x + 8) (chainCarried f k v (x ∷ bs) .floor) left)
-            → IndexOn (suc left) (x ∷ xs) (afterScan s left (λ upper. indexed f r (x + 8) upper left))
+        go : (s : Scan) → ScanOn levelsBelow before (slotsOf f x) s → IndexOn left xs (indexed f r (nextAt x) (chainCarried f k v (x ∷ bs) .floor) left)
+            → IndexOn (suc left) (x ∷ xs) (afterScan s left (λ upper. indexed f r (nextAt x) upper left))
         go (Covering e) a ih = (
           record { slot = a .slot; member = in-left (slotsOf f x) (usedEntries f xs) (a .slot) (a .member); is = a .is; covered = a .covered },
           omega arith,
         )
         go (Passed l) a ih =
-            further (indexed f r (x + 8) l left) (a .1) (subst (λ (l : ℕ). IndexOn left xs (indexed f r (x + 8) l left)) (sym (a .0)) ih)
+            further (indexed f r (nextAt x) l left) (a .1) (subst (λ (l : ℕ). IndexOn left xs (indexed f r (nextAt x) l left)) (sym (a .0)) ih)
         go Broken a ih = absurd a
 
 -- ---- the offsets of an index: its VXRs, and what the entries of all levels name
@@ -329,14 +330,14 @@ module _ (f : List ℕ) (v : ℕ) (xs : List ℕ) (r : ℤ) where
   LevelsOn (Unknown m) = Lost m
 
 -- ---- THE WAY TO A RECORD of a variable that keeps the rules of acceptance
-module _ (f : List ℕ) (k v : ℕ) (xs : List ℕ) (vdr : VdrParts f k v) (listed : Listed f (chainRules f k v) [] (v + 20) xs)
+module _ (f : List ℕ) (k v : ℕ) (xs : List ℕ) (vdr : VdrParts f k v) (listed : Listed f (chainRules f k v) [] (headOfIndex v) xs)
     (stands : (o : ℕ) → o ∈ indexOffsets f xs → Stands f o) (r : ℤ)
   where
     rows : RowGood f k v levelsBelow [] (carried 0 false) (usedEntries f xs)
     rows =
         along-rows f k v xs []
         (each-along (λ bs x. RowGood f k v levelsBelow [] (chainCarried f k v bs) (slotsOf f x)) xs
-        (λ earlier later x q. listed-reads f (chainRules f k v) (v + 20) xs listed .each earlier later x q .1))
+        (λ earlier later x q. listed-reads f (chainRules f k v) (headOfIndex v) xs listed .each earlier later x q .1))
 
     good : (s : Slot) → s ∈ usedEntries f xs → (c : Carried) × EntryGood f k v levelsBelow [] c s
     good s m = let e = row-each f k v levelsBelow [] (usedEntries f xs) (carried 0 false) rows s m in (e .0, e .1)
@@ -345,10 +346,10 @@ module _ (f : List ℕ) (k v : ℕ) (xs : List ℕ) (vdr : VdrParts f k v) (list
     On = LowestOn f (recordRead f v r) k v (lowestEntries f xs)
 
     -- to the lowest entry that covers the record, with a record more that may be met; or to 17
-    lowest-way : (left : ℕ) → length (indexOffsets f xs) ≤ left → On (lowestOf f (recordRead f v r) (indexed f (recordRead f v r) (v + 20) 0 left))
+    lowest-way : (left : ℕ) → length (indexOffsets f xs) ≤ left → On (lowestOf f (recordRead f v r) (indexed f (recordRead f v r) (headOfIndex v) 0 left))
     lowest-way left h =
-        go (indexed f (recordRead f v r) (v + 20) 0 left)
-        (index-way f (recordRead f v r) k v xs [] (v + 20) left listed
+        go (indexed f (recordRead f v r) (headOfIndex v) 0 left)
+        (index-way f (recordRead f v r) k v xs [] (headOfIndex v) left listed
         (λ o m. stands o (offset-in (λ x. x) (λ x. namedByAll f (flat (entriesUnder f levelsBelow) (slotsOf f x))) xs o m))
         (omega (arith, h, index-length f xs)))
       where
@@ -414,7 +415,7 @@ module _ (f : List ℕ) (k v : ℕ) (xs : List ℕ) (vdr : VdrParts f k v) (list
 
         go : (b : Bool) → recordThere f v r ≡ b
             → RecordOn f v xs r (variableOf f k v .bytes) (valuesBy f v (variableOf f k v .bytes) left (cond b (There (recordRead f v r)) Missing))
-        go true e = on e (lowestOf f (recordRead f v r) (indexed f (recordRead f v r) (v + 20) 0 left)) (lowest-way left h)
+        go true e = on e (lowestOf f (recordRead f v r) (indexed f (recordRead f v r) (headOfIndex v) 0 left)) (lowest-way left h)
         go false e = inl (refl, e)
 
     pub levels-on : (left : ℕ) → length (indexOffsets f xs) ≤ left → LevelsOn f v xs r (levelsWay f v r left)
@@ -430,5 +431,5 @@ module _ (f : List ℕ) (k v : ℕ) (xs : List ℕ) (vdr : VdrParts f k v) (list
         on e (Halted m) a = inr (a .0, e, a .1)
 
         go : (b : Bool) → recordThere f v r ≡ b → LevelsOn f v xs r (levelsBy f v left (cond b (There (recordRead f v r)) Missing))
-        go true e = on e (indexed f (recordRead f v r) (v + 20) 0 left) (lowest-way left h)
+        go true e = on e (indexed f (recordRead f v r) (headOfIndex v) 0 left) (lowest-way left h)
         go false e = inl (refl, e)

@@ -9,6 +9,7 @@ use native.Mathlib.Nat.{add-zero}
 use native.Mathlib.Omega.{arith}
 use lib.ListN.{length}
 use borrow.Author.Tests.{ne-eqb}
+use Rattle.records.specs.Layout.{nextAt}
 use Rattle.lookup.specs.Lists.{meets, wantedAt, overOf, lastLink, sought}
 use Rattle.lookup.specs.declared.lists.Wanted.{Wanted}
 use Rattle.lookup.specs.declared.lists.Way.{Way}
@@ -56,7 +57,7 @@ module _ {X : Type 0} (f : List ℕ) (t : ℕ) (w : Wanted) (at : X → ℕ) whe
   list-way (x ∷ xs) p i (suc left) l h n =
       let m = h x (inl refl) in
       rw (l .0, ne-eqb (at x) 0 (m .0), m .1)
-      (go (wantedAt f w i (at x)) refl (sought f t w (at x + 8) (suc i) left) (list-way xs (at x + 8) (suc i) left (l .1) (λ y j. h y (inr j)) (omega arith)))
+      (go (wantedAt f w i (at x)) refl (sought f t w (nextAt (at x)) (suc i) left) (list-way xs (nextAt (at x)) (suc i) left (l .1) (λ y j. h y (inr j)) (omega arith)))
     where
       go : (b : Bool) → wantedAt f w i (at x) ≡ b → (s : Way) → OnList (suc i) left xs s → OnList i (suc left) (x ∷ xs) (cond b (Found (at x) left) s)
       go true e s a = record { earlier = []; here = x; later = xs; split = refl; is = refl; wanted = rw (add-zero i) e; spent = omega arith }

@@ -8,6 +8,7 @@ use native.Mathlib.Omega.{arith}
 use lib.Dec.{leb, eqb}
 use lib.IntN.{ℤ}
 use Rattle.format.specs.Fields.{fieldAt, natOr}
+use Rattle.records.specs.Layout.{rDimSizesAt}
 use Rattle.records.specs.Opening.{gdrAt, rNumDims, bodyOf}
 use Rattle.variables.specs.Vdr.{variableOf}
 use Rattle.variables.specs.Place.{indexRight}
@@ -142,7 +143,7 @@ module _ (f : List ℕ) (n : NestedAccepted f) where
     ofVariable = λ k j p. field-goes (kindAmong 3 8 k) p (variableWay f k j) (variable-goes k j);
     ofAttribute = λ j p. field-goes 4 p (attributeWay f j) (attribute-goes j);
     ofEntry = λ b k w p. field-goes (kindAmong 5 9 k) p (entryWay f b k w) (entry-goes b k w);
-    ofDimension = λ d. rw (opens f n) (row-goes (gdrAt body + 60) (rNumDims body (gdrAt body)) d);
+    ofDimension = λ d. rw (opens f n) (row-goes (rDimSizesAt (gdrAt body)) (rNumDims body (gdrAt body)) d);
     ofSize = λ k j d. size-goes (kindAmong 3 8 k) d (variableWay f k j) (variable-goes k j);
     ofVariance = λ k j d. variance-goes (kindAmong 3 8 k) d (variableWay f k j) (variable-goes k j);
     ofLevels = λ k j r. levels-go k j r (variableLevels f k j r) (reads-right f n .levels k j r);

@@ -12,6 +12,7 @@ use borrow.Author.Tests.{eqb-true, leb-true}
 use Rattle.format.specs.Bytes.{bigAt}
 use Rattle.format.specs.Fields.{eqZ, isAt, natAt, natOr, bitAt, atLeast, atMost}
 use Rattle.format.specs.Encodings.{encodingOf}
+use Rattle.records.specs.Layout.{dataTypeAt, elementsAt, varFlagsAt, entryElementsAt, entryTypeAt, entryValueAt}
 use Rattle.records.specs.Rules.{sizeAt, typedAt}
 use Rattle.records.specs.Opening.{cdrRight, bodyOf}
 use Rattle.records.specs.Attributes.{elementSize, aedrRight, aedrRule}
@@ -106,7 +107,7 @@ element-in o first r last bytes value size many p n x h l i j ev eb =
     let c : suc x * size ≤ n * size = mul-le-mul-right size j in
     omega (arith, a, b, c, suc-mul (r - first) bytes, suc-mul p value, suc-mul x size, mul-comm value many)
 
-value-is : (f : List ℕ) (o : ℕ) → valueBytes f o ≡ natAt f (o + 48) * elementSize f (o + 12)
+value-is : (f : List ℕ) (o : ℕ) → valueBytes f o ≡ natAt f (o + 48) * elementSize f (dataTypeAt o)
 unfolding valueBytes
 value-is f o = refl
 
@@ -115,7 +116,7 @@ unfolding recordBytes
 record-is f o l = refl
 
 -- a data type has a size
-vdr-sized : (f : List ℕ) (o : ℕ) → vdrFields f o ≡ true → 1 ≤ elementSize f (o + 12)
+vdr-sized : (f : List ℕ) (o : ℕ) → vdrFields f o ≡ true → 1 ≤ elementSize f (dataTypeAt o)
 vdr-sized f o e = vdr-fields f o .0 e .typed
 
 -- ---- an element that is given
@@ -157,14 +158,14 @@ module _ (f : List ℕ) (k n r : ℤ) (is : List ℤ) (x : ℤ) (Fact : Answer �
 
     -- of the record that begins at an offset: whether the element there is a reserved operand
     abbrev operand : ℕ → Bool
-    operand at = reserved f (inRecordAt f (kindAmong 3 8 k) v at is x) (v + 12)
+    operand at = reserved f (inRecordAt f (kindAmong 3 8 k) v at is x) (dataTypeAt v)
 
     in-place : (at : ℕ) → recordThere f v r ≡ true → Located f v (recordBytes f v l) (recordRead f v r) at → placed f l is ≡ true
-        → ((a : Answer) → ValueShown f k n r is x a → elementThere f (v + 48) x ≡ true → operand at ≡ false → Fact a)
-        → (elementThere f (v + 48) x ≡ false → N 18) → (elementThere f (v + 48) x ≡ true → operand at ≡ true → N 22)
-        → Tells Fact N (elementRead f (at + place * valueBytes f v) (v + 12) (v + 48) x)
+        → ((a : Answer) → ValueShown f k n r is x a → elementThere f (elementsAt v) x ≡ true → operand at ≡ false → Fact a)
+        → (elementThere f (elementsAt v) x ≡ false → N 18) → (elementThere f (elementsAt v) x ≡ true → operand at ≡ true → N 22)
+        → Tells Fact N (elementRead f (at + place * valueBytes f v) (dataTypeAt v) (elementsAt v) x)
     in-place at there loc ok fact wrong refused =
-        element-tells f (at + place * valueBytes f v) (v + 12) (v + 48) x Fact N wrong refused (vdr-sized f v (vdr-reads f (kindAmong 3 8 k) v fault .fields)) order
+        element-tells f (at + place * valueBytes f v) (dataTypeAt v) (elementsAt v) x Fact N wrong refused (vdr-sized f v (vdr-reads f (kindAmong 3 8 k) v fault .fields)) order
         (λ h. let b = inside h in omega (arith, b, loc .is, loc .size, loc .lies .inside))
         (λ a h d.
         let b = inside h in
@@ -184,8 +185,8 @@ module _ (f : List ℕ) (k n r : ℤ) (is : List ℤ) (x : ℤ) (Fact : Answer �
           indices = ok;
           element = h;
           inside = record { begins = omega arith; ends = omega (arith, b, loc .size) };
-          shown = subst (λ (o : ℕ). ElementShown f o (v + 12) a) here (element-shown f (inRecordAt f (kindAmong 3 8 k) v at is x) (v + 12) a d);
-        }) h (given-plain f (inRecordAt f (kindAmong 3 8 k) v at is x) (v + 12) a d))
+          shown = subst (λ (o : ℕ). ElementShown f o (dataTypeAt v) a) here (element-shown f (inRecordAt f (kindAmong 3 8 k) v at is x) (dataTypeAt v) a d);
+        }) h (given-plain f (inRecordAt f (kindAmong 3 8 k) v at is x) (dataTypeAt v) a d))
       where
         slot : Slot
         slot = loc .reached .slot
@@ -193,13 +194,13 @@ module _ (f : List ℕ) (k n r : ℤ) (is : List ℤ) (x : ℤ) (Fact : Answer �
         here : inRecordAt f (kindAmong 3 8 k) v at is x ≡ valueAt f (kindAmong 3 8 k) v slot (recordRead f v r) is x
         here = omega (arith, loc .is)
 
-        inside : elementThere f (v + 48) x ≡ true
-            → valueAt f (kindAmong 3 8 k) v slot (recordRead f v r) is x + elementSize f (v + 12)
+        inside : elementThere f (elementsAt v) x ≡ true
+            → valueAt f (kindAmong 3 8 k) v slot (recordRead f v r) is x + elementSize f (dataTypeAt v)
             ≤ namedBy f slot + (8 + (lastOf f slot - firstOf f slot + 1) * recordBytes f v l)
         inside h =
             let e =
-            element-in (namedBy f slot) (firstOf f slot) (recordRead f v r) (lastOf f slot) (recordBytes f v l) (valueBytes f v) (elementSize f (v + 12)) many place (natAt f (v + 48)) (natOr 0 x)
-            (loc .reached .covered .first) (loc .reached .covered .last) (place-below f l (rowMajority f) is (indices ok)) (element-below f (v + 48) x h) (value-is f v) (record-is f v l) in
+            element-in (namedBy f slot) (firstOf f slot) (recordRead f v r) (lastOf f slot) (recordBytes f v l) (valueBytes f v) (elementSize f (dataTypeAt v)) many place (natAt f (elementsAt v)) (natOr 0 x)
+            (loc .reached .covered .first) (loc .reached .covered .last) (place-below f l (rowMajority f) is (indices ok)) (element-below f (elementsAt v) x h) (value-is f v) (record-is f v l) in
             omega (arith, e)
 
     small : indicesRight f (l .sizes) is (l .count) ≡ true → valueBytes f v ≤ 2147483648
@@ -252,7 +253,7 @@ abbrev pub valueAsked : List ℕ → ℤ → List ℤ → ℤ → ℕ → Bool
 valueAsked f k is x v = questionRight (bodyOf f) (kindAmong 3 8 k) v is x
 
 abbrev pub valueReserved : List ℕ → ℤ → List ℤ → ℤ → ℕ → ℕ → Bool
-valueReserved f k is x v at = reserved (bodyOf f) (inRecordAt (bodyOf f) (kindAmong 3 8 k) v at is x) (v + 12)
+valueReserved f k is x v at = reserved (bodyOf f) (inRecordAt (bodyOf f) (kindAmong 3 8 k) v at is x) (dataTypeAt v)
 
 module _ (f : List ℕ) (k n r : ℤ) (is : List ℤ) (x : ℤ) (Fact : Answer → Type 0) (N : ℕ → Type 0) where
   pub value-tells : ((m : ℕ) → variableWay f k n ≡ Stopped m → N m)
@@ -290,30 +291,30 @@ module _ (f : List ℕ) (k : ℤ) (e : ℕ) (m : meets f (kindAmong 5 9 k) e ≡
   parts : AedrFields f e
   parts = aedr-fields f e .0 (aedr-law f e .0 (entry-kept f e (eqZ k (pos 5)) (meets-parts f (kindAmong 5 9 k) e m .1)) .right)
 
-  pub entry-sized : 1 ≤ elementSize f (e + 16)
+  pub entry-sized : 1 ≤ elementSize f (entryTypeAt e)
   entry-sized = parts .typed
 
-  pub entry-element : (x : ℤ) → elementThere f (e + 24) x ≡ true → e + 48 + natOr 0 x * elementSize f (e + 16) + elementSize f (e + 16) ≤ e + sizeAt f e
+  pub entry-element : (x : ℤ) → elementThere f (entryElementsAt e) x ≡ true → e + 48 + natOr 0 x * elementSize f (entryTypeAt e) + elementSize f (entryTypeAt e) ≤ e + sizeAt f e
   entry-element x h =
-      let a : suc (natOr 0 x) * elementSize f (e + 16) ≤ natAt f (e + 24) * elementSize f (e + 16) = mul-le-mul-right (elementSize f (e + 16)) (element-below f (e + 24) x h) in
-      omega (arith, a, parts .size, suc-mul (natOr 0 x) (elementSize f (e + 16)))
+      let a : suc (natOr 0 x) * elementSize f (entryTypeAt e) ≤ natAt f (entryElementsAt e) * elementSize f (entryTypeAt e) = mul-le-mul-right (elementSize f (entryTypeAt e)) (element-below f (entryElementsAt e) x h) in
+      omega (arith, a, parts .size, suc-mul (natOr 0 x) (elementSize f (entryTypeAt e)))
 
 -- of the entry at e in a file: the element is there; it is a reserved operand
 abbrev pub entryHas : List ℕ → ℤ → ℕ → Bool
-entryHas f x e = elementThere (bodyOf f) (e + 24) x
+entryHas f x e = elementThere (bodyOf f) (entryElementsAt e) x
 
 abbrev pub entryReserved : List ℕ → ℤ → ℕ → Bool
-entryReserved f x e = reserved (bodyOf f) (entryAt (bodyOf f) e x) (e + 16)
+entryReserved f x e = reserved (bodyOf f) (entryAt (bodyOf f) e x) (entryTypeAt e)
 
 -- an entry that was found, by its number or its place
 module _ (f : List ℕ) (b k : ℤ) (w : Wanted) (x : ℤ) (Fact : Answer → Type 0) (N : ℕ → Type 0) where
   in-entry : 1 ≤ encodingOf (fileEncoding f) .order → (e : ℕ) → ToEntry b k w f e
-      → ((a : Answer) → elementThere f (e + 24) x ≡ true → elementOf f (entryAt f e x) (e + 16) ≡ Given a → Fact a)
-      → (elementThere f (e + 24) x ≡ false → N 18)
-      → (elementThere f (e + 24) x ≡ true → reserved f (entryAt f e x) (e + 16) ≡ true → N 22)
-      → Tells Fact N (elementRead f (e + 48) (e + 16) (e + 24) x)
+      → ((a : Answer) → elementThere f (entryElementsAt e) x ≡ true → elementOf f (entryAt f e x) (entryTypeAt e) ≡ Given a → Fact a)
+      → (elementThere f (entryElementsAt e) x ≡ false → N 18)
+      → (elementThere f (entryElementsAt e) x ≡ true → reserved f (entryAt f e x) (entryTypeAt e) ≡ true → N 22)
+      → Tells Fact N (elementRead f (entryValueAt e) (entryTypeAt e) (entryElementsAt e) x)
   in-entry order e t fact wrong refused =
-      element-tells f (e + 48) (e + 16) (e + 24) x Fact N wrong refused (entry-sized f k e m) order
+      element-tells f (entryValueAt e) (entryTypeAt e) (entryElementsAt e) x Fact N wrong refused (entry-sized f k e m) order
       (λ h. omega (arith, entry-element f k e m x h, entry-lies f k e m .inside))
       fact
     where
@@ -323,7 +324,7 @@ module _ (f : List ℕ) (b k : ℤ) (w : Wanted) (x : ℤ) (Fact : Answer → Ty
 module _ (f : List ℕ) (b k : ℤ) (w : Wanted) (x : ℤ) (Fact : Answer → Type 0) (N : ℕ → Type 0) where
   pub wanted-tells : ((m : ℕ) → entryWay f b k w ≡ Stopped m → N m)
       → ((e left : ℕ) → entryWay f b k w ≡ Found e left → ToEntry b k w (bodyOf f) e
-      → (a : Answer) → entryHas f x e ≡ true → elementOf (bodyOf f) (entryAt (bodyOf f) e x) (e + 16) ≡ Given a → Fact a)
+      → (a : Answer) → entryHas f x e ≡ true → elementOf (bodyOf f) (entryAt (bodyOf f) e x) (entryTypeAt e) ≡ Given a → Fact a)
       → ((e left : ℕ) → entryWay f b k w ≡ Found e left → entryHas f x e ≡ false → N 18)
       → ((e left : ℕ) → entryWay f b k w ≡ Found e left → entryHas f x e ≡ true → entryReserved f x e ≡ true → N 22)
       → Tells Fact N (entryValue f b k w x)
@@ -335,7 +336,7 @@ module _ (f : List ℕ) (b k : ℤ) (w : Wanted) (x : ℤ) (Fact : Answer → Ty
       go (Stopped m) q t = stopped m q
 
 module _ (f : List ℕ) (b k : ℤ) (w : Wanted) (x : ℤ) where
-  entry-shown : (e : ℕ) → ToEntry b k w f e → (a : Answer) → elementThere f (e + 24) x ≡ true → elementOf f (entryAt f e x) (e + 16) ≡ Given a
+  entry-shown : (e : ℕ) → ToEntry b k w f e → (a : Answer) → elementThere f (entryElementsAt e) x ≡ true → elementOf f (entryAt f e x) (entryTypeAt e) ≡ Given a
       → EntryShown f b k w x a
   entry-shown e t a h d =
       let j = entry-element f k e (entry-meets f b k w e t) x h in
@@ -353,7 +354,7 @@ module _ (f : List ℕ) (b k : ℤ) (w : Wanted) (x : ℤ) where
             ∙ ap (λ (i : ℕ). wantedAt f w i (nth f (headOfEntries (t .adr) (kindAmong 5 9 k)) g)) (sym (zero-add g)) ∙ t .entry .earlier g l;
         element = h;
         inside = record { begins = omega arith; ends = omega (arith, j) };
-        shown = element-shown f (entryAt f e x) (e + 16) a d;
+        shown = element-shown f (entryAt f e x) (entryTypeAt e) a d;
       }
 
 module _ (f : List ℕ) (b k : ℤ) (w : Wanted) (x : ℤ) (N : ℕ → Type 0) where
@@ -364,7 +365,7 @@ module _ (f : List ℕ) (b k : ℤ) (w : Wanted) (x : ℤ) (N : ℕ → Type 0) 
   entry-tells stopped = wanted-tells f b k w x (EntryShown (bodyOf f) b k w x) N stopped (λ e left q t. entry-shown (bodyOf f) b k w x e t)
 
 -- ---- A PAD VALUE
-pad-is : (f : List ℕ) (o : ℕ) → bitAt f (o + 28) 2 ≡ true → padBytes f o ≡ valueBytes f o
+pad-is : (f : List ℕ) (o : ℕ) → bitAt f (varFlagsAt o) 2 ≡ true → padBytes f o ≡ valueBytes f o
 unfolding padBytes
 pad-is f o e = rw e
 
@@ -373,7 +374,7 @@ abbrev pub padHas : List ℕ → ℤ → ℕ → Bool
 padHas f x v = padRight (bodyOf f) v x
 
 abbrev pub padReserved : List ℕ → ℤ → ℕ → Bool
-padReserved f x v = reserved (bodyOf f) (padAt (bodyOf f) v x) (v + 12)
+padReserved f x v = reserved (bodyOf f) (padAt (bodyOf f) v x) (dataTypeAt v)
 
 -- it stands behind the variances
 pad-behind : (f : List ℕ) (k o : ℕ) → o + 128 ≤ layoutOf f k o .variances + 4 * layoutOf f k o .count
@@ -385,11 +386,11 @@ pad-behind f k o = go (eqb k 8) refl
 
 module _ (f : List ℕ) (k n x : ℤ) (Fact : Answer → Type 0) (N : ℕ → Type 0) where
   in-pad : 1 ≤ encodingOf (fileEncoding f) .order → (v : ℕ) → ToVariable k n f v
-      → ((a : Answer) → PadShown f k n x a → padRight f v x ≡ true → reserved f (padAt f v x) (v + 12) ≡ false → Fact a)
-      → (padRight f v x ≡ false → N 18) → (padRight f v x ≡ true → reserved f (padAt f v x) (v + 12) ≡ true → N 22)
+      → ((a : Answer) → PadShown f k n x a → padRight f v x ≡ true → reserved f (padAt f v x) (dataTypeAt v) ≡ false → Fact a)
+      → (padRight f v x ≡ false → N 18) → (padRight f v x ≡ true → reserved f (padAt f v x) (dataTypeAt v) ≡ true → N 22)
       → Tells Fact N (padIn f v (variableOf f (kindAmong 3 8 k) v) x)
   unfolding padIn
-  in-pad order v t fact wrong refused = rw (vdr-makes f (kindAmong 3 8 k) v (vdr-reads f (kindAmong 3 8 k) v fault)) (go (bitAt f (v + 28) 2) refl)
+  in-pad order v t fact wrong refused = rw (vdr-makes f (kindAmong 3 8 k) v (vdr-reads f (kindAmong 3 8 k) v fault)) (go (bitAt f (varFlagsAt v) 2) refl)
     where
       met : Lies f (kindAmong 3 8 k) v
       met = meets-parts f (kindAmong 3 8 k) v (listed-met f (kindAmong 3 8 k) n v (t .listed)) .0
@@ -397,29 +398,29 @@ module _ (f : List ℕ) (k n x : ℤ) (Fact : Answer → Type 0) (N : ℕ → Ty
       fault : variableOf f (kindAmong 3 8 k) v .fault ≡ 0
       fault = found-fault f k n v t
 
-      inside : elementThere f (v + 48) x ≡ true → natOr 0 x * elementSize f (v + 12) + elementSize f (v + 12) ≤ valueBytes f v
+      inside : elementThere f (elementsAt v) x ≡ true → natOr 0 x * elementSize f (dataTypeAt v) + elementSize f (dataTypeAt v) ≤ valueBytes f v
       inside h =
-          let a : suc (natOr 0 x) * elementSize f (v + 12) ≤ natAt f (v + 48) * elementSize f (v + 12) = mul-le-mul-right (elementSize f (v + 12)) (element-below f (v + 48) x h) in
-          omega (arith, a, value-is f v, suc-mul (natOr 0 x) (elementSize f (v + 12)))
+          let a : suc (natOr 0 x) * elementSize f (dataTypeAt v) ≤ natAt f (elementsAt v) * elementSize f (dataTypeAt v) = mul-le-mul-right (elementSize f (dataTypeAt v)) (element-below f (elementsAt v) x h) in
+          omega (arith, a, value-is f v, suc-mul (natOr 0 x) (elementSize f (dataTypeAt v)))
 
       -- where it begins, behind the variances
       begins : ℕ
       begins = layoutOf f (kindAmong 3 8 k) v .variances + 4 * layoutOf f (kindAmong 3 8 k) v .count
 
-      ends : bitAt f (v + 28) 2 ≡ true → v + sizeAt f v ≡ begins + valueBytes f v
+      ends : bitAt f (varFlagsAt v) 2 ≡ true → v + sizeAt f v ≡ begins + valueBytes f v
       ends e = omega (arith, exact-size f (kindAmong 3 8 k) v (vdr-reads f (kindAmong 3 8 k) v fault .exact), pad-is f v e)
 
-      here : bitAt f (v + 28) 2 ≡ true → elementAt f begins (v + 12) x ≡ padAt f v x
-      here e = let b : begins ≡ v + sizeAt f v - valueBytes f v = omega (arith, ends e) in ap (λ (o : ℕ). elementAt f o (v + 12) x) b
+      here : bitAt f (varFlagsAt v) 2 ≡ true → elementAt f begins (dataTypeAt v) x ≡ padAt f v x
+      here e = let b : begins ≡ v + sizeAt f v - valueBytes f v = omega (arith, ends e) in ap (λ (o : ℕ). elementAt f o (dataTypeAt v) x) b
 
-      go : (c : Bool) → bitAt f (v + 28) 2 ≡ c → Tells Fact N (cond c (elementRead f begins (v + 12) (v + 48) x) (Refused 18))
+      go : (c : Bool) → bitAt f (varFlagsAt v) 2 ≡ c → Tells Fact N (cond c (elementRead f begins (dataTypeAt v) (elementsAt v) x) (Refused 18))
       go true e =
-          element-tells f begins (v + 12) (v + 48) x Fact N
-          (λ h. wrong (rw (e, h))) (λ h q. refused (rw (e, h)) (subst (λ (o : ℕ). reserved f o (v + 12) ≡ true) (here e) q))
+          element-tells f begins (dataTypeAt v) (elementsAt v) x Fact N
+          (λ h. wrong (rw (e, h))) (λ h q. refused (rw (e, h)) (subst (λ (o : ℕ). reserved f o (dataTypeAt v) ≡ true) (here e) q))
           (vdr-sized f v (vdr-reads f (kindAmong 3 8 k) v fault .fields)) order
           (λ h. omega (arith, inside h, ends e, met .inside))
           (λ a h d.
-          let g : elementOf f (padAt f v x) (v + 12) ≡ Given a = subst (λ (o : ℕ). elementOf f o (v + 12) ≡ Given a) (here e) d in
+          let g : elementOf f (padAt f v x) (dataTypeAt v) ≡ Given a = subst (λ (o : ℕ). elementOf f o (dataTypeAt v) ≡ Given a) (here e) d in
           fact a (record {
             kind = t .kind;
             number = t .listed .least;
@@ -428,8 +429,8 @@ module _ (f : List ℕ) (k n x : ℤ) (Fact : Answer → Type 0) (N : ℕ → Ty
             pad = e;
             element = h;
             inside = record { begins = omega (arith, ends e, pad-behind f (kindAmong 3 8 k) v); ends = omega (arith, ends e, inside h) };
-            shown = element-shown f (padAt f v x) (v + 12) a g;
-          }) (rw (e, h)) (given-plain f (padAt f v x) (v + 12) a g))
+            shown = element-shown f (padAt f v x) (dataTypeAt v) a g;
+          }) (rw (e, h)) (given-plain f (padAt f v x) (dataTypeAt v) a g))
       go false e = wrong (rw e)
 
 module _ (f : List ℕ) (k n x : ℤ) (Fact : Answer → Type 0) (N : ℕ → Type 0) where

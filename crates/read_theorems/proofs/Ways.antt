@@ -10,6 +10,7 @@ use lib.ListN.{length, length-append}
 use Rattle.format.specs.Fields.{isAt}
 use Rattle.format.specs.Numbers.{unless}
 use Rattle.format.proofs.Numbers.{zeros}
+use Rattle.records.specs.Layout.{headOfIndex, attrNumAt, headOfGrEntries, headOfZEntries, varNumAt}
 use Rattle.records.specs.Attributes.{adrRule, aedrRule}
 use Rattle.variables.specs.Vdr.{carriedOf, variableOf}
 use Rattle.walk.specs.Walk.{typeNumber, varNumber, attrNumber, numNumber, entryNumber}
@@ -43,17 +44,17 @@ module _ (f : List ℕ) where
   var-meets : (b : Bool) (n o : ℕ) → Stands f o → typeNumber f o (pos (cond b 3 8)) ≡ 0 → varNumber f (cond b 3 8) n o ≡ 0 → meets f (cond b 3 8) o ≡ true
   unfolding varNumber
   var-meets b n o s t e =
-      let p = zeros (carriedOf f o ∷ variableOf f (cond b 3 8) o .fault ∷ unless 11 (isAt f (o + 52) (pos n)) ∷ []) e in
+      let p = zeros (carriedOf f o ∷ variableOf f (cond b 3 8) o .fault ∷ unless 11 (isAt f (varNumAt o) (pos n)) ∷ []) e in
       parts-meet f (cond b 3 8) o (stands-lies f (cond b 3 8) o s (type-reads f o (pos (cond b 3 8)) t .1)) (kept-variable f o b (p 0) (p 1))
 
   var-parts : (k n o : ℕ) → varNumber f k n o ≡ 0 → VdrParts f k o
   unfolding varNumber
-  var-parts k n o e = vdr-reads f k o (zeros (carriedOf f o ∷ variableOf f k o .fault ∷ unless 11 (isAt f (o + 52) (pos n)) ∷ []) e 1)
+  var-parts k n o e = vdr-reads f k o (zeros (carriedOf f o ∷ variableOf f k o .fault ∷ unless 11 (isAt f (varNumAt o) (pos n)) ∷ []) e 1)
 
   attr-meets : (n o : ℕ) → Stands f o → typeNumber f o (pos 4) ≡ 0 → attrNumber f n o ≡ 0 → meets f 4 o ≡ true
   unfolding attrNumber
   attr-meets n o s t e =
-      let p = zeros (adrRule f o ∷ unless 11 (isAt f (o + 20) (pos n)) ∷ []) e in
+      let p = zeros (adrRule f o ∷ unless 11 (isAt f (attrNumAt o) (pos n)) ∷ []) e in
       parts-meet f 4 o (stands-lies f 4 o s (type-reads f o (pos 4) t .1)) (kept-attribute f o (p 0))
 
   entry-meets : (b : Bool) (a o : ℕ) → Stands f o → typeNumber f o (pos (cond b 5 9)) ≡ 0 → entryNumber f a o ≡ 0 → meets f (cond b 5 9) o ≡ true
@@ -74,7 +75,7 @@ module _ (f : List ℕ) where
   pub record VariableIn (t : ℕ) (w : Wanted) (left : ℕ) (vs : List ListedVdr) (v rest : ℕ) : Type 0 where
     pub found : FoundIn f t w (λ d. d .vdr) 0 left vs v rest
     pub parts : VdrParts f t v
-    pub index : Listed f (chainRules f t v) [] (v + 20) (found .here .vxrs)
+    pub index : Listed f (chainRules f t v) [] (headOfIndex v) (found .here .vxrs)
     pub stands : (o : ℕ) → o ∈ indexOffsets f (found .here .vxrs) → Stands f o
     pub room : length (indexOffsets f (found .here .vxrs)) ≤ rest
 
@@ -107,7 +108,7 @@ module _ (f : List ℕ) where
               record {
                 found = a;
                 parts = subst (VdrParts f (cond b 3 8)) (sym (a .is)) (var-parts (cond b 3 8) (length (kept .0)) (d .vdr) (kept .1 .1));
-                index = subst (λ (v : ℕ). Listed f (chainRules f (cond b 3 8) v) [] (v + 20) (d .vxrs)) (sym (a .is)) (kept .2);
+                index = subst (λ (v : ℕ). Listed f (chainRules f (cond b 3 8) v) [] (headOfIndex v) (d .vxrs)) (sym (a .is)) (kept .2);
                 stands = λ o j. stands o (below-in (λ v. v .vdr) (λ v. indexOffsets f (v .vxrs)) vs d o m j);
                 room =
                     omega (
@@ -123,8 +124,8 @@ module _ (f : List ℕ) where
   -- ---- the list of attributes
   pub record AttributeIn (w : Wanted) (left : ℕ) (ads : List ListedAdr) (a rest : ℕ) : Type 0 where
     pub found : FoundIn f 4 w (λ d. d .adr) 0 left ads a rest
-    pub gr : Listed f (entriesRules f 5 a) [] (a + 12) (found .here .grEntries)
-    pub z : Listed f (entriesRules f 9 a) [] (a + 36) (found .here .zEntries)
+    pub gr : Listed f (entriesRules f 5 a) [] (headOfGrEntries a) (found .here .grEntries)
+    pub z : Listed f (entriesRules f 9 a) [] (headOfZEntries a) (found .here .zEntries)
     pub stands : (o : ℕ) → o ∈ (found .here .grEntries ++ found .here .zEntries) → Stands f o
     pub room : length (found .here .grEntries ++ found .here .zEntries) ≤ rest
 
@@ -156,8 +157,8 @@ module _ (f : List ℕ) where
               let kept = each-kept (attrsRules f) p ads l d m in
               record {
                 found = a;
-                gr = subst (λ (o : ℕ). Listed f (entriesRules f 5 o) [] (o + 12) (d .grEntries)) (sym (a .is)) (kept .2 .0);
-                z = subst (λ (o : ℕ). Listed f (entriesRules f 9 o) [] (o + 36) (d .zEntries)) (sym (a .is)) (kept .2 .1);
+                gr = subst (λ (o : ℕ). Listed f (entriesRules f 5 o) [] (headOfGrEntries o) (d .grEntries)) (sym (a .is)) (kept .2 .0);
+                z = subst (λ (o : ℕ). Listed f (entriesRules f 9 o) [] (headOfZEntries o) (d .zEntries)) (sym (a .is)) (kept .2 .1);
                 stands = λ o j. stands o (below-in (λ a. a .adr) (λ a. a .grEntries ++ a .zEntries) ads d o m j);
                 room =
                     omega (
