@@ -7,19 +7,13 @@ use native.Mathlib.Omega.{arith}
 use lib.Dec.{leb, eqb}
 use mathlib.Core.Bool.{Bool}
 use borrow.Author.Tests.{leb-true, eqb-true}
-use Rattle.checker.specs.declared.state.Stage.{Stage}
-use Rattle.checker.specs.declared.state.Stage.the-variants.{Fresh, Sweep, Walking, Done, OutOfRange}
-use Rattle.checker.specs.Saved.{stageRange}
-use Rattle.checker.specs.Bounds.{Ready, VerdictFits, IsVerdict, Loaded}
-use Rattle.checker.proofs.Above.{levels-small}
+use Rattle.states.specs.declared.state.Stage.{Stage}
+use Rattle.states.specs.declared.state.Stage.the-variants.{Fresh, Sweep, Walking, Done, OutOfRange}
+use Rattle.states.specs.Saved.{stageRange}
+use Rattle.checker.specs.Bounds.{Ready}
+use Rattle.states.specs.Bounds.{VerdictFits, IsVerdict, Loaded}
+use Rattle.states.proofs.LevelLists.{levels-small}
 use Rattle.checker.proofs.Sound.{SoundBy}
-
-pub ranged-fits : (l : ℕ) (g : Stage) → stageRange l g ≡ true → VerdictFits g
-ranged-fits l Fresh e = tt
-ranged-fits l (Sweep o) e = tt
-ranged-fits l (Walking w up) e = tt
-ranged-fits l (Done v p) e = absurd (true≢false (sym e))
-ranged-fits l OutOfRange e = tt
 
 verdict-small : (v : ℕ) → IsVerdict v → v ≤ 23
 verdict-small v t = go (leb v 14) (eqb v 20) refl refl (t .in-range)

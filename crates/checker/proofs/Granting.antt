@@ -7,11 +7,12 @@ use Prim.Native.Nat.{ℕ}
 use lib.ListN.{length}
 use lib.IntN.{ℤ, pos}
 use borrow.Author.Tests.{ne-eqb}
-use Rattle.checker.specs.declared.state.Stage.{Stage}
-use Rattle.checker.specs.declared.state.Stage.the-variants.{Fresh, Sweep, Walking, Done, OutOfRange}
-use Rattle.checker.specs.declared.state.State.{State}
-use Rattle.checker.specs.Step.{conf, Run, finished, answerOf, locationIn, runOf}
-use Rattle.checker.specs.Saved.{save, load}
+use Rattle.states.specs.declared.state.Stage.{Stage}
+use Rattle.states.specs.declared.state.Stage.the-variants.{Fresh, Sweep, Walking, Done, OutOfRange}
+use Rattle.states.specs.declared.state.State.{State}
+use Rattle.checker.specs.Step.{conf, Run, runOf}
+use Rattle.states.specs.Stages.{finished, answerOf, locationIn}
+use Rattle.states.specs.Saved.{stateLength, save, load}
 use Rattle.checker.specs.Grant.{granted, otherFile, worked, grantBy, grantOf}
 use Rattle.checker.proofs.Cases.{right-length, idle}
 
@@ -23,7 +24,7 @@ running-location (Walking w up) e = refl
 running-location (Done v p) e = absurd (true≢false e)
 running-location OutOfRange e = refl
 
-module _ (f m l : List ℕ) (n : ℕ) (long : length l ≡ 34) (s : State) (is : s ≡ load l) where
+module _ (f m l : List ℕ) (n : ℕ) (long : length l ≡ stateLength) (s : State) (is : s ≡ load l) where
   by-state : grantBy f m l n s ≡ grantOf f m l n
   by-state = ap (λ (t : State). grantBy f m l n t) is ∙ sym (right-length f m l n long)
 

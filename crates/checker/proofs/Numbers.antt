@@ -22,7 +22,7 @@ use Rattle.variables.specs.Vdr.{carriedOf, variableOf}
 use Rattle.records.proofs.Judged.{reach-cases, judged-cases}
 use Rattle.records.proofs.Ranges.{entry-cases}
 use Rattle.variables.proofs.Rule.{vdr-cases, carried-cases}
-use Rattle.walk.specs.Walk.{typeNumber, gdrNamed, fieldNumber, overBy, afterVars, varsList, lowerOver, lowerNext, chainList, attrsList, entriesList, unusedList, Listing, listStep, tallied, tallyPlace, numNumber, varsTally, varNumber, chainTally, valuesNumber, lowerNumber, attrNumber, entriesTally, entryNumber, unusedNumber, lowerStep, valuesStep, entryStep, walkStepBy}
+use Rattle.walk.specs.Walk.{typeNumber, gdrNamed, fieldNumber, overBy, afterVars, varsList, lowerOver, lowerNext, chainList, attrsList, entriesList, unusedList, Listing, listStep, tallied, countIn, numNumber, varsTally, varNumber, chainTally, valuesNumber, lowerNumber, attrNumber, entriesTally, entryNumber, unusedNumber, lowerStep, valuesStep, entryStep, walkStepBy}
 use Rattle.walk.specs.Levels.{isNone, mostOf}
 use Rattle.walk.specs.declared.positions.Level.{Level}
 use Rattle.walk.specs.declared.positions.Var.{Var}
@@ -87,7 +87,7 @@ module _ (f : List ℕ) (E L : ℕ → Type 0) (Q : ℕ → ℕ → Type 0) (ear
 
   ends-entries : (k a n greatest : ℕ) → L (entriesTally f k a n greatest)
   unfolding entriesTally
-  ends-entries k a n greatest = let p = a + tallyPlace k in ends-tally p n (p + 4) greatest
+  ends-entries k a n greatest = let p = a + countIn k in ends-tally p n (p + 4) greatest
 
   -- ---- a link to t
   module _ (t : ℕ) where

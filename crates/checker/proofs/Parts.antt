@@ -11,8 +11,8 @@ use Rattle.walk.specs.Walk.{walkStep}
 use Rattle.walk.specs.declared.positions.Levels.{Levels}
 use Rattle.walk.specs.declared.positions.Step as T
 use Rattle.walk.specs.declared.positions.Walk as W
-use Rattle.checker.specs.declared.state.Stage.the-variants.{Walking}
-use Rattle.checker.specs.declared.state.Went.{Went}
+use Rattle.states.specs.declared.state.Stage.the-variants.{Walking}
+use Rattle.checker.specs.declared.steps.Went.{Went}
 use Rattle.faults.specs.Holder.{holderOf}
 use Rattle.checker.specs.Step.{conf, stepped, stepBy}
 use Rattle.checker.specs.Bounds.{Lent, wentTo}

@@ -6,7 +6,8 @@ use Prim.Native.Nat.{ℕ, zero, suc, _+_, _≤_, min}
 use native.Mathlib.Nat.{add-zero, add-suc}
 use native.Mathlib.Numerals.{add-one}
 use native.Mathlib.Omega.{arith}
-use Rattle.checker.specs.Step.{Conf, Run, finished, stepOf, onward, runOf}
+use Rattle.checker.specs.Step.{Conf, Run, stepOf, onward, runOf}
+use Rattle.states.specs.Stages.{finished}
 
 -- a run that goes on after another: where it is, and the steps of both
 abbrev pub after : ℕ → Run → Run

@@ -25,20 +25,22 @@ use Rattle.walk.specs.declared.positions.Walk.the-variants.{Start}
 use Rattle.walk.specs.declared.positions.Step as T
 use Rattle.walk.specs.declared.positions.Step.the-variants.{Over, End, Take, Down, Up}
 use Rattle.walk.proofs.Closed.{all-in, in-all, NextWithin, step-within}
-use Rattle.checker.specs.declared.state.Stage.{Stage}
-use Rattle.checker.specs.declared.state.Stage.the-variants.{Fresh, Sweep, Walking, Done, OutOfRange}
-use Rattle.checker.specs.declared.state.State.{State}
-use Rattle.checker.specs.Step.{Conf, conf, Run, fresh, finished, stepOf, runOf}
-use Rattle.checker.specs.Saved.{save, lengthRange, walkRange, levelsStand, levelList, levelsRange}
+use Rattle.states.specs.declared.state.Stage.{Stage}
+use Rattle.states.specs.declared.state.Stage.the-variants.{Fresh, Sweep, Walking, Done, OutOfRange}
+use Rattle.states.specs.declared.state.State.{State}
+use Rattle.checker.specs.Step.{Conf, conf, Run, stepOf, runOf}
+use Rattle.states.specs.Stages.{fresh, finished}
+use Rattle.states.specs.Saved.{save, lengthRange, walkRange, levelsStand, levelList, levelsRange}
 use Rattle.checker.specs.Grant.{otherFile, worked, grantBy, grantOf}
 use Rattle.checker.proofs.Placed.{NextPlaced, step-placed}
-use Rattle.checker.proofs.Above.{Above, top-above, range-above, above-range, pushed-there, popped-there, levels-small}
+use Rattle.checker.proofs.Above.{Above, top-above, range-above, above-range, pushed-there, popped-there}
+use Rattle.states.proofs.LevelLists.{levels-small}
 use Rattle.checker.proofs.Outcomes.{StepGoes, Goes, step-by}
 use Rattle.checker.proofs.Passed.{opened, tiled, marked-length}
 use Rattle.checker.proofs.PlainRuns.{run-none, run-over, run-keeps}
-use Rattle.checker.proofs.Loads.{load-save, length-save}
+use Rattle.states.proofs.Loads.{load-save, length-save}
 use Rattle.checker.proofs.Cases.{Case, idles, refuses, works, case-of, right-length}
-use Rattle.checker.specs.Bounds.{IsOutcome, Loaded}
+use Rattle.states.specs.Bounds.{IsOutcome, Loaded}
 
 -- ---- a check that goes on
 -- the opening has noted the file's length, and the marks are long enough

@@ -18,8 +18,8 @@ use Rattle.walk.specs.declared.positions.Walk as W
 use Rattle.walk.specs.declared.positions.Step as T
 use Rattle.marks.specs.Marks.{unclaimedAt, followedAt, found, leftFrom, leftOf}
 use Rattle.marks.specs.declared.Found.{Found}
-use Rattle.checker.specs.Saved.{verdictRange}
-use Rattle.checker.specs.Bounds.{IsVerdict}
+use Rattle.states.specs.Saved.{verdictRange}
+use Rattle.states.specs.Bounds.{IsVerdict}
 use Rattle.checker.specs.Step.{openNumber}
 use Rattle.format.proofs.Tests.{cond-keeps}
 use Rattle.format.proofs.Numbers.{All, first-has}

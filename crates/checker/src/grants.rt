@@ -1,29 +1,11 @@
 // Grants of steps on a saved state.
 ghost use mathlib.Core.Path.{_≡_};
-ghost use Rattle.checker.specs.Step.{answerOf};
-ghost use Rattle.checker.specs.Bounds.{VerdictFits};
 ghost use Rattle.checker.specs.Grant.{granted, otherFile, grantOf, begun, beginOf};
 use crate::runs;
-use crate::saved;
-use crate::state::Stage;
-use crate::state::State;
-
-// -1 for a check that is not finished, or its verdict.
-fn answer(g: Stage) -> i32
-    requires { ⌜ VerdictFits g ⌝ }
-    ensures { λ r. ⌜ r ≡ answerOf g ⌝ }
-{
-    match g {
-        Stage::Fresh => -1,
-        Stage::Sweep { at: _ } => -1,
-        Stage::Walking { walk: _, up: _ } => -1,
-        Stage::Done {
-            verdict,
-            location: _,
-        } => verdict as i32,
-        Stage::OutOfRange => -1,
-    }
-}
+use states::saved;
+use states::state;
+use states::state::Stage;
+use states::state::State;
 
 // The file's length is not the noted one, or the marks are shorter than it.
 fn other_file(f: &[u8], m: &[u8], noted: u32) -> bool
@@ -33,11 +15,11 @@ fn other_file(f: &[u8], m: &[u8], noted: u32) -> bool
     (n != 0) & ((n != f.len()) | (m.len() < n))
 }
 
-// A fresh state of 34 numbers, and -1, as no check has a verdict yet; or 20, and nothing changed, where there are not 34.
+// A fresh state, and -1, as no check has a verdict yet; or 20, and nothing changed, where the slice has another length than a state.
 pub fn begin(state: &mut [u32]) -> i32
     ensures { λ r. ⌜ begun r (now (state .exit)) ≡ beginOf (now (state .entry)) ⌝ }
 {
-    if state.len() != 34 {
+    if state.len() != state::STATE_LENGTH {
         return 20;
     }
     let fresh = State {
@@ -62,17 +44,17 @@ pub fn grant(
 {
     *steps = 0;
     *location = 0;
-    if state.len() != 34 {
+    if state.len() != state::STATE_LENGTH {
         return 20;
     }
     let s = saved::load_state(state);
     let g = s.stage;
     if runs::is_finished(g) {
         *location = saved::location_in(g) as u64;
-        return answer(g);
+        return saved::answer(g);
     }
     if grant == 0 {
-        return answer(g);
+        return saved::answer(g);
     }
     if other_file(file, marks, s.length) {
         return 21;
@@ -83,5 +65,5 @@ pub fn grant(
     *steps = ran.made;
     let h = t.stage;
     *location = saved::location_in(h) as u64;
-    answer(h)
+    saved::answer(h)
 }

@@ -25,7 +25,7 @@ use Rattle.walk.specs.declared.positions.Walk.the-variants.{Start}
 use Rattle.faults.specs.Holder.{holderOf}
 use Rattle.faults.specs.Fault.{ending, claiming, leaving, faultAt}
 use Rattle.checker.specs.Step.{conf, doneBy, linkNumber}
-use Rattle.checker.specs.declared.state.Stage.the-variants.{Sweep, Done}
+use Rattle.states.specs.declared.state.Stage.the-variants.{Sweep, Done}
 use Rattle.checker.proofs.Passed.{started}
 use Rattle.demands.specs.Acceptance.{_∈_, reached}
 use Rattle.demands.specs.Demands.{endStage}

@@ -14,10 +14,11 @@ use Rattle.walk.specs.declared.positions.Walk as W
 use Rattle.walk.specs.declared.positions.Step as T
 use Rattle.walk.specs.declared.positions.Step.the-variants.{Over, End, Take, Down, Up}
 use Rattle.demands.proofs.Plain.{stepIn, inner}
-use Rattle.checker.specs.Step.{Conf, conf, doneBy, finished, walking, settled, linkNumber, stepped}
+use Rattle.checker.specs.Step.{Conf, conf, doneBy, walking, settled, linkNumber, stepped}
+use Rattle.states.specs.Stages.{finished}
 use Rattle.faults.specs.Holder.{holderOf}
 use Rattle.faults.specs.Fault.{ending, claiming, leaving}
-use Rattle.checker.specs.declared.state.State.{State}
+use Rattle.states.specs.declared.state.State.{State}
 
 pub record Position : Type 0 where
   pub walk : W.Walk

@@ -10,7 +10,7 @@ use Rattle.format.specs.Fields.{endOf, bitAt}
 use Rattle.records.specs.Rules.{typedAt}
 use Rattle.records.specs.Opening.{gdrAt, eofOf}
 use Rattle.records.specs.Tiles.{tileFields, typeUncarried}
-use Rattle.checker.specs.declared.state.Stage.the-variants.{Done}
+use Rattle.states.specs.declared.state.Stage.the-variants.{Done}
 use Rattle.demands.specs.Acceptance.{_∈_, Opening, TiledTo, Tiled, Lists, ListsRight, reached}
 use Rattle.demands.specs.Demands.{endStage}
 

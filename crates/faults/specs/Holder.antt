@@ -3,21 +3,22 @@
 use Prim.Native.Nat.{ℕ, _-_}
 use mathlib.Core.Bool.{cond}
 use lib.Dec.{eqb}
+use Rattle.records.specs.Layout.{cdrOffset, nextAt, headOfRVariables, headOfZVariables, headOfAttributes, headOfUnused, headOfGrEntries, headOfZEntries, headOfIndex}
 use Rattle.walk.specs.declared.positions.Walk as W
 use Rattle.walk.specs.declared.positions.Walk.the-variants.{Start, Vars, Chain, Entry, Attrs, Entries, Unused}
 
 -- where a link stands in its record: the head of a list of which none is taken yet, told by 0; else the last one's "Next 8"
 abbrev pub linkIn : ℕ → ℕ → ℕ
-linkIn taken head = cond (eqb taken 0) head 8
+linkIn taken head = cond (eqb taken 0) head (nextAt 0)
 
 -- the record that a link at p stands in. The CDR, at 8, has the link to the GDR. "Heads: rVDR 8, zVDR 12, ADR 16, UIR 44"; "VXRhead 20";
--- "AgrEDR head 12, .. AzEDR head 36". An index entry stands in its VXR. A place too low for that, which only
+-- "AgrEDR head 12, .. AzEDR head 36". An index entry stands in its VXR. A link too low for that, which only
 -- numbers made up have, gives 0
 unfoldable pub holderOf : W.Walk → ℕ
-holderOf Start = 8
-holderOf (Vars k p n greatest) = p - linkIn n (cond (eqb k 8) 12 8)
-holderOf (Chain u p x floor covered) = p - linkIn x 20
+holderOf Start = cdrOffset
+holderOf (Vars k p n greatest) = p - linkIn n (cond (eqb k 8) (headOfZVariables 0) (headOfRVariables 0))
+holderOf (Chain u p x floor covered) = p - linkIn x (headOfIndex 0)
 holderOf (Entry u x i floor covered) = x
-holderOf (Attrs p n) = p - linkIn n 16
-holderOf (Entries k a n p e greatest) = p - linkIn e (cond (eqb k 9) 36 12)
-holderOf (Unused p b) = p - linkIn b 44
+holderOf (Attrs p n) = p - linkIn n (headOfAttributes 0)
+holderOf (Entries k a n p e greatest) = p - linkIn e (cond (eqb k 9) (headOfZEntries 0) (headOfGrEntries 0))
+holderOf (Unused p b) = p - linkIn b (headOfUnused 0)

@@ -3,7 +3,9 @@ ghost use mathlib.Core.Path.{_≡_};
 ghost use Prim.Native.Nat.{_-_};
 ghost use lib.Dec.{eqb};
 ghost use mathlib.Core.Bool.{cond};
+ghost use Rattle.records.specs.Layout.{headOfRVariables, headOfZVariables, headOfGrEntries, headOfZEntries};
 ghost use Rattle.faults.specs.Holder.{linkIn, holderOf};
+use records::layout;
 use walk::positions::Walk;
 
 // n bytes before an offset, or 0 if there are fewer.
@@ -20,7 +22,7 @@ fn back(p: u32, n: u32) -> u32
 fn link_in(taken: u32, head: u32) -> u32
     ensures { λ r. ⌜ r ≡ linkIn taken head ⌝ }
 {
-    if taken == 0 { head } else { 8 }
+    if taken == 0 { head } else { layout::NEXT }
 }
 
 // The record in which a link stands.
@@ -30,11 +32,35 @@ fn standing(link: u32, taken: u32, head: u32) -> u32
     back(link, link_in(taken, head))
 }
 
-// One place if the kind is z, another elsewhere.
+// One offset if the kind is z, another elsewhere.
 fn by_kind(kind: u32, z: u32, there: u32, elsewhere: u32) -> u32
     ensures { λ r. ⌜ r ≡ cond (eqb kind z) there elsewhere ⌝ }
 {
     if kind == z { there } else { elsewhere }
+}
+
+// Where the head of the list of variables of a kind stands in the GDR.
+fn head_of_variables(kind: u32) -> u32
+    ensures { λ r. ⌜ r ≡ cond (eqb kind 8) (headOfZVariables 0) (headOfRVariables 0) ⌝ }
+{
+    by_kind(
+        kind,
+        8,
+        layout::HEAD_OF_Z_VARIABLES,
+        layout::HEAD_OF_R_VARIABLES,
+    )
+}
+
+// Where the head of an attribute's list of entries of a kind stands in its ADR.
+fn head_of_entries(kind: u32) -> u32
+    ensures { λ r. ⌜ r ≡ cond (eqb kind 9) (headOfZEntries 0) (headOfGrEntries 0) ⌝ }
+{
+    by_kind(
+        kind,
+        9,
+        layout::HEAD_OF_Z_ENTRIES,
+        layout::HEAD_OF_GR_ENTRIES,
+    )
 }
 
 // The record that holds the link where the walk stands.
@@ -48,16 +74,16 @@ pub fn holder(w: Walk) -> u32
             link,
             count,
             ..
-        } => standing(link, count, by_kind(kind, 8, 12, 8)),
-        Walk::Chain { link, before, .. } => standing(link, before, 20),
+        } => standing(link, count, head_of_variables(kind)),
+        Walk::Chain { link, before, .. } => standing(link, before, layout::HEAD_OF_INDEX),
         Walk::Entry { vxr, .. } => vxr,
-        Walk::Attrs { link, count } => standing(link, count, 16),
+        Walk::Attrs { link, count } => standing(link, count, layout::HEAD_OF_ATTRIBUTES),
         Walk::Entries {
             kind,
             link,
             count,
             ..
-        } => standing(link, count, by_kind(kind, 9, 36, 12)),
-        Walk::Unused { link, before } => standing(link, before, 44),
+        } => standing(link, count, head_of_entries(kind)),
+        Walk::Unused { link, before } => standing(link, before, layout::HEAD_OF_UNUSED),
     }
 }

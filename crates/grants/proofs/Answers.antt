@@ -5,14 +5,14 @@ use Prim.Native.Nat.{ℕ}
 use lib.Dec.{leb, eqb}
 use lib.IntN.{pos}
 use borrow.Author.Tests.{ne-eqb}
-use Rattle.checker.specs.declared.state.Stage.{Stage}
-use Rattle.checker.specs.declared.state.Stage.the-variants.{Fresh, Sweep, Walking, Done, OutOfRange}
+use Rattle.states.specs.declared.state.Stage.{Stage}
+use Rattle.states.specs.declared.state.Stage.the-variants.{Fresh, Sweep, Walking, Done, OutOfRange}
 use Rattle.faults.specs.Fault.{faultAt, savedLocation}
-use Rattle.checker.specs.Step.{answerOf, locationIn}
-use Rattle.checker.proofs.Loads.{not-21}
+use Rattle.states.specs.Stages.{answerOf, locationIn}
+use Rattle.states.proofs.Loads.{not-21}
 use Rattle.grants.specs.Lists.{refused21}
 use Rattle.grants.specs.Promises.{comesBack, hasLocation}
-use Rattle.checker.specs.Bounds.{Loaded}
+use Rattle.states.specs.Bounds.{Loaded}
 
 -- a grant that works or repeats a verdict does not answer 21
 pub not-refused : (n : ℕ) (g : Stage) → Loaded n g → refused21 (answerOf g) ≡ false

@@ -19,17 +19,18 @@ use Rattle.walk.specs.declared.positions.Step as T
 use Rattle.walk.specs.declared.positions.Step.the-variants.{Over, End, Take, Down, Up}
 use Rattle.records.specs.Opening.{fileEnd, bodyOf}
 use Rattle.records.proofs.Bodies.{body-length, body-le}
-use Rattle.checker.specs.declared.state.Stage.{Stage}
-use Rattle.checker.specs.declared.state.Stage.the-variants.{Fresh, Sweep, Walking, Done, OutOfRange}
-use Rattle.checker.specs.declared.state.State.{State}
-use Rattle.checker.specs.Step.{Conf, conf, done, finished, answerOf, locationIn, walking, stepOf, runOf}
-use Rattle.checker.specs.Saved.{stateLength, save, load}
+use Rattle.states.specs.declared.state.Stage.{Stage}
+use Rattle.states.specs.declared.state.Stage.the-variants.{Fresh, Sweep, Walking, Done, OutOfRange}
+use Rattle.states.specs.declared.state.State.{State}
+use Rattle.checker.specs.Step.{Conf, conf, walking, stepOf, runOf}
+use Rattle.states.specs.Stages.{done, finished, answerOf, locationIn}
+use Rattle.states.specs.Saved.{stateLength, save, load}
 use Rattle.checker.specs.Grant.{Granted, granted, grantBy, grantOf}
 use Rattle.checker.proofs.Verdicts.{verdict-0}
 use Rattle.checker.proofs.Outcomes.{StepGoes, Goes, step-by}
 use Rattle.checker.proofs.Passed.{tiled, started, marked-length, marked-other}
 use Rattle.checker.proofs.PlainRuns.{run-keeps, made-le}
-use Rattle.checker.proofs.Loads.{load-is, load-save, length-save, not-21, accepted-is}
+use Rattle.states.proofs.Loads.{load-is, load-save, length-save, not-21, accepted-is}
 use Rattle.checker.proofs.Sound.{SoundBy, Sound, Own, sound-step, sound-run, sound-loaded, loaded-sound}
 use Rattle.checker.proofs.Cases.{Case, idles, refuses, works, case-of, right-length, wrong-length, idle}
 use Rattle.faults.proofs.Locations.{saved-none}

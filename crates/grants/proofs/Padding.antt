@@ -28,15 +28,16 @@ use Rattle.faults.specs.Holder.{holderOf}
 use Rattle.faults.specs.Fault.{noneInvolved, sweeping, ending, claiming, leaving}
 use Rattle.faults.specs.declared.fault.Involved.{Involved}
 use Rattle.marks.specs.declared.Found.{Found}
-use Rattle.checker.specs.declared.state.Stage.{Stage}
-use Rattle.checker.specs.declared.state.Stage.the-variants.{Fresh, Sweep, Walking, Done, OutOfRange}
-use Rattle.checker.specs.declared.state.State.{State}
-use Rattle.checker.specs.Step.{Conf, conf, Run, doneBy, finished, answerOf, locationIn, walking, settled, openNumber, sweptTo, swept, linkNumber, stepped, stepBy, stepOf, onward, runOf}
-use Rattle.checker.specs.Saved.{stateLength, save, load}
+use Rattle.states.specs.declared.state.Stage.{Stage}
+use Rattle.states.specs.declared.state.Stage.the-variants.{Fresh, Sweep, Walking, Done, OutOfRange}
+use Rattle.states.specs.declared.state.State.{State}
+use Rattle.checker.specs.Step.{Conf, conf, Run, doneBy, walking, settled, openNumber, sweptTo, swept, linkNumber, stepped, stepBy, stepOf, onward, runOf}
+use Rattle.states.specs.Stages.{finished, answerOf, locationIn}
+use Rattle.states.specs.Saved.{stateLength, save, load}
 use Rattle.checker.specs.Grant.{granted, otherFile, worked, grantBy, grantOf}
 use Rattle.checker.proofs.Outcomes.{link-passes}
 use Rattle.checker.proofs.Passed.{tiled, started, marked-length, marked-at, marked-in, marked-other}
-use Rattle.checker.proofs.Loads.{load-is}
+use Rattle.states.proofs.Loads.{load-is}
 use Rattle.checker.proofs.Sound.{SoundBy, Sound, Own, sound-run, loaded-sound}
 use Rattle.grants.specs.Promises.{Alike, PaddingIdle}
 

@@ -9,19 +9,20 @@ use native.Mathlib.Nat.{add-zero}
 use native.Mathlib.Omega.{arith}
 use lib.ListN.{length}
 use lib.IntN.{ℤ, pos}
-use Rattle.checker.specs.declared.state.State.{State}
-use Rattle.checker.specs.Step.{Conf, conf, Run, fresh, finished, answerOf, locationIn, runOf, plainRun}
-use Rattle.checker.specs.Saved.{save, load}
+use Rattle.states.specs.declared.state.State.{State}
+use Rattle.checker.specs.Step.{Conf, conf, Run, runOf, plainRun}
+use Rattle.states.specs.Stages.{fresh, finished, answerOf, locationIn}
+use Rattle.states.specs.Saved.{save, load}
 use Rattle.checker.specs.Grant.{Granted, granted, worked, grantBy, grantOf}
 use Rattle.checker.proofs.PlainRuns.{after, run-add, run-none, run-over, run-made, made-min, made-le}
-use Rattle.checker.proofs.Loads.{load-save, length-save, not-21, done-0}
+use Rattle.states.proofs.Loads.{load-save, length-save, not-21, done-0}
 use Rattle.grants.proofs.Answers.{not-refused}
 use Rattle.checker.proofs.Cases.{Case, idles, refuses, works, case-of, right-length}
 use Rattle.checker.proofs.Sound.{Sound, Own, sound-run, sound-loaded, sound-fresh, loaded-sound, sound-works}
 use Rattle.grants.proofs.Any.{accepted-is-finished}
 use Rattle.grants.specs.Lists.{Grant, Played, begun, lentFile, lentMarks, keptMarks, nextOf, joined, playFrom, play, FairNext, FairFrom, Fair}
 use Rattle.grants.specs.Promises.{stepLimit, InTime, runLength, Promise, Demand3}
-use Rattle.checker.specs.Bounds.{Loaded}
+use Rattle.states.specs.Bounds.{Loaded}
 
 kept-same : (o : Option (List ℕ × List ℕ)) (m : List ℕ) → keptMarks m o (lentMarks m o) ≡ m
 kept-same none m = refl

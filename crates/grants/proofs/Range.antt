@@ -1,8 +1,9 @@
 -- No fresh check leaves a number outside its range. Assumes nothing.
 use mathlib.Core.List.{List}
 use Prim.Native.Nat.{ℕ}
-use Rattle.checker.specs.Step.{conf, fresh, plainRun}
-use Rattle.checker.proofs.Loads.{load-save}
+use Rattle.checker.specs.Step.{conf, plainRun}
+use Rattle.states.specs.Stages.{fresh}
+use Rattle.states.proofs.Loads.{load-save}
 use Rattle.checker.proofs.Sound.{sound-run, sound-loaded, sound-fresh}
 use Rattle.grants.specs.Promises.{FreshInRange}
 

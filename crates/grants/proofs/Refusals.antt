@@ -13,9 +13,10 @@ use Rattle.walk.specs.declared.positions.Step as T
 use Rattle.walk.specs.declared.positions.Step.the-variants.{Over, End, Take, Down, Up}
 use Rattle.walk.specs.declared.positions.Walk.the-variants.{Start}
 use Rattle.records.specs.Opening.{bodyOf}
-use Rattle.checker.specs.declared.state.Stage.{Stage}
-use Rattle.checker.specs.declared.state.Stage.the-variants.{Fresh, Sweep, Walking, Done, OutOfRange}
-use Rattle.checker.specs.Step.{Conf, finished, sweptTo, stepBy}
+use Rattle.states.specs.declared.state.Stage.{Stage}
+use Rattle.states.specs.declared.state.Stage.the-variants.{Fresh, Sweep, Walking, Done, OutOfRange}
+use Rattle.checker.specs.Step.{Conf, sweptTo, stepBy}
+use Rattle.states.specs.Stages.{finished}
 use Rattle.checker.proofs.Outcomes.{StepGoes, step-by}
 use Rattle.grants.specs.Promises.{RefusalKeepsMarks}
 

@@ -10,12 +10,13 @@ use lib.ListN.{length}
 use lib.Dec.{eqb}
 use borrow.Author.Tests.{eqb-true, eqb-false}
 use lib.IntN.{pos}
-use Rattle.checker.specs.declared.state.State.{State}
-use Rattle.checker.specs.Step.{conf, Run, finished, answerOf, locationIn, runOf}
-use Rattle.checker.specs.Saved.{stateLength, load}
+use Rattle.states.specs.declared.state.State.{State}
+use Rattle.checker.specs.Step.{conf, Run, runOf}
+use Rattle.states.specs.Stages.{finished, answerOf, locationIn}
+use Rattle.states.specs.Saved.{stateLength, load}
 use Rattle.checker.specs.Grant.{Granted, granted, worked, grantBy, grantOf}
 use Rattle.checker.proofs.PlainRuns.{run-add}
-use Rattle.checker.proofs.Loads.{load-is}
+use Rattle.states.proofs.Loads.{load-is}
 use Rattle.checker.proofs.Cases.{Case, idles, refuses, works, case-of, right-length, wrong-length, idle}
 use Rattle.checker.proofs.Sound.{Own, loaded-sound, sound-run, sound-works}
 use Rattle.grants.specs.Promises.{andThen, SplitsAlike}

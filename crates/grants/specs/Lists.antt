@@ -7,8 +7,8 @@ use mathlib.Core.List.{List, [], _∷_}
 use Prim.Native.Nat.{ℕ, _+_}
 use lib.IntN.{ℤ, pos, negsuc}
 use Rattle.format.specs.Fields.{eqZ}
-use Rattle.checker.specs.Step.{finished, fresh}
-use Rattle.checker.specs.Saved.{save, load}
+use Rattle.states.specs.Stages.{finished, fresh}
+use Rattle.states.specs.Saved.{save, load}
 use Rattle.checker.specs.Grant.{Granted, grantOf}
 
 -- a grant of a list: its number of steps and, where it is not lent the list's own file and marks, what it is lent instead

@@ -9,10 +9,11 @@ use lib.ListN.{length, getD}
 use lib.Dec.{leb, eqb}
 use lib.IntN.{ℤ, pos, negsuc}
 use Rattle.records.specs.Opening.{fileEnd, Unpadded}
-use Rattle.checker.specs.declared.state.Stage.{Stage}
-use Rattle.checker.specs.declared.state.Stage.the-variants.{Done, OutOfRange}
-use Rattle.checker.specs.Step.{done, fresh, finished, answerOf, locationIn, stepBy, plainRun}
-use Rattle.checker.specs.Saved.{stateLength, save, load}
+use Rattle.states.specs.declared.state.Stage.{Stage}
+use Rattle.states.specs.declared.state.Stage.the-variants.{Done, OutOfRange}
+use Rattle.checker.specs.Step.{stepBy, plainRun}
+use Rattle.states.specs.Stages.{done, fresh, finished, answerOf, locationIn}
+use Rattle.states.specs.Saved.{stateLength, save, load}
 use Rattle.checker.specs.Grant.{Granted, granted, grantOf}
 use Rattle.grants.specs.Lists.{Grant, nextOf, play, Fair}
 

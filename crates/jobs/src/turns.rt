@@ -5,6 +5,7 @@ ghost use lib.ListN.{length};
 ghost use Rattle.jobs.specs.Turns.{jobTurned, jobTurn};
 use crate::parts::Parts;
 use checker::grants;
+use states::state;
 
 // A row: the owner, the last answer, the parts of the areas that are the job's own, and its saved state.
 #[repr(C)]
@@ -12,7 +13,7 @@ pub struct Job {
     pub owner: u32,
     pub answer: i32,
     pub parts: Parts,
-    pub state: [u32; 34],
+    pub state: [u32; state::STATE_LENGTH],
 }
 
 // The row after its turn: a grant of q steps over its parts.

@@ -24,7 +24,7 @@ use Rattle.records.specs.Index.{usedAt}
 use Rattle.records.specs.Tree.{Slot, usedEntries, firstOf, lastOf, namedBy, levelsBelow, namesIndex, lowerSlots, lowest, lowestEntries, entriesUnder}
 use Rattle.variables.specs.Vdr.{layoutOf, valueBytes, recordBytes, variableOf}
 use Rattle.variables.specs.Place.{elementPlace, placed}
-use Rattle.checker.specs.Step.{answerOf}
+use Rattle.states.specs.Stages.{answerOf}
 use Rattle.demands.specs.Acceptance.{_∈_, Each, Linked, IndexRight}
 use Rattle.demands.specs.Demands.{endStage}
 use Rattle.lookup.specs.Lists.{meets, wantedAt, headOfList, headOfEntries, ofKinds, kindAmong, variableWay, entryWay}

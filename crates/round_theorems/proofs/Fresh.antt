@@ -8,11 +8,12 @@ use native.Mathlib.Nat.{div-add-mod', mod-lt, div-lt-iff-lt-mul, mul-le-mul-righ
 use native.Mathlib.Omega.{arith}
 use lib.ListN.{length}
 use lib.IntN.{pos, negsuc}
-use Rattle.checker.specs.declared.state.State.{State}
-use Rattle.checker.specs.Step.{Conf, Run, conf, fresh, finished, answerOf, locationIn, runOf, plainRun}
-use Rattle.checker.specs.Saved.{save, load}
+use Rattle.states.specs.declared.state.State.{State}
+use Rattle.checker.specs.Step.{Conf, Run, conf, runOf, plainRun}
+use Rattle.states.specs.Stages.{fresh, finished, answerOf, locationIn}
+use Rattle.states.specs.Saved.{save, load}
 use Rattle.checker.specs.Grant.{Granted, grantOf, worked}
-use Rattle.checker.proofs.Loads.{load-save, length-save}
+use Rattle.states.proofs.Loads.{load-save, length-save}
 use Rattle.checker.proofs.PlainRuns.{run-add}
 use Rattle.checker.proofs.Sound.{Sound, Own as OwnFile, sound-run, sound-loaded, sound-works, sound-fresh}
 use Rattle.grants.proofs.Any.{every-grant}

@@ -7,14 +7,15 @@ use Prim.Native.Nat.{ℕ, zero, suc}
 use native.Mathlib.Omega.{arith}
 use lib.ListN.{length}
 use lib.IntN.{pos, negsuc}
-use Rattle.checker.specs.declared.state.Stage.{Stage}
-use Rattle.checker.specs.declared.state.Stage.the-variants.{Fresh, Sweep, Walking, Done, OutOfRange}
-use Rattle.checker.specs.declared.state.State.{State}
-use Rattle.checker.specs.Step.{conf, finished, answerOf, locationIn, runOf}
-use Rattle.checker.specs.Saved.{stateLength, save, load}
-use Rattle.checker.specs.Bounds.{Loaded}
+use Rattle.states.specs.declared.state.Stage.{Stage}
+use Rattle.states.specs.declared.state.Stage.the-variants.{Fresh, Sweep, Walking, Done, OutOfRange}
+use Rattle.states.specs.declared.state.State.{State}
+use Rattle.checker.specs.Step.{conf, runOf}
+use Rattle.states.specs.Stages.{finished, answerOf, locationIn}
+use Rattle.states.specs.Saved.{stateLength, save, load}
+use Rattle.states.specs.Bounds.{Loaded}
 use Rattle.checker.specs.Grant.{Granted, grantBy, grantOf}
-use Rattle.checker.proofs.Loads.{load-is, load-save, length-save, not-21}
+use Rattle.states.proofs.Loads.{load-is, load-save, length-save, not-21}
 use Rattle.checker.proofs.Granting.{running-location}
 use Rattle.checker.proofs.PlainRuns.{made-all}
 use Rattle.checker.proofs.Cases.{Case, idles, refuses, works, case-of, right-length}

@@ -6,8 +6,9 @@ use mathlib.Core.List.{List}
 use Prim.Native.Nat.{ℕ, zero, suc, _+_, _*_, _-_, _/_, _≤_, _<_}
 use lib.ListN.{length, getD}
 use lib.IntN.{ℤ, pos, negsuc}
-use Rattle.checker.specs.Step.{Conf, fresh, finished, answerOf, locationIn, plainRun}
-use Rattle.checker.specs.Saved.{stateLength, save, load}
+use Rattle.checker.specs.Step.{Conf, plainRun}
+use Rattle.states.specs.Stages.{fresh, finished, answerOf, locationIn}
+use Rattle.states.specs.Saved.{stateLength, save, load}
 use Rattle.checker.specs.Grant.{Granted, grantOf}
 use Rattle.grants.specs.Promises.{comesBack}
 use Rattle.demands.specs.Acceptance.{Accepted}

@@ -34,7 +34,8 @@ use Rattle.walk.specs.Levels.{isNone, mostOf, roomBelow}
 use Rattle.marks.specs.Marks.{cleared, marked, startAt, unclaimedAt, followedAt, leftFrom, leftOf}
 use Rattle.faults.specs.Holder.{holderOf}
 use Rattle.faults.specs.Fault.{faultAt}
-use Rattle.checker.specs.Step.{Run, answerOf, locationIn, openNumber, swept, linkNumber, stepped, stepBy, runOf, plainRun}
+use Rattle.checker.specs.Step.{Run, openNumber, swept, linkNumber, stepped, stepBy, runOf, plainRun}
+use Rattle.states.specs.Stages.{answerOf, locationIn}
 
 -- ---- files
 -- numbers as control fields, one after the other

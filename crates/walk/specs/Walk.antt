@@ -7,6 +7,7 @@ use lib.IntN.{ℤ, pos, negsuc}
 use Rattle.format.specs.Fields.{endOf, isAt, sameAt, atLeast, natAt, linkAt, afterAt, before}
 use Rattle.format.specs.Numbers.{first, unless}
 use Rattle.records.specs.Rules.{typedAt, reachOf}
+use Rattle.records.specs.Layout.{nextAt, headOfRVariables, headOfZVariables, headOfAttributes, headOfUnused, nrVarsAt, numAttrAt, rMaxRecAt, nzVarsAt, headOfGrEntries, attrNumAt, grCountAt, headOfZEntries, zCountAt, maximumAfter, entryAttrAt, entryNumAt, maxRecAt, headOfIndex, tailOfIndex, varNumAt, previousAt}
 use Rattle.records.specs.Opening.{gdrAt}
 use Rattle.records.specs.Attributes.{adrRule, aedrRule}
 use Rattle.records.specs.Index.{usedAt, vxrRule, indexAt, entryOf, vvrRule}
@@ -77,20 +78,20 @@ tallied f p n q greatest = first (fieldNumber f p (pos n) ∷ fieldNumber f q (b
 
 -- ---- variables: NrVars 24, NzVars 40; "rMaxRec is the greatest MaxRec of rVariables or -1"
 unfoldable pub varsTally : List ℕ → ℕ → ℕ → ℕ → ℕ
-varsTally f k n greatest = cond (eqb k 8) (fieldNumber f (gdrAt f + 40) (pos n)) (tallied f (gdrAt f + 24) n (gdrAt f + 32) greatest)
+varsTally f k n greatest = cond (eqb k 8) (fieldNumber f (nzVarsAt (gdrAt f)) (pos n)) (tallied f (nrVarsAt (gdrAt f)) n (rMaxRecAt (gdrAt f)) greatest)
 
 -- "the GDR's heads r, z, ADR, UIR" at 8, 12, 16, 44
 abbrev pub afterVars : List ℕ → ℕ → W.Walk
-afterVars f k = cond (eqb k 8) (Attrs (gdrAt f + 16) 0) (Vars 8 (gdrAt f + 12) 0 0)
+afterVars f k = cond (eqb k 8) (Attrs (headOfAttributes (gdrAt f)) 0) (Vars 8 (headOfZVariables (gdrAt f)) 0 0)
 
 -- "14, 10, 11": compressed values; the VDR's rule; "Num is the place in its list from 0"
 unfoldable pub varNumber : List ℕ → ℕ → ℕ → ℕ → ℕ
-varNumber f k n o = first (carriedOf f o ∷ variableOf f k o .fault ∷ unless 11 (isAt f (o + 52) (pos n)) ∷ [])
+varNumber f k n o = first (carriedOf f o ∷ variableOf f k o .fault ∷ unless 11 (isAt f (varNumAt o) (pos n)) ∷ [])
 
 -- "VDR: VXRhead, next": its index chain begins at 20
 abbrev pub intoIndex : List ℕ → ℕ → ℕ → ℕ → ℕ → W.Walk
 intoIndex f k n greatest o =
-    Chain (record { kind = k; vdr = o; place = n; greatest = max (afterAt f (o + 16)) greatest }) (o + 20) 0 0 false
+    Chain (record { kind = k; vdr = o; place = n; greatest = max (afterAt f (maxRecAt o)) greatest }) (headOfIndex o) 0 0 false
 
 abbrev pub varsOver : List ℕ → ℕ → ℕ → ℕ → T.Step
 varsOver f k n greatest = overBy f (varsTally f k n greatest) (afterVars f k)
@@ -102,15 +103,15 @@ varsList f k n greatest =
 -- ---- an index. "VXRtail is the last VXR, or 0 if there is none; else 11. Then MaxRec is -1 or lies in some used entry's range; else 12";
 -- "VXRtail speaks of the top chain alone, and at its end MaxRec, unless -1, must now lie in the range of an entry that names values"
 unfoldable pub chainTally : List ℕ → ℕ → ℕ → Bool → ℕ
-chainTally f v last covered = first (fieldNumber f (v + 24) (pos last) ∷ unless 12 (isAt f (v + 16) (negsuc 0) || covered) ∷ [])
+chainTally f v last covered = first (fieldNumber f (tailOfIndex v) (pos last) ∷ unless 12 (isAt f (maxRecAt v) (negsuc 0) || covered) ∷ [])
 
 abbrev pub chainOver : List ℕ → Var → ℕ → Bool → T.Step
 chainOver f u last covered =
-    Over (Vars (u .kind) (u .vdr + 8) (u .place + 1) (u .greatest)) (chainTally f (u .vdr) last covered)
+    Over (Vars (u .kind) (nextAt (u .vdr)) (u .place + 1) (u .greatest)) (chainTally f (u .vdr) last covered)
 
 -- "VXR: each used offset, next": entry i, or where there are no more the link to the next VXR
 abbrev pub entered : List ℕ → Var → ℕ → ℕ → ℕ → Bool → W.Walk
-entered f u x i floor covered = cond (ltb i (usedAt f x)) (AtEntry u x i floor covered) (Chain u (x + 8) x floor covered)
+entered f u x i floor covered = cond (ltb i (usedAt f x)) (AtEntry u x i floor covered) (Chain u (nextAt x) x floor covered)
 
 -- a lower record is over: on to the neighbour of the entry that named it, in the record of the nearest level; 20 if that record's used
 -- passes the file's end
@@ -134,7 +135,7 @@ chainStep f near u p last floor covered =
 
 -- MaxRec of the VDR v lies in an entry's range
 abbrev pub covers : List ℕ → ℕ → Entry → Bool
-covers f v e = atLeast f (v + 16) (pos 0) && (leb (e .first) (natAt f (v + 16)) && leb (natAt f (v + 16)) (e .last))
+covers f v e = atLeast f (maxRecAt v) (pos 0) && (leb (e .first) (natAt f (maxRecAt v)) && leb (natAt f (maxRecAt v)) (e .last))
 
 -- the VVR's own size; then the VDR's rule, which the record bytes come from; then the VVR's rule
 unfoldable pub valuesNumber : List ℕ → Variable → Entry → ℕ
@@ -151,7 +152,7 @@ valuesStep f u x i covered e =
 
 -- the lower record's rule; "a lower record has next 0 (else 11, on its claim)"
 unfoldable pub lowerNumber : List ℕ → ℕ → ℕ
-lowerNumber f o = first (vxrRule f o ∷ unless 11 (isAt f (o + 8) (pos 0)) ∷ [])
+lowerNumber f o = first (vxrRule f o ∷ unless 11 (isAt f (nextAt o) (pos 0)) ∷ [])
 
 -- an entry that names an index record: "deeper is refused with 23, looked for right after the type"; "its entries are taken before the
 -- naming entry's neighbour". Where room, a level more may lie below. An entry whose range or record is refused is a link that is refused
@@ -172,30 +173,31 @@ entryStep f u x i covered room e = cond (indexAt f (e .link)) (lowerStep f u x i
 
 -- ---- attributes: NumAttr 28; an attribute's g/r entries are counted at 24, its z entries at 40, the maximum behind the count
 unfoldable pub attrNumber : List ℕ → ℕ → ℕ → ℕ
-attrNumber f n o = first (adrRule f o ∷ unless 11 (isAt f (o + 20) (pos n)) ∷ [])
+attrNumber f n o = first (adrRule f o ∷ unless 11 (isAt f (attrNumAt o) (pos n)) ∷ [])
 
 abbrev pub attrsOver : List ℕ → ℕ → T.Step
-attrsOver f n = overBy f (fieldNumber f (gdrAt f + 28) (pos n)) (Unused (gdrAt f + 44) 0)
+attrsOver f n = overBy f (fieldNumber f (numAttrAt (gdrAt f)) (pos n)) (Unused (headOfUnused (gdrAt f)) 0)
 
 abbrev pub attrsList : List ℕ → ℕ → Listing
-attrsList f n = record { over = attrsOver f n; typed = pos 4; number = attrNumber f n; next = λ o. Entries 5 o n (o + 12) 0 0 }
+attrsList f n = record { over = attrsOver f n; typed = pos 4; number = attrNumber f n; next = λ o. Entries 5 o n (headOfGrEntries o) 0 0 }
 
-abbrev pub tallyPlace : ℕ → ℕ
-tallyPlace k = cond (eqb k 9) 40 24
+-- where in an ADR the entries of a kind are counted
+abbrev pub countIn : ℕ → ℕ
+countIn k = cond (eqb k 9) (zCountAt 0) (grCountAt 0)
 
 unfoldable pub entriesTally : List ℕ → ℕ → ℕ → ℕ → ℕ → ℕ
-entriesTally f k a n greatest = tallied f (a + tallyPlace k) n (a + tallyPlace k + 4) greatest
+entriesTally f k a n greatest = tallied f (a + countIn k) n (maximumAfter (a + countIn k)) greatest
 
 -- "ADR: AgrEDR head, AzEDR head, next" at 12, 36, 8
 abbrev pub afterEntries : ℕ → ℕ → ℕ → W.Walk
-afterEntries k a n = cond (eqb k 9) (Attrs (a + 8) (n + 1)) (Entries 9 a n (a + 36) 0 0)
+afterEntries k a n = cond (eqb k 9) (Attrs (nextAt a) (n + 1)) (Entries 9 a n (headOfZEntries a) 0 0)
 
 abbrev pub entriesOver : List ℕ → ℕ → ℕ → ℕ → ℕ → ℕ → T.Step
 entriesOver f k a n e greatest = Over (afterEntries k a n) (entriesTally f k a e greatest)
 
 -- "an entry's Num is its attribute's"; 20 if that one passes the file's end
 unfoldable pub numNumber : List ℕ → ℕ → ℕ → ℕ
-numNumber f a o = cond (ltb (endOf f) (a + 24)) 20 (unless 11 (sameAt f (o + 12) (a + 20)))
+numNumber f a o = cond (ltb (endOf f) (a + 24)) 20 (unless 11 (sameAt f (entryAttrAt o) (attrNumAt a)))
 
 unfoldable pub entryNumber : List ℕ → ℕ → ℕ → ℕ
 entryNumber f a o = first (aedrRule f o ∷ numNumber f a o ∷ [])
@@ -210,19 +212,19 @@ entriesList f k a n e greatest =
       over = entriesOver f k a n e greatest;
       typed = pos k;
       number = entryNumber f a;
-      next = λ o. Entries k a n (o + 8) (oneMore e) (max (afterAt f (o + 20)) greatest);
+      next = λ o. Entries k a n (nextAt o) (oneMore e) (max (afterAt f (entryNumAt o)) greatest);
     }
 
 -- ---- unused records: "a UIR's previous is its predecessor, 0 for the first"
 unfoldable pub unusedNumber : List ℕ → ℕ → ℕ → ℕ
-unusedNumber f b o = first (uirRule f o ∷ unless 11 (isAt f (o + 12) (pos b)) ∷ [])
+unusedNumber f b o = first (uirRule f o ∷ unless 11 (isAt f (previousAt o) (pos b)) ∷ [])
 
 abbrev pub unusedList : List ℕ → ℕ → Listing
-unusedList f b = record { over = End 0; typed = negsuc 0; number = unusedNumber f b; next = λ o. Unused (o + 8) o }
+unusedList f b = record { over = End 0; typed = negsuc 0; number = unusedNumber f b; next = λ o. Unused (nextAt o) o }
 
 -- ---- a step at the CDR's link to the GDR, and at each kind of link
 abbrev pub startStep : List ℕ → T.Step
-startStep f = cond (gdrNamed f) (takes 0 (gdrAt f) (typeNumber f (gdrAt f) (pos 2)) 0 (Vars 3 (gdrAt f + 8) 0 0)) (End 20)
+startStep f = cond (gdrNamed f) (takes 0 (gdrAt f) (typeNumber f (gdrAt f) (pos 2)) 0 (Vars 3 (headOfRVariables (gdrAt f)) 0 0)) (End 20)
 
 -- THE WALK, a case for each kind of link. Of the levels above the record that is walked a step looks at the nearest, near, and at whether
 -- there is room for one more

@@ -18,6 +18,7 @@ use crate::positions::Walk;
 use format::fields;
 use records::index;
 use records::index::Entry;
+use records::layout;
 use records::rules;
 use variables::vdr::Variable;
 
@@ -26,11 +27,14 @@ fn chain_tally(f: &[u8], v: u32, last: u32, covered: bool) -> u32
     requires { ⌜ v < 2147483648 ⌝ }
     ensures { λ r. ⌜ r ≡ chainTally (now (f .entry)) v last covered ⌝ }
 {
-    let tail = links::field_number(f, v + 24, last);
+    let tail = links::field_number(f, v + layout::TAIL_OF_INDEX, last);
     if tail != 0 {
         return tail;
     }
-    links::unless_passed(12, fields::is(f, v as usize + 16, -1) | covered)
+    links::unless_passed(
+        12,
+        fields::is(f, v as usize + layout::MAX_REC, -1) | covered,
+    )
 }
 
 // The index chain of a variable is over.
@@ -43,7 +47,7 @@ fn chain_over(f: &[u8], u: Var, last: u32, covered: bool) -> Step
         number: chain_tally(f, v, last, covered),
         next: Walk::Vars {
             kind: u.kind,
-            link: v + 8,
+            link: v + layout::NEXT,
             count: u.place + 1,
             greatest: u.greatest,
         },
@@ -55,7 +59,7 @@ fn enter(f: &[u8], u: Var, x: u32, i: u32, floor: u32, covered: bool) -> Walk
     requires { ⌜ (x + 20 ≤ length (now f)) × (x < 2147483648) ⌝ }
     ensures { λ r. ⌜ r ≡ entered (now (f .entry)) u x i floor covered ⌝ }
 {
-    if i < fields::nat_at(f, x as usize + 16) {
+    if i < fields::nat_at(f, x as usize + layout::VXR_USED) {
         return Walk::Entry {
             var: u,
             vxr: x,
@@ -66,7 +70,7 @@ fn enter(f: &[u8], u: Var, x: u32, i: u32, floor: u32, covered: bool) -> Walk
     }
     Walk::Chain {
         var: u,
-        link: x + 8,
+        link: x + layout::NEXT,
         before: x,
         floor,
         covered,
@@ -144,8 +148,8 @@ fn is_covered(f: &[u8], v: u32, e: Entry) -> bool
     requires { ⌜ v + 20 ≤ length (now f) ⌝ }
     ensures { λ r. ⌜ r ≡ covers (now (f .entry)) v e ⌝ }
 {
-    let most = fields::nat_at(f, v as usize + 16);
-    fields::at_least(f, v as usize + 16, 0) & ((e.first <= most) & (most <= e.last))
+    let most = fields::nat_at(f, v as usize + layout::MAX_REC);
+    fields::at_least(f, v as usize + layout::MAX_REC, 0) & ((e.first <= most) & (most <= e.last))
 }
 
 // 10 by the VVR's own size, 10 or 20 by the VDR's rule, then 10 by the VVR's.
@@ -204,7 +208,7 @@ fn lower_number(f: &[u8], o: u32) -> u32
     if rule != 0 {
         return rule;
     }
-    links::unless_passed(11, fields::is_nat(f, o as usize + 8, 0))
+    links::unless_passed(11, fields::is_nat(f, o as usize + layout::NEXT_USIZE, 0))
 }
 
 // An entry that names an index record.

@@ -8,6 +8,8 @@ use native.Mathlib.Omega.{arith}
 use Rattle.checker.proofs.runs.run.Statement.{statement}
 use Rattle.checker.proofs.runs.run.Tie as tie
 
+-- Idea: the steps of one stage after those of the other. Invariant: at most n steps were made, the marks are as long as at first, and the check
+-- stands where the plain run does after k steps.
 abbrev Inv-loop : tie.InvT-loop
 Inv-loop f m₀ n e t₀ k₀ m t k = (k ≤ n) × (length m ≡ length m₀) × (ran t m k ≡ runOf f (conf t₀ m₀) k)
 

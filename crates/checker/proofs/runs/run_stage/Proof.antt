@@ -1,9 +1,10 @@
 use mathlib.Core.Path.{refl, sym, ap, _∙_}
 use mathlib.Core.Bool.{true≢false}
 use native.Mathlib.Omega.{arith}
-use Rattle.checker.specs.declared.state.Stage.the-variants.{Fresh, OutOfRange}
-use Rattle.checker.specs.declared.state.State.{State}
-use Rattle.checker.specs.Step.{conf, finished, stepBy}
+use Rattle.states.specs.declared.state.Stage.the-variants.{Fresh, OutOfRange}
+use Rattle.states.specs.declared.state.State.{State}
+use Rattle.checker.specs.Step.{conf, stepBy}
+use Rattle.states.specs.Stages.{finished}
 use Rattle.checker.proofs.Loop.{at-first, once-of, sweep-lent}
 use Rattle.faults.specs.declared.fault.Involved.{Involved}
 use Rattle.checker.specs.Step.{doneBy}

@@ -3,12 +3,14 @@ use Prim.Native.Nat.{_-_, _<_}
 use lib.ListN.{length}
 use native.Mathlib.Omega.{arith}
 use Rattle.checker.specs.Step.{conf, runOf}
-use Rattle.checker.specs.declared.state.Stage.the-variants.{Sweep}
+use Rattle.states.specs.declared.state.Stage.the-variants.{Sweep}
 use Rattle.checker.proofs.Loop.{ran, once-of}
 use borrow.Author.Needs.{needs}
 use Rattle.checker.proofs.runs.run_sweep.Statement.{statement}
 use Rattle.checker.proofs.runs.run_sweep.Tie as tie
 
+-- Idea: each turn of the loop is one step of the plain run. Invariant: fewer than n steps were made, the marks are as long as at first, the
+-- sweep stands at `at`, where the plain run does after k steps.
 abbrev Inv-loop : tie.InvT-loop
 Inv-loop f e m₀ from n t₀ at₀ k₀ m t at k =
     (k < n) × (length m ≡ length m₀) × (t .stage ≡ Sweep at) × (ran t m k ≡ runOf f (conf t₀ m₀) k)

@@ -8,19 +8,19 @@ use Rattle.records.proofs.Bodies.{end-le}
 use native.Mathlib.Omega.{arith}
 use borrow.Author.Tests.{eqb-false}
 use Rattle.walk.specs.Bounds.{Known}
-use Rattle.walk.specs.Walk.{walkStepBy}
 use Rattle.checker.specs.Step.{conf, walking, runOf}
-use Rattle.checker.specs.declared.state.Stage.the-variants.{Walking}
-use Rattle.checker.specs.declared.state.State.{State}
+use Rattle.states.specs.declared.state.State.{State}
 use Rattle.walk.proofs.Variables.{known-is, next-is}
 use Rattle.checker.proofs.Knowing.{known-step}
 use Rattle.format.proofs.Tests.{neither}
-use Rattle.checker.proofs.Parts.{body-is, lent-body, walked}
-use Rattle.checker.proofs.Loop.{ran, once-of, same-level, is-walking, walk-ready}
+use Rattle.checker.proofs.Parts.{body-is, lent-body}
+use Rattle.checker.proofs.Loop.{ran, walk-once, same-level, is-walking, walk-ready}
 use borrow.Author.Needs.{needs}
 use Rattle.checker.proofs.runs.run_walk.Statement.{statement}
 use Rattle.checker.proofs.runs.run_walk.Tie as tie
 
+-- Idea: each turn of the loop is one step of the plain run. Invariant: fewer than n steps were made, the marks are as long as at first, v is
+-- the variable whose index is walked at w, and the walk stands where the plain run from s does after k steps.
 abbrev Inv-loop : tie.InvT-loop
 Inv-loop f e m₀ s up n b near room w₀ v₀ k₀ m w v k =
     (k < n) × (length m ≡ length m₀) × Known b v w × (ran (walking (s .length) w up) m k ≡ runOf f (conf s m₀) k)
@@ -86,16 +86,14 @@ same-length c = c .before .before .before .before .m .given ∙ c .before .befor
 
 returns : tie.Need-returns Inv-loop μ-loop
 returns c =
-    let l = c .before .before .before .before .before .before .before .before .before .loop in
-    let a = c .before .before .before .before .before .before .before .before .before .before .before .before .before .before .before .before in
-    let t = c .before .before .before .before .before .before .before .step in
-    let d = c .before .before .before .before .before .settle in
-    let f = a .args .f .now in
-    let s = a .args .s in
-    let is = t .ensures ∙ ap (λ (room : Bool). walkStepBy (take (a .args .e) f) (a .args .up .a) room (l .w)) (c .before .before .before .before .before .before .before .before .before .before .before .room-below .ensures) in
-    let step = walked f (l .m) (s .length) (l .w) (a .args .up) _ (body-is f (a .args .e) (a .pre .0)) (t .result) (d .result) _ is (d .ensures) in
-    let more = once-of f (conf s (a .args .m .now)) (l .made) (walking (s .length) (l .w) (a .args .up)) (l .m) (l .inv .3) (Walking (l .w) (a .args .up)) refl refl _ _ step in
-    rw (c .stopped .ensures) (more, omega arith, omega (arith, l .inv .0))
+    let at-settle = c .before .before .before .before .before in
+    let at-step = at-settle .before .before in
+    let at-loop = at-step .before .before in
+    let l = at-loop .loop in
+    let a = at-loop .before .before .before .before .before .before .before in
+    let found = at-loop .before .before .room-below in
+    let once = walk-once (a .args .f .now) (a .args .e) (a .pre .0) (a .args .s) (a .args .m .now) (l .m) (l .w) (a .args .up) (l .made) (l .inv .3) (found .result) (found .ensures) (at-step .step .result) (at-step .step .ensures) (at-settle .settle .result) _ (at-settle .settle .ensures) in
+    rw (c .stopped .ensures) (once .one-more, omega arith, omega (arith, l .inv .0))
 
 changes-level-requires : tie.Need-changes-level-requires Inv-loop μ-loop
 changes-level-requires c κs = search needs
@@ -108,16 +106,14 @@ same-length-2 c = c .before .before .before .before .before .before .before .m .
 
 returns-2 : tie.Need-returns-2 Inv-loop μ-loop
 returns-2 c =
-    let l = c .before .before .before .before .before .before .before .before .before .before .before .before .loop in
-    let a = c .before .before .before .before .before .before .before .before .before .before .before .before .before .before .before .before .before .before .before in
-    let t = c .before .before .before .before .before .before .before .before .before .before .step in
-    let d = c .before .before .before .before .before .before .before .before .settle in
-    let f = a .args .f .now in
-    let s = a .args .s in
-    let is = t .ensures ∙ ap (λ (room : Bool). walkStepBy (take (a .args .e) f) (a .args .up .a) room (l .w)) (c .before .before .before .before .before .before .before .before .before .before .before .before .before .before .room-below .ensures) in
-    let step = walked f (l .m) (s .length) (l .w) (a .args .up) _ (body-is f (a .args .e) (a .pre .0)) (t .result) (d .result) _ is (d .ensures) in
-    let more = once-of f (conf s (a .args .m .now)) (l .made) (walking (s .length) (l .w) (a .args .up)) (l .m) (l .inv .3) (Walking (l .w) (a .args .up)) refl refl _ _ step in
-    let on = (rw (c .before .before .before .before .went .given .1) at more) in
+    let at-settle = c .before .before .before .before .before .before .before .before in
+    let at-step = at-settle .before .before in
+    let at-loop = at-step .before .before in
+    let l = at-loop .loop in
+    let a = at-loop .before .before .before .before .before .before .before in
+    let found = at-loop .before .before .room-below in
+    let once = walk-once (a .args .f .now) (a .args .e) (a .pre .0) (a .args .s) (a .args .m .now) (l .m) (l .w) (a .args .up) (l .made) (l .inv .3) (found .result) (found .ensures) (at-step .step .result) (at-step .step .ensures) (at-settle .settle .result) _ (at-settle .settle .ensures) in
+    let on = (rw (c .before .before .before .before .went .given .1) at (once .one-more)) in
     rw (c .stopped2 .ensures) (on, omega arith, omega (arith, l .inv .0))
 
 loop-less : tie.Need-loop-less Inv-loop μ-loop
@@ -125,22 +121,20 @@ loop-less c = omega (arith, c .before .before .before .before .before .before .b
 
 loop-again : tie.Need-loop-again Inv-loop μ-loop
 loop-again c =
-    let l = c .before .before .before .before .before .before .before .before .before .before .before .loop in
-    let a = c .before .before .before .before .before .before .before .before .before .before .before .before .before .before .before .before .before .before in
-    let t = c .before .before .before .before .before .before .before .before .before .step in
-    let d = c .before .before .before .before .before .before .before .settle in
-    let f = a .args .f .now in
-    let s = a .args .s in
-    let is = t .ensures ∙ ap (λ (room : Bool). walkStepBy (take (a .args .e) f) (a .args .up .a) room (l .w)) (c .before .before .before .before .before .before .before .before .before .before .before .before .before .room-below .ensures) in
-    let step = walked f (l .m) (s .length) (l .w) (a .args .up) _ (body-is f (a .args .e) (a .pre .0)) (t .result) (d .result) _ is (d .ensures) in
-    let more = once-of f (conf s (a .args .m .now)) (l .made) (walking (s .length) (l .w) (a .args .up)) (l .m) (l .inv .3) (Walking (l .w) (a .args .up)) refl refl _ _ step in
+    let at-settle = c .before .before .before .before .before .before .before in
+    let at-step = at-settle .before .before in
+    let at-loop = at-step .before .before in
+    let l = at-loop .loop in
+    let a = at-loop .before .before .before .before .before .before .before in
+    let found = at-loop .before .before .room-below in
+    let once = walk-once (a .args .f .now) (a .args .e) (a .pre .0) (a .args .s) (a .args .m .now) (l .m) (l .w) (a .args .up) (l .made) (l .inv .3) (found .result) (found .ensures) (at-step .step .result) (at-step .step .ensures) (at-settle .settle .result) _ (at-settle .settle .ensures) in
     let none = neither (eqb (l .made + 1) (a .args .n)) (c .before .changes-level .result) (c .if1 .left) in
-    let same = same-level (a .args .up) (t .result) (sym (c .before .changes-level .ensures) ∙ none .1) in
+    let same = same-level (a .args .up) (at-step .step .result) (sym (c .before .changes-level .ensures) ∙ none .1) in
     let g = c .before .before .before .went .given .1 in
-    let k = c .before .before .before .before .before .before .before .before .before .before .next-variable in
-    let known = known-step f (k .result) _ (body-is f (a .args .e) (a .pre .0)) (l .m) (s .length) (l .w) (a .args .up) (rw (k .ensures) (next-is _ (l .w) (l .v) (l .inv .2))) _ _ (rw (same, g) at step) _ _ refl in
+    let k = at-step .before .next-variable in
+    let known = known-step (a .args .f .now) (k .result) _ (body-is (a .args .f .now) (a .args .e) (a .pre .0)) (l .m) (a .args .s .length) (l .w) (a .args .up) (rw (k .ensures) (next-is _ (l .w) (l .v) (l .inv .2))) _ _ (rw (same, g) at (once .stepped-to)) _ _ refl in
     let under = eqb-false (l .made + 1) (a .args .n) (none .0) in
-    (omega (arith, l .inv .0, under), c .before .before .before .before .before .before .m .given ∙ l .inv .1, known, rw (same, g) at more)
+    (omega (arith, l .inv .0, under), c .before .before .before .before .before .before .m .given ∙ l .inv .1, known, rw (same, g) at (once .one-more))
 
 pub run-walk-spec : {M : Type 1} → statement M
 run-walk-spec =

@@ -10,8 +10,8 @@ enum-told c = search needs
 enum-known-w : tie.Need-enum-known-w
 enum-known-w c = search needs
 
-by-kind-requires : tie.Need-by-kind-requires
-by-kind-requires c κs = search needs
+head-of-variables-requires : tie.Need-head-of-variables-requires
+head-of-variables-requires c κs = search needs
 
 standing-requires : tie.Need-standing-requires
 standing-requires c κs = search needs
@@ -34,8 +34,8 @@ standing-requires-3 c κs = search needs
 enum-known-w-5 : tie.Need-enum-known-w-5
 enum-known-w-5 c = search needs
 
-by-kind-requires-2 : tie.Need-by-kind-requires-2
-by-kind-requires-2 c κs = search needs
+head-of-entries-requires : tie.Need-head-of-entries-requires
+head-of-entries-requires c κs = search needs
 
 standing-requires-4 : tie.Need-standing-requires-4
 standing-requires-4 c κs = search needs
@@ -52,7 +52,7 @@ returns c = ap holderOf (sym (c .enum-told .given .1))
 
 returns-2 : tie.Need-returns-2
 unfolding holderOf
-returns-2 c = (rw (c .before .by-kind .ensures) at (c .standing .ensures)) ∙ ap holderOf (sym (c .before .before .before .w .given .1))
+returns-2 c = (rw (c .before .head-of-variables .ensures) at (c .standing .ensures)) ∙ ap holderOf (sym (c .before .before .before .w .given .1))
 
 returns-3 : tie.Need-returns-3
 unfolding holderOf
@@ -68,7 +68,7 @@ returns-5 c = c .standing3 .ensures ∙ ap holderOf (sym (c .before .before .w4 
 
 returns-6 : tie.Need-returns-6
 unfolding holderOf
-returns-6 c = (rw (c .before .by-kind2 .ensures) at (c .standing4 .ensures)) ∙ ap holderOf (sym (c .before .before .before .w5 .given .1))
+returns-6 c = (rw (c .before .head-of-entries .ensures) at (c .standing4 .ensures)) ∙ ap holderOf (sym (c .before .before .before .w5 .given .1))
 
 returns-7 : tie.Need-returns-7
 unfolding holderOf
@@ -80,7 +80,7 @@ holder-spec =
     (tie.spec
     enum-told
     enum-known-w
-    by-kind-requires
+    head-of-variables-requires
     standing-requires
     enum-known-w-2
     standing-requires-2
@@ -88,7 +88,7 @@ holder-spec =
     enum-known-w-4
     standing-requires-3
     enum-known-w-5
-    by-kind-requires-2
+    head-of-entries-requires
     standing-requires-4
     enum-known-w-6
     standing-requires-5

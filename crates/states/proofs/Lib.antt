@@ -1,0 +1,3 @@
+pub mod LevelLists
+pub mod Same
+pub mod Loads

@@ -1,0 +1,72 @@
+use borrow.Author.Needs.{needs}
+use Rattle.states.proofs.saved.walk_range.Statement.{statement}
+use Rattle.states.proofs.saved.walk_range.Tie as tie
+
+enum-told : tie.Need-enum-told
+enum-told c = search needs
+
+enum-known-w : tie.Need-enum-known-w
+enum-known-w c = search needs
+
+enum-known-w-2 : tie.Need-enum-known-w-2
+enum-known-w-2 c = search needs
+
+var-range-requires : tie.Need-var-range-requires
+var-range-requires c κs = search needs
+
+enum-known-w-3 : tie.Need-enum-known-w-3
+enum-known-w-3 c = search needs
+
+var-range-requires-2 : tie.Need-var-range-requires-2
+var-range-requires-2 c κs = search needs
+
+enum-known-w-4 : tie.Need-enum-known-w-4
+enum-known-w-4 c = search needs
+
+enum-known-w-5 : tie.Need-enum-known-w-5
+enum-known-w-5 c = search needs
+
+enum-known-w-6 : tie.Need-enum-known-w-6
+enum-known-w-6 c = search needs
+
+returns : tie.Need-returns
+returns c = search needs
+
+returns-2 : tie.Need-returns-2
+returns-2 c = rw (c .before .w .given .1)
+
+returns-3 : tie.Need-returns-3
+returns-3 c = rw (c .before .before .w2 .given .1, c .var-range .ensures)
+
+returns-4 : tie.Need-returns-4
+returns-4 c = rw (c .before .before .w3 .given .1, c .var-range2 .ensures)
+
+returns-5 : tie.Need-returns-5
+returns-5 c = rw (c .before .w4 .given .1)
+
+returns-6 : tie.Need-returns-6
+returns-6 c = rw (c .before .w5 .given .1)
+
+returns-7 : tie.Need-returns-7
+returns-7 c = rw (c .before .w6 .given .1)
+
+pub walk-range-spec : {M : Type 1} → statement M
+walk-range-spec =
+    tie.close
+    (tie.spec
+    enum-told
+    enum-known-w
+    enum-known-w-2
+    var-range-requires
+    enum-known-w-3
+    var-range-requires-2
+    enum-known-w-4
+    enum-known-w-5
+    enum-known-w-6
+    returns
+    returns-2
+    returns-3
+    returns-4
+    returns-5
+    returns-6
+    returns-7)
