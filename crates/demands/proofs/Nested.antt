@@ -341,7 +341,7 @@ module _ (f : List ℕ) (E : Position → List ℕ → Type 0) (u : Var) (above 
   rise-steps : (floor : ℕ) (b : Bool) (cs : List ℕ) → popped (levelsOf f (s ∷ above)) ≡ levels → LowerGood f above c s
       → StepEnds E (levelsOf f (s ∷ above)) (chainStep f (levelOf f s) u (namedBy f s + 8) (namedBy f s) floor b) cs
       ↔ E (position (entered f u (s .vxr) (s .entry + 1) (lastOf f s + 1) b) levels) cs
-  unfolding lowerNext lowerNumber vxrRule
+  unfolding lowerNext lowerNumber
   rise-steps floor b cs q g =
       let y = namedBy f s in
       let p = zeros (vxrRule f y ∷ unless 11 (isAt f (y + 8) (pos 0)) ∷ []) (g .lower) in

@@ -7,6 +7,7 @@ use Prim.Native.Nat.{ℕ, _+_, _≤_, _<_}
 use lib.IntN.{pos, negsuc}
 use lib.ListN.{length, take}
 use Rattle.format.specs.Fields.{endOf, bitAt}
+use Rattle.records.specs.Layout.{varFlagsAt}
 use Rattle.records.specs.Rules.{typedAt}
 use Rattle.records.specs.Opening.{gdrAt, eofOf}
 use Rattle.records.specs.Tiles.{tileFields, typeUncarried}
@@ -58,7 +59,7 @@ pub record FirstUnreached (f : List ℕ) (p : ℕ) : Type 0 where
 -- 14: "variable Flags bit 2", of a record that starts at p
 pub record CompressedAt (f : List ℕ) (p : ℕ) : Type 0 where
   pub record-at : RecordAt f p
-  pub flagged : bitAt f (p + 28) 4 ≡ true
+  pub flagged : bitAt f (varFlagsAt p) 4 ≡ true
 
 -- the numbers of a link or a list's end, but for 14
 abbrev pub OfLink : ℕ → Type 0

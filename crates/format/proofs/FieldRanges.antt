@@ -4,10 +4,11 @@ use mathlib.Core.Bool.{Bool, true, false, cond}
 use mathlib.Core.List.{List}
 use Prim.Native.Nat.{ℕ, suc, _-_, _^_, _≤_, _<_}
 use native.Mathlib.Omega.{arith}
-use lib.Dec.{ltb}
+use lib.Dec.{ltb, leb}
 use lib.ListN.{length}
 use borrow.Author.Tests.{ltb-true}
-use lib.IntN.{pos, negsuc}
+use lib.IntN.{ℤ, pos, negsuc}
+use lib.Signed.{leZ}
 use Rattle.format.specs.Bytes.{bigAt, signedOf}
 use Rattle.format.specs.Fields.{endOf, fieldAt, isAt, atLeast, natOr, natAt, afterAt, linkAt}
 use Rattle.format.proofs.SignedTests.{eqZ-true}
@@ -47,6 +48,15 @@ module _ (f : List ℕ) where
   pub after-small : (p : ℕ) → afterAt f p ≤ 2147483648
   unfolding afterAt
   after-small p = cond-keeps (λ (n : ℕ). n ≤ 2147483648) (atLeast f p (pos 0)) (omega (arith, nat-small p)) (omega arith)
+
+  -- a field is 1 or more exactly if it is so as a natural number
+  pub some-is : (p : ℕ) → atLeast f p (pos 1) ≡ leb 1 (natAt f p)
+  unfolding atLeast natAt
+  some-is p = go (fieldAt f p)
+    where
+      go : (x : ℤ) → leZ (pos 1) x ≡ leb 1 (natOr 0 x)
+      go (pos n) = refl
+      go (negsuc n) = refl
 
   -- a field that is n is below 2 ^ 31
   pub num-small : (p n : ℕ) → isAt f p (pos n) ≡ true → n ≤ 2147483647

@@ -41,10 +41,13 @@ inOrder f p q = leZ (fieldAt f p) (fieldAt f q)
 unfoldable pub sameAt : List ℕ → ℕ → ℕ → Bool
 sameAt f p q = eqZ (fieldAt f p) (fieldAt f q)
 
--- each of the n fields from an offset on lies in lo to hi
+-- the field at an offset lies in lo to hi, and so does each of the n fields from there on
+abbrev pub withinAt : List ℕ → ℕ → ℤ → ℤ → Bool
+withinAt f at lo hi = atLeast f at lo && atMost f at hi
+
 unfoldable pub eachWithin : List ℕ → ℕ → ℕ → ℤ → ℤ → Bool
 eachWithin f at zero lo hi = true
-eachWithin f at (suc n) lo hi = atLeast f at lo && atMost f at hi && eachWithin f (at + 4) n lo hi
+eachWithin f at (suc n) lo hi = withinAt f at lo hi && eachWithin f (at + 4) n lo hi
 
 -- a number that is 0 or more as a natural number, and other for a negative one
 abbrev pub natOr : ℕ → ℤ → ℕ

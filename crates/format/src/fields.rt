@@ -3,7 +3,7 @@ ghost use mathlib.Core.Path.{_≡_};
 ghost use Prim.Native.Nat.{_+_, _*_, _≤_, _<_};
 ghost use lib.ListN.{length};
 ghost use lib.IntN.{pos};
-ghost use Rattle.format.specs.Fields.{endOf, fieldAt, isAt, atLeast, atMost, inOrder, sameAt, eachWithin, natOr, natAt, linkAt, afterAt, before, bitAt};
+ghost use Rattle.format.specs.Fields.{endOf, fieldAt, isAt, atLeast, atMost, inOrder, sameAt, withinAt, eachWithin, natOr, natAt, linkAt, afterAt, before, bitAt};
 use crate::bytes;
 use crate::signed;
 
@@ -46,6 +46,14 @@ pub fn at_most(f: &[u8], at: usize, k: i32) -> bool
     field(f, at) <= k
 }
 
+// The field at an offset lies in lo to hi.
+pub fn within(f: &[u8], at: usize, lo: i32, hi: i32) -> bool
+    requires { ⌜ at + 4 ≤ length (now f) ⌝ }
+    ensures { λ r. ⌜ r ≡ withinAt (now (f .entry)) at lo hi ⌝ }
+{
+    at_least(f, at, lo) & at_most(f, at, hi)
+}
+
 // The field at p is at most the field at q.
 pub fn in_order(f: &[u8], p: usize, q: usize) -> bool
     requires { ⌜ (p + 4 ≤ length (now f)) × (q + 4 ≤ length (now f)) ⌝ }
@@ -70,7 +78,7 @@ pub fn each_within(f: &[u8], at: usize, n: usize, lo: i32, hi: i32) -> bool
     let mut p = at;
     let mut left = n;
     while 0 < left {
-        if !(at_least(f, p, lo) & at_most(f, p, hi)) {
+        if !within(f, p, lo, hi) {
             return false;
         }
         p += 4;

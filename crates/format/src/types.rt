@@ -10,62 +10,14 @@ pub struct DataType {
     pub kind: u32,
 }
 
-// The data types by their numbers: sixteen times the kind of the value, and the bytes of an element.
-const TYPES: [u8; 53] = [
-    0,
-    0x01,
-    0x02,
-    0,
-    0x04,
-    0,
-    0,
-    0,
-    0,
-    0,
-    0,
-    0x11,
-    0x12,
-    0,
-    0x14,
-    0,
-    0,
-    0,
-    0,
-    0,
-    0,
-    0x24,
-    0x38,
-    0,
-    0,
-    0,
-    0,
-    0,
-    0,
-    0,
-    0,
-    0x38,
-    0,
-    0,
-    0,
-    0,
-    0,
-    0,
-    0,
-    0,
-    0,
-    0x01,
-    0,
-    0,
-    0x24,
-    0x38,
-    0,
-    0,
-    0,
-    0,
-    0,
-    0x41,
-    0x41,
-];
+// The data types by their numbers, ten to a line: sixteen times the kind of the value, and the bytes of an element.
+const TYPES: [u8; 53] = *b"\
+    \x00\x01\x02\x00\x04\x00\x00\x00\x00\x00\
+    \x00\x11\x12\x00\x14\x00\x00\x00\x00\x00\
+    \x00\x24\x38\x00\x00\x00\x00\x00\x00\x00\
+    \x00\x38\x00\x00\x00\x00\x00\x00\x00\x00\
+    \x00\x01\x00\x00\x24\x38\x00\x00\x00\x00\
+    \x00\x41\x41";
 
 // A number of a table.
 pub fn number(x: u8) -> u32

@@ -9,7 +9,7 @@ use lib.Dec.{leb, eqb}
 use lib.IntN.{ℤ, pos, negsuc}
 use lib.Signed.{leZ}
 use borrow.Author.Tests.{leb-true, eqb-true, le-leb, eq-eqb}
-use Rattle.format.specs.Fields.{fieldAt, natOr, natAt, atLeast, atMost, inOrder}
+use Rattle.format.specs.Fields.{fieldAt, natOr, natAt, atLeast, withinAt, inOrder}
 use Rattle.format.proofs.Tests.{every}
 use Rattle.records.specs.Layout.{scopeAt, entryTypeAt, entryNumAt, entryElementsAt, vxrEntriesAt, vxrUsedAt}
 use Rattle.records.specs.Rules.{sizeAt}
@@ -44,15 +44,14 @@ module _ (f : List ℕ) (o : ℕ) where
   -- ---- an ADR
   pub record AdrFields : Type 0 where
     pub size : sizeAt f o ≡ 116
-    pub scope-least : atLeast f (scopeAt o) (pos 1) ≡ true
-    pub scope-most : atMost f (scopeAt o) (pos 2) ≡ true
+    pub scope : withinAt f (scopeAt o) (pos 1) (pos 2) ≡ true
 
   pub adr-fields : adrRight f o ≡ true ↔ AdrFields
   unfolding adrRight
   adr-fields =
-      let tests = eqb (sizeAt f o) 116 ∷ atLeast f (scopeAt o) (pos 1) ∷ atMost f (scopeAt o) (pos 2) ∷ [] in (
-        λ e. let p = every tests e in record { size = eqb-true (sizeAt f o) 116 (p 0); scope-least = p 1; scope-most = p 2 },
-        λ p. rw (eq-eqb (sizeAt f o) 116 (p .size), p .scope-least, p .scope-most),
+      let tests = eqb (sizeAt f o) 116 ∷ withinAt f (scopeAt o) (pos 1) (pos 2) ∷ [] in (
+        λ e. let p = every tests e in record { size = eqb-true (sizeAt f o) 116 (p 0); scope = p 1 },
+        λ p. rw (eq-eqb (sizeAt f o) 116 (p .size), p .scope),
       )
 
   -- ---- an AEDR

@@ -9,7 +9,7 @@ use lib.Dec.{leb, eqb}
 use lib.IntN.{pos, negsuc}
 use lib.ListN.{length}
 use borrow.Author.Tests.{leb-true, eqb-true, le-leb, eq-eqb}
-use Rattle.format.specs.Fields.{endOf, isAt, atLeast, atMost, eachWithin}
+use Rattle.format.specs.Fields.{endOf, isAt, atLeast, withinAt, eachWithin}
 use Rattle.format.proofs.Tests.{both, every, cond-keeps, cond-left, cond-right}
 use Rattle.format.proofs.Numbers.{zeros, first-has}
 use Rattle.format.proofs.FieldRanges.{end-is}
@@ -96,8 +96,7 @@ module _ (f : List ℕ) where
     -- ---- the fields of a GDR
     pub record GdrFields : Type 0 where
       pub typed : typedAt f g (pos 2) ≡ true
-      pub dims-least : atLeast f (rNumDimsAt g) (pos 0) ≡ true
-      pub dims-most : atMost f (rNumDimsAt g) (pos 10) ≡ true
+      pub dims : withinAt f (rNumDimsAt g) (pos 0) (pos 10) ≡ true
       pub r-variables : atLeast f (nrVarsAt g) (pos 0) ≡ true
       pub attributes : atLeast f (numAttrAt g) (pos 0) ≡ true
       pub z-variables : atLeast f (nzVarsAt g) (pos 0) ≡ true
@@ -109,8 +108,7 @@ module _ (f : List ℕ) where
     gdr-fields =
         let tests =
         typedAt f g (pos 2)
-        ∷ atLeast f (rNumDimsAt g) (pos 0)
-        ∷ atMost f (rNumDimsAt g) (pos 10)
+        ∷ withinAt f (rNumDimsAt g) (pos 0) (pos 10)
         ∷ atLeast f (nrVarsAt g) (pos 0)
         ∷ atLeast f (numAttrAt g) (pos 0)
         ∷ atLeast f (nzVarsAt g) (pos 0)
@@ -119,8 +117,8 @@ module _ (f : List ℕ) where
         ∷ [] in (
           λ e.
               let p = every tests e in
-              record { typed = p 0; dims-least = p 1; dims-most = p 2; r-variables = p 3; attributes = p 4; z-variables = p 5; max-rec = p 6; eof = p 7 },
-          λ p. rw (p .typed, p .dims-least, p .dims-most, p .r-variables, p .attributes, p .z-variables, p .max-rec, p .eof),
+              record { typed = p 0; dims = p 1; r-variables = p 2; attributes = p 3; z-variables = p 4; max-rec = p 5; eof = p 6 },
+          λ p. rw (p .typed, p .dims, p .r-variables, p .attributes, p .z-variables, p .max-rec, p .eof),
         )
 
     -- ---- a GDR that keeps its rule: its parts, and where it and the eof lie

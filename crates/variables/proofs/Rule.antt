@@ -1,7 +1,7 @@
 -- The rule of a VDR: when its number is 0, and what follows from that. Assumes nothing.
-use mathlib.Core.Path.{_≡_, refl, sym}
+use mathlib.Core.Path.{_≡_, refl, sym, _∙_}
 use mathlib.Core.Logic.{_↔_}
-use mathlib.Core.Bool.{Bool, true, false, cond, _||_, true≢false}
+use mathlib.Core.Bool.{Bool, true, false, cond, _||_}
 use mathlib.Core.List.{List, [], _∷_}
 use Prim.Native.Nat.{ℕ, _+_, _*_, _≤_, _<_}
 use native.Mathlib.Nat.{mul-le-mul, one-mul, le-refl}
@@ -9,12 +9,11 @@ use native.Mathlib.Omega.{arith}
 use lib.Dec.{ltb, leb, eqb}
 use lib.ListN.{length}
 use lib.IntN.{ℤ, pos, negsuc}
-use lib.Signed.{leZ}
 use borrow.Author.Tests.{ltb-true, ltb-false, lt-ltb, le-ltb, leb-true, le-leb, eqb-true, eqb-false}
 use Rattle.format.specs.Bytes.{bigAt}
-use Rattle.format.specs.Fields.{endOf, fieldAt, isAt, atLeast, atMost, natOr, natAt, bitAt}
+use Rattle.format.specs.Fields.{endOf, isAt, atLeast, withinAt, natAt, bitAt}
 use Rattle.format.proofs.Tests.{every, cond-keeps, cond-cases, cond-right}
-use Rattle.format.proofs.FieldRanges.{end-is}
+use Rattle.format.proofs.FieldRanges.{end-is, some-is}
 use Rattle.records.specs.Layout.{dataTypeAt, maxRecAt, varFlagsAt, sRecordsAt, elementsAt}
 use Rattle.records.specs.Rules.{sizeAt, reachOf}
 use Rattle.records.specs.Attributes.{elementSize}
@@ -49,8 +48,7 @@ module _ (f : List ℕ) (o : ℕ) where
     pub typed : 1 ≤ elementSize f (dataTypeAt o)
     pub max-rec : atLeast f (maxRecAt o) (negsuc 0) ≡ true
     pub flags : bigAt f (varFlagsAt o) 4 < 8
-    pub sparse-least : atLeast f (sRecordsAt o) (pos 0) ≡ true
-    pub sparse-most : atMost f (sRecordsAt o) (pos 2) ≡ true
+    pub sparse : withinAt f (sRecordsAt o) (pos 0) (pos 2) ≡ true
     pub elements : atLeast f (elementsAt o) (pos 1) ≡ true
     pub one : (isAt f (dataTypeAt o) (pos 51) || isAt f (dataTypeAt o) (pos 52) || isAt f (elementsAt o) (pos 1)) ≡ true
 
@@ -63,28 +61,23 @@ module _ (f : List ℕ) (o : ℕ) where
       leb 1 type
       ∷ atLeast f (maxRecAt o) (negsuc 0)
       ∷ ltb flags 8
-      ∷ atLeast f (sRecordsAt o) (pos 0)
-      ∷ atMost f (sRecordsAt o) (pos 2)
+      ∷ withinAt f (sRecordsAt o) (pos 0) (pos 2)
       ∷ atLeast f (elementsAt o) (pos 1)
       ∷ (isAt f (dataTypeAt o) (pos 51) || isAt f (dataTypeAt o) (pos 52) || isAt f (elementsAt o) (pos 1))
       ∷ [] in (
         λ e.
             let p = every tests e in
-            record { typed = leb-true 1 type (p 0); max-rec = p 1; flags = ltb-true flags 8 (p 2); sparse-least = p 3; sparse-most = p 4; elements = p 5; one = p 6 },
-        λ p. rw (le-leb 1 type (p .typed), p .max-rec, lt-ltb flags 8 (p .flags), p .sparse-least, p .sparse-most, p .elements, p .one),
+            record { typed = leb-true 1 type (p 0); max-rec = p 1; flags = ltb-true flags 8 (p 2); sparse = p 3; elements = p 4; one = p 5 },
+        λ p. rw (le-leb 1 type (p .typed), p .max-rec, lt-ltb flags 8 (p .flags), p .sparse, p .elements, p .one),
       )
-
-at-least-one : (z : ℤ) → leZ (pos 1) z ≡ true → 1 ≤ natOr 0 z
-at-least-one (pos n) e = leb-true 1 n e
-at-least-one (negsuc n) e = absurd (true≢false (sym e))
 
 module _ (f : List ℕ) (o : ℕ) where
   -- a value has a byte or more
   pub value-some : vdrFields f o ≡ true → 1 ≤ valueBytes f o
-  unfolding valueBytes atLeast natAt
+  unfolding valueBytes
   value-some e =
       let p = vdr-fields f o .0 e in
-      mul-le-mul {n₁ = 1} {m₁ = 1} (at-least-one (fieldAt f (elementsAt o)) (p .elements)) (p .typed)
+      mul-le-mul {n₁ = 1} {m₁ = 1} (leb-true 1 (natAt f (elementsAt o)) (sym (some-is f (elementsAt o)) ∙ p .elements)) (p .typed)
 
 -- ---- the whole rule
 pub record VdrParts (f : List ℕ) (k o : ℕ) : Type 0 where

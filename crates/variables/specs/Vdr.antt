@@ -5,7 +5,7 @@ use mathlib.Core.List.{List}
 use lib.Dec.{ltb, leb, eqb}
 use lib.IntN.{pos, negsuc}
 use Rattle.format.specs.Bytes.{bigAt}
-use Rattle.format.specs.Fields.{endOf, isAt, atLeast, atMost, eachWithin, natAt, bitAt}
+use Rattle.format.specs.Fields.{endOf, isAt, atLeast, withinAt, eachWithin, natAt, bitAt}
 use Rattle.records.specs.Layout.{rNumDimsAt, dataTypeAt, maxRecAt, varFlagsAt, sRecordsAt, elementsAt, rVariancesAt, zNumDimsAt}
 use Rattle.records.specs.Rules.{sizeAt, reachOf}
 use Rattle.records.specs.Opening.{gdrAt}
@@ -26,8 +26,7 @@ vdrFields f o =
     leb 1 (elementSize f (dataTypeAt o))
     && atLeast f (maxRecAt o) (negsuc 0)
     && ltb (bigAt f (varFlagsAt o) 4) 8
-    && atLeast f (sRecordsAt o) (pos 0)
-    && atMost f (sRecordsAt o) (pos 2)
+    && withinAt f (sRecordsAt o) (pos 0) (pos 2)
     && atLeast f (elementsAt o) (pos 1)
     && (isAt f (dataTypeAt o) (pos 51) || isAt f (dataTypeAt o) (pos 52) || isAt f (elementsAt o) (pos 1))
 
@@ -40,7 +39,7 @@ unfoldable pub numDimsAt : List ℕ → ℕ → ℕ → ℕ
 numDimsAt f k o = cond (eqb k 8) (zNumDimsAt o) (rNumDimsAt (gdrAt f))
 
 unfoldable pub countRight : List ℕ → ℕ → Bool
-countRight f p = atLeast f p (pos 0) && atMost f p (pos 10)
+countRight f p = withinAt f p (pos 0) (pos 10)
 
 -- n dimensions counted at p: where their sizes and variances stand. An rVariable's sizes stand in the GDR (60); where it has no
 -- dimensions nothing more of the GDR is needed, and their offset is that of the variances

@@ -56,8 +56,7 @@ fn vdr_fields(f: &[u8], o: usize, element: u32) -> bool
     (1 <= element)
         & fields::at_least(f, o + layout::MAX_REC, -1)
         & (bytes::big4(f, o + layout::VAR_FLAGS) < 8)
-        & fields::at_least(f, o + layout::S_RECORDS, 0)
-        & fields::at_most(f, o + layout::S_RECORDS, 2)
+        & fields::within(f, o + layout::S_RECORDS, 0, 2)
         & fields::at_least(f, o + layout::ELEMENTS, 1)
         & single
 }
@@ -86,7 +85,7 @@ fn count_right(f: &[u8], p: usize) -> bool
     requires { ⌜ p + 4 ≤ length (now f) ⌝ }
     ensures { λ r. ⌜ r ≡ countRight (now (f .entry)) p ⌝ }
 {
-    fields::at_least(f, p, 0) & fields::at_most(f, p, 10)
+    fields::within(f, p, 0, 10)
 }
 
 // Where the sizes of the n dimensions of an rVariable stand: behind the GDR's other fields, if there are any.

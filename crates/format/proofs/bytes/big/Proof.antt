@@ -7,6 +7,7 @@ use Rattle.format.proofs.Widths.{grow, room, big-more}
 use Rattle.format.proofs.bytes.big.Statement.{statement}
 use Rattle.format.proofs.bytes.big.Tie as tie
 
+-- Each byte makes the number 256 times as large and adds itself. Invariant: acc is the number of the first i bytes, so it is below 256 ^ i.
 abbrev Inv-loop : tie.InvT-loop
 Inv-loop s at n acc₀ i₀ acc i = (i ≤ n) × ((acc ≡ bigAt s at i) × (acc < 256 ^ i))
 

@@ -8,6 +8,7 @@ use Rattle.format.proofs.Widths.{grow, room, little-more, more}
 use Rattle.format.proofs.bytes.little.Statement.{statement}
 use Rattle.format.proofs.bytes.little.Tie as tie
 
+-- From the last byte, the most significant, to the first. Invariant: acc is the number of the bytes from i on.
 abbrev Inv-loop : tie.InvT-loop
 Inv-loop s at n acc₀ i₀ acc i = (i ≤ n) × ((acc ≡ littleAt s (at + i) (n - i)) × (acc < 256 ^ (n - i)))
 

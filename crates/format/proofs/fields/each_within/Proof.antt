@@ -12,6 +12,8 @@ use borrow.Author.Needs.{needs}
 use Rattle.format.proofs.fields.each_within.Statement.{statement}
 use Rattle.format.proofs.fields.each_within.Tie as tie
 
+-- The fields from p on decide: those before it lie within. Invariant: the left fields from p on lie in the file, and each of all n is within
+-- exactly if each of these is.
 abbrev Inv-loop : tie.InvT-loop
 Inv-loop f at n lo hi p₀ left₀ p left = (p + 4 * left ≤ length f) × (eachWithin f at n (toZ w32 lo) (toZ w32 hi) ≡ eachWithin f p left (toZ w32 lo) (toZ w32 hi))
 
@@ -21,19 +23,17 @@ abbrev μ-loop : tie.MeasureT-loop
 loop-holds : tie.Need-loop-holds Inv-loop μ-loop
 loop-holds c = search needs
 
-at-least-requires : tie.Need-at-least-requires Inv-loop μ-loop
-at-least-requires c κs = search needs
-
-at-most-requires : tie.Need-at-most-requires Inv-loop μ-loop
-at-most-requires c κs = search needs
+within-requires : tie.Need-within-requires Inv-loop μ-loop
+within-requires c κs = search needs
 
 returns : tie.Need-returns Inv-loop μ-loop
 returns c =
-    let a = c .before .before .before .before .before .before in
-    let l = c .before .before .before .before .loop in
-    let t = rw (c .before .before .at-least .ensures, c .before .at-most .ensures) at (c .if1 .taken) in
+    let at-loop = c .before .before .before in
+    let a = at-loop .before .before in
+    let l = at-loop .loop in
+    let t = rw (c .before .within .ensures) at (c .if1 .taken) in
     rw (toZ-ofZ {w = w32} (a .fits .lo), toZ-ofZ {w = w32} (a .fits .hi)) at
-    (each-bad (a .args .f .now) (l .p) (l .left) (toZ w32 (ofZ w32 (a .args .lo))) (toZ w32 (ofZ w32 (a .args .hi))) (c .before .before .before .loop-test .taken) (not-true _ t) ∙ sym (l .inv .1))
+    (each-bad (a .args .f .now) (l .p) (l .left) (toZ w32 (ofZ w32 (a .args .lo))) (toZ w32 (ofZ w32 (a .args .hi))) (c .before .before .loop-test .taken) (not-true _ t) ∙ sym (l .inv .1))
 
 add-p : tie.Need-add-p Inv-loop μ-loop
 add-p c = search needs
@@ -46,10 +46,11 @@ loop-less c = search needs
 
 loop-again : tie.Need-loop-again Inv-loop μ-loop
 loop-again c =
-    let a = c .before .before .before .before .before .before in
-    let l = c .before .before .before .before .loop in
-    let t = rw (c .before .before .at-least .ensures, c .before .at-most .ensures) at (c .if1 .left) in
-    (omega arith, l .inv .1 ∙ each-good (a .args .f .now) (l .p) (l .left) (toZ w32 (ofZ w32 (a .args .lo))) (toZ w32 (ofZ w32 (a .args .hi))) (c .before .before .before .loop-test .taken) (not-false _ t))
+    let at-loop = c .before .before .before in
+    let a = at-loop .before .before in
+    let l = at-loop .loop in
+    let t = rw (c .before .within .ensures) at (c .if1 .left) in
+    (omega arith, l .inv .1 ∙ each-good (a .args .f .now) (l .p) (l .left) (toZ w32 (ofZ w32 (a .args .lo))) (toZ w32 (ofZ w32 (a .args .hi))) (c .before .before .loop-test .taken) (not-false _ t))
 
 returns-2 : tie.Need-returns-2 Inv-loop μ-loop
 returns-2 c =
@@ -65,8 +66,7 @@ each-within-spec =
     Inv-loop
     μ-loop
     loop-holds
-    at-least-requires
-    at-most-requires
+    within-requires
     returns
     add-p
     sub-left

@@ -12,6 +12,7 @@ use Rattle.variables.specs.Place.{indicesRight}
 use Rattle.variables.proofs.place.indices_right.Statement.{statement}
 use Rattle.variables.proofs.place.indices_right.Tie as tie
 
+-- Invariant: right says whether the first d indices are right.
 abbrev Inv-loop : tie.InvT-loop
 Inv-loop f p indices n right₀ d₀ right d = (d ≤ n) × (right ≡ indicesRight f p indices d)
 

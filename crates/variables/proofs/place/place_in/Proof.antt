@@ -13,6 +13,7 @@ use Rattle.variables.specs.Limit.{capped}
 use Rattle.variables.proofs.place.place_in.Statement.{statement}
 use Rattle.variables.proofs.place.place_in.Tie as tie
 
+-- From the slowest dimension to the fastest. Invariant: place is the place after the j slowest, up to the limit.
 abbrev Inv-loop : tie.InvT-loop
 Inv-loop f row indices n p q place₀ j₀ place j = (j ≤ n) × (place ≤ 2147483648) × (place ≡ capped (placeAfter row n (sizeOf f p) (variesOf f q) (indexOf indices) j))
 

@@ -9,6 +9,8 @@ use borrow.Author.Needs.{needs}
 use Rattle.variables.proofs.vdr.record_bytes.Statement.{statement}
 use Rattle.variables.proofs.vdr.record_bytes.Tie as tie
 
+-- The bytes of a value times the sizes of the varying dimensions, capped at each step. Invariant: acc times the product of the dimensions that
+-- are left is, up to the limit, the value's bytes times the product of all.
 abbrev Inv-loop : tie.InvT-loop
 Inv-loop f value acc₀ p₀ q₀ left₀ acc p q left = (p + 4 * left ≤ length f) × (q + 4 * left ≤ length f) × (acc ≤ 2147483648) × (capped (acc * valuesPerRecord f left p q) ≡ capped (acc₀ * valuesPerRecord f left₀ p₀ q₀))
 

@@ -33,27 +33,21 @@ add-big4 c = search needs
 big4-requires : tie.Need-big4-requires
 big4-requires c κs = search needs
 
+add-within : tie.Need-add-within
+add-within c = search needs
+
+within-requires : tie.Need-within-requires
+within-requires c κs = search needs
+
 add-at-least-2 : tie.Need-add-at-least-2
 add-at-least-2 c = search needs
 
 at-least-requires-2 : tie.Need-at-least-requires-2
 at-least-requires-2 c κs = search needs
 
-add-at-most : tie.Need-add-at-most
-add-at-most c = search needs
-
-at-most-requires : tie.Need-at-most-requires
-at-most-requires c κs = search needs
-
-add-at-least-3 : tie.Need-add-at-least-3
-add-at-least-3 c = search needs
-
-at-least-requires-3 : tie.Need-at-least-requires-3
-at-least-requires-3 c κs = search needs
-
 returns : tie.Need-returns
 unfolding vdrFields
-returns c = simp (← c .at-least3 .ensures, ← c .before .at-most .ensures, ← c .before .before .at-least2 .ensures, ← c .before .before .before .big4 .ensures, ← c .before .before .before .before .at-least .ensures, ← c .before .before .before .before .before .is3 .ensures, ← c .before .before .before .before .before .before .is2 .ensures, ← c .before .before .before .before .before .before .before .is .ensures, ← c .before .before .before .before .before .before .before .before .before .pre .1)
+returns c = simp (← c .at-least2 .ensures, ← c .before .within .ensures, ← c .before .before .big4 .ensures, ← c .before .before .before .at-least .ensures, ← c .before .before .before .before .is3 .ensures, ← c .before .before .before .before .before .is2 .ensures, ← c .before .before .before .before .before .before .is .ensures, ← c .before .before .before .before .before .before .before .before .pre .1)
 
 pub vdr-fields-spec : {M : Type 1} → statement M
 vdr-fields-spec =
@@ -69,10 +63,8 @@ vdr-fields-spec =
     at-least-requires
     add-big4
     big4-requires
+    add-within
+    within-requires
     add-at-least-2
     at-least-requires-2
-    add-at-most
-    at-most-requires
-    add-at-least-3
-    at-least-requires-3
     returns)
