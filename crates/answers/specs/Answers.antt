@@ -1,4 +1,4 @@
--- The answers to questions for values: of a variable, of an entry, of a pad value. Document 01, "Values". Assumes nothing.
+-- The answers to questions for values: of a variable, of an entry, of a pad value. Sections 13 and 14 of docs/RULES.md. Assumes nothing.
 use Prim.Native.Nat.{ℕ, _+_, _*_}
 use mathlib.Core.Bool.{Bool, cond, _&&_}
 use mathlib.Core.List.{List}
@@ -27,25 +27,25 @@ use Rattle.lookup.specs.declared.indexes.Values.the-variants.{Record, Refused a
 use Rattle.answers.specs.declared.Read.{Read}
 use Rattle.answers.specs.declared.Read.the-variants.{Value, Refused}
 
--- the number that comes back: 0, "value given", or the refusal's
+-- the number that comes back: 0, "value given" (2.1), or the refusal's
 abbrev pub numberOf : Read → ℕ
 numberOf (Value a) = 0
 numberOf (Refused v) = v
 
--- "it is the reserved operand, refused with 22"; an element that is not before the file's end would be 20
+-- 15.4: "it is the reserved operand, refused with 22"; an element that is not before the file's end would be 20
 abbrev pub answered : Decoded → Read
 answered (Given a) = Value a
 answered Reserved = Refused 22
 answered Nothing = Refused 20
 
--- CDR: "encoding (20)"; flags (24): "Bit 0 set means row majority"; the CDR stands at 8
+-- 4.4: "encoding 20"; flags (24): "bit 0 row majority" (4.4); the CDR stands at 8
 abbrev pub fileEncoding : List ℕ → ℕ
 fileEncoding f = natAt f encodingAt
 
 abbrev pub rowMajority : List ℕ → Bool
 rowMajority f = bitAt f cdrFlagsAt 1
 
--- an element of those that the field at p counts; else 18, "element out of range"
+-- an element of those that the field at p counts; else 18, "element out of range" (14.2)
 unfoldable pub elementThere : List ℕ → ℕ → ℤ → Bool
 elementThere f p x = leZ (pos 0) x && ltZ x (fieldAt f p)
 
@@ -81,11 +81,11 @@ abbrev pub valueOn : List ℕ → ℕ → ℤ → List ℤ → ℤ → Way → R
 valueOn f k r is x (Found v left) = inVariable f v left (variableOf f k v) r is x
 valueOn f k r is x (Stopped n) = Refused n
 
--- A VALUE: "asked by kind, number, record, indices and element"
+-- A VALUE: "asked by kind, number, record, indices and element" (14.1)
 unfoldable pub valueRead : List ℕ → ℤ → ℤ → ℤ → List ℤ → ℤ → Read
 valueRead f k n r is x = valueOn (bodyOf f) (kindAmong 3 8 k) r is x (variableWay f k n)
 
--- "data type 16, .. elements 24 .., value from 48"
+-- 4.7: "data type 16 .. elements 24 .. value 48"
 abbrev pub entryOn : List ℕ → ℤ → Way → Read
 entryOn f x (Found e left) = elementRead f (entryValueAt e) (entryTypeAt e) (entryElementsAt e) x
 entryOn f x (Stopped n) = Refused n
@@ -94,11 +94,11 @@ entryOn f x (Stopped n) = Refused n
 unfoldable pub entryValue : List ℕ → ℤ → ℤ → Wanted → ℤ → Read
 entryValue f a k w x = entryOn (bodyOf f) x (entryWay f a k w)
 
--- "by attribute, kind, entry number and element"
+-- 14.1: "by attribute, kind, entry number (or place) and element"
 abbrev pub entryRead : List ℕ → ℤ → ℤ → ℤ → ℤ → Read
 entryRead f a k n x = entryValue f a k (Number n) x
 
--- "Pad value last if bit 1 is set": its offset, behind the variances
+-- 4.9: "A pad value comes last, if bit 1 is set": its offset, behind the variances
 abbrev pub padValueAt : Variable → ℕ
 padValueAt u = u .dimensions .variances + 4 * u .dimensions .count
 
@@ -109,6 +109,6 @@ abbrev pub padOn : List ℕ → ℕ → ℤ → Way → Read
 padOn f k x (Found v left) = padIn f v (variableOf f k v) x
 padOn f k x (Stopped n) = Refused n
 
--- A PAD VALUE: "pad value as elements (18 if there is none)"
+-- A PAD VALUE: "A pad value is given as elements, 18 if there is none" (14.2)
 unfoldable pub padRead : List ℕ → ℤ → ℤ → ℤ → Read
 padRead f k n x = padOn (bodyOf f) (kindAmong 3 8 k) x (variableWay f k n)

@@ -1,4 +1,4 @@
--- WHERE A REFUSAL LIES, over the file alone: request #107, without marks and steps. Assumes nothing.
+-- WHERE A REFUSAL LIES, over the file alone: section 11 of docs/RULES.md, without marks and steps. Assumes nothing.
 use mathlib.Core.Path.{_≡_}
 use mathlib.Core.Logic.{_↔_, _≢_, _⊎_}
 use mathlib.Core.Bool.{true, false}
@@ -15,21 +15,21 @@ use Rattle.states.specs.declared.state.Stage.the-variants.{Done}
 use Rattle.demands.specs.Acceptance.{_∈_, Opening, TiledTo, Tiled, Lists, ListsRight, reached}
 use Rattle.demands.specs.Demands.{endStage}
 
--- a file that opens: "1, 2, 3, 4, 5, 14, 6 in that order", and none of them
+-- a file that opens: "1, 2, 3, 4, 5, 14, 6 in that order" (6.1), and none of them
 pub record Opens (f : List ℕ) : Type 0 where
   pub short : length f ≤ 2147483647
   pub opens : Opening f
 
--- "the sweep, links and indexes end at eof": what lies below it
+-- 6.4: "the sweep, links and indexes end at eof": what lies below it
 abbrev pub below : List ℕ → List ℕ
 below f = take (eofOf f (gdrAt f)) f
 
 -- ---- the tiles stop
--- 7: "fewer than 8 bytes left", but some; "size below 8 or past the end, type not in Table 2.1"
+-- 7 by 7.2: "fewer than 8 bytes left", but some; 7.2: "size below 8 or past the end, type not in Table 2.1"
 abbrev pub NoRecord : List ℕ → ℕ → Type 0
 NoRecord f p = (p ≢ endOf f) × ((endOf f < p + 8) ⊎ (tileFields f (endOf f) p ≡ false))
 
--- "After 7, types 10 to 13 give 14"
+-- 7.2: "After 7, types 10 to 13 give 14"
 abbrev pub NotCarried : List ℕ → ℕ → Type 0
 NotCarried f p = (p + 8 ≤ endOf f) × (tileFields f (endOf f) p ≡ true) × (typeUncarried f p ≡ true)
 
@@ -56,7 +56,7 @@ pub record FirstUnreached (f : List ℕ) (p : ℕ) : Type 0 where
   pub unreached : p ∈ reached f lists → ⊥
   pub first : (o : ℕ) → o ∈ lists .starts → o < p → o ≢ 8 → typedAt f o (negsuc 0) ≡ false → o ∈ reached f lists
 
--- 14: "variable Flags bit 2", of a record that starts at p
+-- 14 by 2.1: "variable Flags bit 2", of a record that starts at p
 pub record CompressedAt (f : List ℕ) (p : ℕ) : Type 0 where
   pub record-at : RecordAt f p
   pub flagged : bitAt f (varFlagsAt p) 4 ≡ true
@@ -65,21 +65,22 @@ pub record CompressedAt (f : List ℕ) (p : ℕ) : Type 0 where
 abbrev pub OfLink : ℕ → Type 0
 OfLink v = ((8 ≤ v) × (v ≤ 12)) ⊎ (v ≡ 23)
 
--- WHERE IT LIES: the plain run over the file f, with marks at least as long, ends with the number and the location p
+-- WHERE IT LIES: the plain run over the file f, with marks at least as long, ends with the number and the location p; 11.4: "Over the file
+-- alone"
 pub record Locations (f m : List ℕ) (p : ℕ) : Type 0 where
-  -- "the swept place for 7": where the tiles stop
+  -- 11.2: "the swept offset for 7": where the tiles stop
   pub seven : (endStage f m ≡ Done 7 p) ↔ (Opens f × TilesStop (below f) NoRecord p)
-  -- "and for 14 in the sweep": so too
+  -- 11.2: "and for 14 in the sweep": so too
   pub swept : Opens f → TilesStop (below f) NotCarried p → endStage f m ≡ Done 14 p
-  -- after the opening 14 lies there, or, "14 .. on a claim", at a record that says of its values that they are compressed
+  -- after the opening 14 lies there, or, "14 .. on a claim" (11.2), at a record that says of its values that they are compressed
   pub fourteen : Opens f → endStage f m ≡ Done 14 p → TilesStop (below f) NotCarried p ⊎ CompressedAt (below f) p
-  -- "the record holding the link", "the target": a record of the file
+  -- 11.2: "the record holding the link", "the target": a record of the file
   pub linked : (v : ℕ) → OfLink v → endStage f m ≡ Done v p → Opens f × RecordAt (below f) p
-  -- "the target for .. 23": an index record
+  -- 11.2: "the target for .. 23": an index record
   pub deeper : endStage f m ≡ Done 23 p → typedAt (below f) p (pos 6) ≡ true
-  -- "the first unclaimed record for 13": the first that no link reaches
+  -- 11.2: "the first unclaimed record for 13": the first that no link reaches
   pub thirteen : (endStage f m ≡ Done 13 p) ↔ (Opens f × FirstUnreached (below f) p)
-  -- "0 for the others": a refusal of the opening has no place
+  -- 11.2: "0 for the others": a refusal of the opening has no place
   pub unopened : (v : ℕ) → (Opens f → ⊥) → endStage f m ≡ Done v p → p ≡ 0
 
 abbrev pub WhereItLies : Type 0

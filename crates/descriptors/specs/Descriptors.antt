@@ -1,4 +1,4 @@
--- Descriptors: what the CDR, the GDR, a VDR, an ADR and an AEDR say. Document 01, "Values". Assumes nothing.
+-- Descriptors: what the CDR, the GDR, a VDR, an ADR and an AEDR say. Section 16 of docs/RULES.md. Assumes nothing.
 use Prim.Native.Nat.{ℕ, zero, suc, _+_, _-_, _*_}
 use mathlib.Core.Bool.{Bool, false, cond, _&&_, _||_}
 use mathlib.Core.List.{List, [], _∷_}
@@ -40,7 +40,7 @@ abbrev pub among : List ℕ → ℕ → Bool
 among [] x = false
 among (y ∷ ys) x = eqb x y || among ys x
 
--- "fields other than size, record type, links, tail, compression offset, blocking and rfu": of an ADR scope, Num, both counts and
+-- 16.2: "fields other than size, record type, links, tail, compression offset, blocking and rfu": of an ADR scope, Num, both counts and
 -- maxima; of an AEDR Num, data type, entry number, elements; of a VDR data type, MaxRec, flags, sRecords, elements, Num
 abbrev pub attributeFields : List ℕ
 attributeFields = scopeAt 0 ∷ attrNumAt 0 ∷ grCountAt 0 ∷ maximumAfter (grCountAt 0) ∷ zCountAt 0 ∷ maximumAfter (zCountAt 0) ∷ []
@@ -71,11 +71,11 @@ attributeField f n field = fieldOn (bodyOf f) 4 field (attributeWay f n)
 unfoldable pub entryField : List ℕ → ℤ → ℤ → Wanted → ℕ → Field
 entryField f a k w field = fieldOn (bodyOf f) (kindAmong 5 9 k) field (entryWay f a k w)
 
--- ---- dimensions: the d-th of n fields from p on; "a dimension that is not there, 18"
+-- ---- dimensions: the d-th of n fields from p on; 16.3: "a dimension that is not there is 18"
 unfoldable pub rowField : List ℕ → ℕ → ℕ → ℤ → Field
 rowField f p n d = cond (indexRight d n) (Is (fieldAt f (p + 4 * natOr 0 d))) (Refused 18)
 
--- the GDR's, of the rVariables: "sizes from 60"
+-- the GDR's, of the rVariables: "sizes 60" (4.5)
 abbrev pub gdrSize : List ℕ → ℤ → Field
 gdrSize f d = rowField f (rDimSizesAt (gdrAt f)) (rNumDims f (gdrAt f)) d
 
@@ -118,7 +118,7 @@ levelsOn f r (Stopped v) = Refused v
 unfoldable pub variableLevels : List ℕ → ℤ → ℤ → ℤ → Field
 variableLevels f k n r = levelsOn (bodyOf f) r (variableWay f k n)
 
--- ---- names: "names up to the NUL", 64 bytes at most
+-- ---- names: "names up to the NUL" (16.4), 64 bytes at most
 unfoldable pub untilNul : List ℕ → ℕ → ℕ → ℕ
 untilNul f p zero = 0
 untilNul f p (suc n) = cond (eqb (getD f p 0) 0) 0 (suc (untilNul f (suc p) n))
@@ -128,15 +128,16 @@ abbrev pub nameOn : List ℕ → ℕ → Way → Name
 nameOn f field (Found o left) = Bytes (o + field) (untilNul f (o + field) 64)
 nameOn f field (Stopped v) = Nameless v
 
--- VDR: "name 64"; ADR: "name 52 (64 bytes)"
+-- 4.8: "name 64"; 4.6: "name 52 64 bytes"
 unfoldable pub variableName : List ℕ → ℤ → ℤ → Name
 variableName f k n = nameOn (bodyOf f) (varNameAt 0) (variableWay f k n)
 
 unfoldable pub attributeName : List ℕ → ℤ → Name
 attributeName f n = nameOn (bodyOf f) (attrNameAt 0) (attributeWay f n)
 
--- ---- "majority, encoding, counts and rVariable dimensions": 0 majority, 1 for row and 0 for column; 1 encoding; 2 NrVars, 3 NzVars,
--- 4 NumAttr; 5 the number of dimensions of the rVariables; 6 how many bytes of padding lie behind the end; any other 18
+-- ---- 16.1: "majority (1 row, 0 column), encoding, counts (NrVars, NzVars, NumAttr), rVariable dimensions": 0 majority, 1 for row and 0
+-- for column; 1 encoding; 2 NrVars, 3 NzVars, 4 NumAttr; 5 the number of dimensions of the rVariables; 6 how many bytes of padding lie
+-- behind the end; any other 18
 abbrev pub majority : Bool → ℤ
 majority row = cond row (pos 1) (pos 0)
 
@@ -150,7 +151,7 @@ abbrev pub fileFieldIn : List ℕ → ℕ → Field
 fileFieldIn f what =
     cond (eqb what 0) (Is (majority (bitAt f cdrFlagsAt 1))) (cond (leb what 5) (Is (fieldAt f (fileFieldAt f what))) (Refused 18))
 
--- #101: the length less the end
+-- 16.1: "its length less its end"
 abbrev pub padding : List ℕ → ℤ
 padding f = pos (length f - fileEnd f)
 

@@ -1,4 +1,4 @@
--- The "proleptic Gregorian calendar", from 1 January of year 0 on. Request #110. Assumes nothing.
+-- The "proleptic Gregorian calendar" (17.2), from 1 January of year 0 on. Section 17 of docs/RULES.md. Assumes nothing.
 use Prim.Native.Nat.{ℕ, zero, suc, _+_, _-_, _%_}
 use mathlib.Core.Bool.{Bool, not, _&&_, _||_, cond}
 use mathlib.Core.List.{[], _∷_}

@@ -1,4 +1,5 @@
--- Epochs. "Type 31 is a double counting milliseconds from year 0." Request #110. Assumes nothing.
+-- Epochs, each "a double of type 31, counting milliseconds from the beginning of year 0" (17.1). Section 17 of docs/RULES.md. Assumes
+-- nothing.
 use Prim.Native.Nat.{ℕ, _+_, _*_, _/_, _%_}
 use mathlib.Core.Bool.{Bool, true, false, not, _&&_, cond}
 use lib.Dec.{leb, ltb, eqb}
@@ -17,8 +18,9 @@ dayLength = 86400000
 abbrev pub lastEpoch : ℕ
 lastEpoch = 315569519999999
 
--- The milliseconds that a double counts, "for whole values from year 0 to 9999; all else is 27, negative zero included". A finite double is m * 2 ^ e, the
--- fraction m * up e / down e; it is whole where down e divides. Its sign s is set where it is negative, and that of negative zero is set too.
+-- The milliseconds that a double counts, "whole values from year 0 to 9999 .. All else is 27, negative zero included" (17.1). A finite double is m *
+-- 2 ^ e, the fraction m * up e / down e; it is whole where down e divides. Its sign s is set where it is negative, and that of negative zero is set
+-- too.
 unfoldable pub countOf : Float → Count
 countOf nan = NoEpoch
 countOf (inf s) = NoEpoch
@@ -29,12 +31,12 @@ abbrev pub isWhole : Count → Bool
 isWhole (Whole n) = true
 isWhole NoEpoch = false
 
--- "such epochs"
+-- 17.5: "such epochs"
 unfoldable pub isEpoch : Float → Bool
 unfolding countOf
 isEpoch x = isWhole (countOf x)
 
--- "from year 0 to 9999": a date of these years, and milliseconds of the day
+-- 17.1: "from year 0 to 9999": a date of these years, and milliseconds of the day
 unfoldable pub isMoment : Date → ℕ → Bool
 unfolding isDate
 isMoment d t = leb (d .year) 9999 && (isDate d && ltb t dayLength)
@@ -49,7 +51,7 @@ unfoldable pub countMoment : Date → ℕ → Count
 unfolding isMoment countAt
 countMoment d t = cond (isMoment d t) (Whole (countAt d t)) NoEpoch
 
--- "the way back", from the numbers that a caller gives; where one is negative there is none
+-- 17.4: "the way back", from the numbers that a caller gives; where one is negative there is none
 unfoldable pub countFrom : ℤ → ℤ → ℤ → ℤ → Count
 unfolding countMoment
 countFrom (pos y) (pos m) (pos d) (pos t) = countMoment (date y m d) t

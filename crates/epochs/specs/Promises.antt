@@ -1,4 +1,5 @@
--- What is promised of dates and epochs, of every double that binary64 holds (`fits`), as each `f64` is. Request #110. Assumes nothing.
+-- What is promised of dates and epochs, of every double that binary64 holds (`fits`), as each `f64` is. Section 17 of docs/RULES.md.
+-- Assumes nothing.
 use mathlib.Core.Path.{_≡_}
 use mathlib.Core.Bool.{true, false}
 use Prim.Native.Nat.{ℕ, suc, _*_, _≤_}
@@ -32,8 +33,8 @@ pub record CountsOf (x : Float) (n : ℕ) : Type 0 where
 abbrev pub WholeNumbers : Type 0
 WholeNumbers = (x : Float) (n : ℕ) → T (fits binary64 x) → CountsOf x n
 
--- "Show both round trips": from an epoch to its date and back, and from a date to its epoch and back, whatever the caller's numbers were. So a date that is
--- shown is one of the years 0 to 9999, and each such date is shown.
+-- 17.6: "Both round trips lead back": from an epoch to its date and back, and from a date to its epoch and back, whatever the caller's numbers were.
+-- So a date that is shown is one of the years 0 to 9999, and each such date is shown.
 abbrev pub DateAndBack : Type 0
 DateAndBack =
     (x : Float) → T (fits binary64 x) → (y m d t : ℤ) (z : Float)
@@ -46,7 +47,8 @@ EpochAndBack =
     → let s = epochShown (countFrom y m d t) z in
     s .answer ≡ pos 0 → dateShown (countOf (s .double)) y₀ m₀ d₀ t₀ ≡ shownDate (pos 0) y m d t
 
--- "must be shown exact": the one subtraction gives the double of the integer m - n, which has no fraction and is m - n itself; of equal epochs it is +0
+-- 17.5: "one subtraction of doubles, and exact": the one subtraction gives the double of the integer m - n, which has no fraction and is m - n
+-- itself; of equal epochs it is +0
 pub record Difference (a b : Float) (m n : ℕ) : Type 0 where
   pub shown : (z : Float) → differenceShown a b z ≡ shownDouble (pos 0) (ofInt binary64 (pos m -ℤ pos n))
   pub whole : T (inSigned binary64 63 (ofInt binary64 (pos m -ℤ pos n)))

@@ -1,4 +1,5 @@
--- What the calls for C give back: 0 and what is asked for; "all else is 27", and the caller's numbers are as they were. Request #110. Assumes nothing.
+-- What the calls for C give back: 0 and what is asked for; 17.1: "all else is 27", and the caller's numbers are as they were. Section 17 of
+-- docs/RULES.md. Assumes nothing.
 use Prim.Native.Nat.{ℕ, _/_, _%_}
 use mathlib.Core.Bool.{_&&_, cond}
 use lib.IntN.{ℤ, pos}
@@ -9,7 +10,7 @@ use Rattle.epochs.specs.declared.counts.Count.the-variants.{Whole, NoEpo
 use Rattle.epochs.specs.Calendar.{dateOf}
 use Rattle.epochs.specs.Epochs.{dayLength, isEpoch}
 
--- ---- "year, month, day and milliseconds of the day"
+-- ---- 17.3: "year, month, day and milliseconds of the day"
 pub record ShownDate : Type 0 where
   pub answer : ℤ
   pub year : ℤ
@@ -41,7 +42,7 @@ unfoldable pub epochShown : Count → Float → ShownDouble
 epochShown (Whole n) x = shownDouble (pos 0) (ofInt binary64 (pos n))
 epochShown NoEpoch x = shownDouble (pos 27) x
 
--- "The difference of two such epochs is one subtraction of doubles"
+-- 17.5: "The difference of two such epochs is one subtraction of doubles"
 unfoldable pub differenceShown : Float → Float → Float → ShownDouble
 unfolding isEpoch
 differenceShown a b x = cond (isEpoch a && isEpoch b) (shownDouble (pos 0) (sub binary64 a b)) (shownDouble (pos 27) x)

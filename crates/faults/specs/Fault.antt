@@ -1,4 +1,4 @@
--- THE LOCATION of a refusal: request #107. Assumes nothing.
+-- THE LOCATION of a refusal: section 11 of docs/RULES.md. Assumes nothing.
 use Prim.Native.Nat.{ℕ}
 use mathlib.Core.Bool.{Bool, cond, not, _&&_, _||_}
 use lib.Dec.{eqb}
@@ -21,12 +21,12 @@ claiming h t = record { holder = h; target = t; swept = 0; unclaimed = 0 }
 abbrev pub leaving : ℕ → Involved
 leaving o = record { holder = 0; target = 0; swept = 0; unclaimed = o }
 
--- "on a claim": there is a target. None is at 0: a link to 0, or to no record, is 8
+-- 11.2: "on a claim": there is a target. None is at 0: a link to 0, or to no record, is 8
 abbrev pub claims : Involved → Bool
 claims r = not (eqb (r .target) 0)
 
 -- WHICH RECORD, FOR WHICH NUMBER: "the record holding the link for 8, 9, 11 at a list end, 12; the target for 10, 23, and 14 and 11 on a
--- claim; the swept place for 7 and for 14 in the sweep; the first unclaimed record for 13; 0 for the others"
+-- claim; the swept offset for 7 and for 14 in the sweep; the first unclaimed record for 13; 0 for the others" (11.2)
 unfoldable pub faultAt : Involved → ℕ → ℕ
 faultAt r v =
     cond (eqb v 8 || eqb v 9 || eqb v 12 || eqb v 11 && not (claims r)) (r .holder)

@@ -1,5 +1,5 @@
--- THE HOLDER of a link: request #107, "the record holding the link". Where the walk stands says which it is; nothing is saved for it.
--- Assumes nothing.
+-- THE HOLDER of a link: "the record holding the link" (11.2). Where the walk stands says which it is; nothing is saved for it. Assumes
+-- nothing.
 use Prim.Native.Nat.{ℕ, _-_}
 use mathlib.Core.Bool.{cond}
 use lib.Dec.{eqb}
@@ -7,13 +7,14 @@ use Rattle.records.specs.Layout.{cdrOffset, nextAt, headOfRVariables, headOfZVa
 use Rattle.walk.specs.declared.positions.Walk as W
 use Rattle.walk.specs.declared.positions.Walk.the-variants.{Start, Vars, Chain, Entry, Attrs, Entries, Unused}
 
--- where a link stands in its record: the head of a list of which none is taken yet, told by 0; else the last one's "Next 8"
+-- where a link stands in its record: the head of a list of which none is taken yet, told by 0; else the last one's "the link to the next
+-- one at 8" (4.3)
 abbrev pub linkIn : ℕ → ℕ → ℕ
 linkIn taken head = cond (eqb taken 0) head (nextAt 0)
 
--- the record that a link at p stands in. The CDR, at 8, has the link to the GDR. "Heads: rVDR 8, zVDR 12, ADR 16, UIR 44"; "VXRhead 20";
--- "AgrEDR head 12, .. AzEDR head 36". An index entry stands in its VXR. A link too low for that, which only
--- numbers made up have, gives 0
+-- the record that a link at p stands in. The CDR, at 8, has the link to the GDR. 4.5: "rVDR head 8 .. zVDR head 12 .. ADR head 16 .. UIR
+-- head 44"; 4.8: "VXRhead 20"; 4.6: "AgrEDR head 12 .. AzEDR head 36". An index entry stands in its VXR. A link too low for that, which
+-- only numbers made up have, gives 0; 11.3: "what would lie below 0 is 0"
 unfoldable pub holderOf : W.Walk → ℕ
 holderOf Start = cdrOffset
 holderOf (Vars k p n greatest) = p - linkIn n (cond (eqb k 8) (headOfZVariables 0) (headOfRVariables 0))

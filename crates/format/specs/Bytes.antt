@@ -11,7 +11,7 @@ abbrev pub bigFrom : ℕ → List ℕ → ℕ
 bigFrom n [] = n
 bigFrom n (b ∷ bs) = bigFrom (n * 256 + b) bs
 
--- the n bytes at an offset, "big-endian": the first the most significant
+-- the n bytes at an offset, "big-endian" (3.1): the first the most significant
 unfoldable pub bigAt : List ℕ → ℕ → ℕ → ℕ
 bigAt s at n = bigFrom 0 (take n (drop at s))
 
@@ -20,7 +20,7 @@ abbrev pub littleOf : List ℕ → ℕ
 littleOf [] = 0
 littleOf (b ∷ bs) = b + 256 * littleOf bs
 
--- the n bytes at an offset, "little-endian"
+-- the n bytes at an offset, "little-endian" (3.8)
 unfoldable pub littleAt : List ℕ → ℕ → ℕ → ℕ
 littleAt s at n = littleOf (take n (drop at s))
 
@@ -39,7 +39,7 @@ pub record Four (s : List ℕ) (at : ℕ) : Type 0 where
 abbrev pub swappedOf : ℕ → ℕ
 swappedOf n = ((n % 256 * 256 + n / 256 % 256) * 256 + n / 65536 % 256) * 256 + n / 16777216
 
--- two's complement: of k + 1 bits, a number of 2 ^ k or more stands for that number less 2 ^ (k + 1)
--- ("A 2-byte signed value above 32,767 as a plain number is that number less 65,536; likewise for 1 and 4 bytes")
+-- two's complement: of k + 1 bits, a number of 2 ^ k or more stands for that number less 2 ^ (k + 1) (3.2: "A 2-byte signed value above
+-- 32,767 as a plain number is that number less 65,536; likewise for 1 and 4 bytes")
 abbrev pub signedOf : ℕ → ℕ → ℤ
 signedOf k n = cond (ltb n (2 ^ k)) (pos n) (negsuc (2 ^ suc k - suc n))

@@ -24,7 +24,7 @@ vaxG = 3
 abbrev pub stores : ℕ → ℕ → Encoding
 stores o f = record { order = o; float = f }
 
--- "Encodings 1, 2, 5, 7, 9, 11, 12 are big-endian, the rest little-endian; 3, 14, 15 have VAX floats"; "one of 1 to 7, 9, 11 to 16"
+-- 3.8: "Encodings 1, 2, 5, 7, 9, 11, 12 are big-endian, the rest little-endian; 3, 14, 15 have VAX floats"; "one of 1 to 7, 9, 11 to 16"
 abbrev pub encodings : List (ℕ × Encoding)
 encodings =
     (1, stores big ieee)

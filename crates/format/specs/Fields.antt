@@ -13,7 +13,7 @@ use Rattle.format.specs.Bytes.{bigAt, signedOf}
 unfoldable pub endOf : List ℕ → ℕ
 endOf f = length f
 
--- "All control fields are 4-byte two's complement, big-endian"
+-- 3.1: "All control fields are 4-byte two's complement, big-endian"
 unfoldable pub fieldAt : List ℕ → ℕ → ℤ
 fieldAt f at = signedOf 31 (bigAt f at 4)
 
@@ -23,7 +23,7 @@ eqZ (pos a) (negsuc b) = false
 eqZ (negsuc a) (pos b) = false
 eqZ (negsuc a) (negsuc b) = eqb a b
 
--- the field at an offset is k, "k or more", at most k
+-- the field at an offset is k, k or more, at most k
 unfoldable pub isAt : List ℕ → ℕ → ℤ → Bool
 isAt f at k = eqZ (fieldAt f at) k
 
@@ -67,10 +67,10 @@ abbrev pub before : ℕ → ℤ
 before zero = negsuc 0
 before (suc n) = pos n
 
--- a link as an offset; a negative one as 1, where no record starts either ("A link below 8 .. is no start")
+-- a link as an offset; a negative one as 1, where no record starts either (3.4: "A link below 8 .. is no start")
 unfoldable pub linkAt : List ℕ → ℕ → ℕ
 linkAt f at = natOr 1 (fieldAt f at)
 
--- the bit of weight w of the flags at an offset is set
+-- the bit of weight w of the flags at an offset is set; 3.5: "Bit n of flags has the weight 2^n"
 unfoldable pub bitAt : List ℕ → ℕ → ℕ → Bool
 bitAt f at w = eqb (bigAt f at 4 / w % 2) 1

@@ -23,7 +23,7 @@ code = 4
 abbrev pub takes : ℕ → ℕ → DataType
 takes n k = record { size = n; kind = k }
 
--- "types 1, 11, 41, 51, 52 take 1; 2, 12 take 2; 4, 14, 21, 44 take 4; 22, 31, 45 take 8"
+-- 3.6: "types 1, 11, 41, 51, 52 take 1 byte; 2, 12 take 2; 4, 14, 21, 44 take 4; 22, 31, 45 take 8"
 abbrev pub types : List (ℕ × DataType)
 types =
     (1, takes 1 signed)

@@ -16,8 +16,8 @@ pub record Grant : Type 0 where
   pub number : ℕ
   pub other : Option (List ℕ × List ℕ)
 
--- what a list of grants has come to: the state; the list's marks; the steps reported, added up; the numbers of the grants not
--- refused with 21, added up; "what its last grant not refused with 21 answers, or -1 if there is none", and its location
+-- what a list of grants has come to: the state; the list's marks; the steps reported, added up; the numbers of the grants not refused with
+-- 21, added up; 9.12: "what its last grant not refused with 21 answers, or -1 if there is none", and its location
 pub record Played : Type 0 where
   pub state : List ℕ
   pub marks : List ℕ
@@ -26,7 +26,7 @@ pub record Played : Type 0 where
   pub answer : ℤ
   pub location : ℕ
 
--- "Fresh is the state docs/ gives to begin with"
+-- 10.1: "Fresh, the state to begin with"
 abbrev pub begun : List ℕ → Played
 begun m = record { state = save fresh; marks = m; steps = 0; held = 0; answer = negsuc 0; location = 0 }
 
@@ -69,7 +69,7 @@ playFrom f q (g ∷ gs) = playFrom f (joined q g (nextOf f q g)) gs
 abbrev pub play : List ℕ → List ℕ → List Grant → Played
 play f m gs = playFrom f (begun m) gs
 
--- "A list's grants are lent the same file and marks ..; those of 0, after the end or refused with 21 may be lent others"
+-- 9.11: "A list's grants are lent the same file and marks ..; those of 0, after the end or refused with 21 may be lent others"
 abbrev pub FairNext : List ℕ → Played → Grant → Type 0
 FairNext f q g =
     (g .other ≡ none) ⊎ ((g .number ≡ 0) ⊎ ((finished (load (q .state) .stage) ≡ true) ⊎ (nextOf f q g .answer ≡ pos 21)))

@@ -1,4 +1,4 @@
--- The parts of the two areas that are a job's own, and when a round is refused (request #105). Assumes nothing.
+-- The parts of the two areas that are a job's own, and when a round is refused (section 12 of docs/RULES.md). Assumes nothing.
 use Prim.Native.Nat.{ℕ, zero, suc, _+_}
 use mathlib.Core.Bool.{Bool, false, not, _&&_, _||_}
 use mathlib.Core.List.{List, _++_}
@@ -22,11 +22,11 @@ noParts = record { file = record { from = 0; len = 0 }; marks = record { from = 
 unfoldable pub inside : Part → ℕ → Bool
 inside p n = leb (p .from + p .len) n
 
--- "parts outside an area"
+-- 12.4: "parts outside an area"
 unfoldable pub outside : Parts → ℕ → ℕ → Bool
 outside p files marks = not (inside (p .file) files) || not (inside (p .marks) marks)
 
--- "overlapping parts of nonzero length": each begins before the other ends
+-- 12.4: "overlapping parts of nonzero length": each begins before the other ends
 unfoldable pub overlap : Part → Part → Bool
 overlap p r = (not (eqb (p .len) 0) && not (eqb (r .len) 0)) && (ltb (p .from) (r .from + r .len) && ltb (r .from) (p .from + p .len))
 
@@ -50,6 +50,7 @@ clashBefore p i = anyTo (λ k. clash (p k) (p i)) i
 abbrev pub anyClash : (ℕ → Parts) → ℕ → Bool
 anyClash p n = anyTo (clashBefore p) n
 
--- "q of 0, more than eight jobs, parts outside an area or overlapping parts of nonzero length: refused with 24": n jobs, areas of these lengths
+-- 12.4: "q of 0, more than eight jobs, parts outside an area or overlapping parts of nonzero length: refused with 24": n jobs, areas of these
+-- lengths
 unfoldable pub refusedOf : (ℕ → Parts) → ℕ → ℕ → ℕ → ℕ → Bool
 refusedOf p n files marks q = eqb q 0 || (ltb 8 n || (anyOutside p n files marks || anyClash p n))

@@ -1,4 +1,4 @@
--- The way through the index of a variable to the values of a record. Document 01, "Values". Assumes nothing.
+-- The way through the index of a variable to the values of a record. Section 13 of docs/RULES.md. Assumes nothing.
 use Prim.Native.Nat.{ℕ, zero, suc, _+_, _-_, _*_}
 use mathlib.Core.Bool.{Bool, cond, _&&_}
 use mathlib.Core.List.{List}
@@ -22,11 +22,12 @@ use Rattle.lookup.specs.declared.indexes.Values.the-variants.{Record, Re
 use Rattle.lookup.specs.declared.indexes.Levels.{Levels}
 use Rattle.lookup.specs.declared.indexes.Levels.the-variants.{Are, Unknown}
 
--- "bit 0 record variance" of the VDR at v
+-- 4.8: "bit 0 record variance" of the VDR at v
 abbrev pub recordVaries : List ℕ → ℕ → Bool
 recordVaries f v = bitAt f (varFlagsAt v) 1
 
--- "A record number from 0 to MaxRec is looked up; with record variance clear any number from 0 reads record 0, and 16 is given if MaxRec is -1"
+-- 13.6: "A record number from 0 to MaxRec is looked up; with record variance clear any number from 0 reads record 0, and 16 is given if MaxRec
+-- is -1"
 unfoldable pub recordThere : List ℕ → ℕ → ℤ → Bool
 recordThere f v r = leZ (pos 0) r && cond (recordVaries f v) (leZ r (fieldAt f (maxRecAt v))) (atLeast f (maxRecAt v) (pos 0))
 
@@ -37,8 +38,8 @@ recordRead f v r = cond (recordVaries f v) (natOr 0 r) 0
 unfoldable pub recordNumber : List ℕ → ℕ → ℤ → RecordNumber
 recordNumber f v r = cond (recordThere f v r) (There (recordRead f v r)) Missing
 
--- n used entries of the VXR x from entry i on, to the one that covers r; "index entries rise as in the check, offsets passed over
--- unjudged"; none ends above most
+-- n used entries of the VXR x from entry i on, to the one that covers r; 13.7: "Index entries rise as in the check (8.8), offsets passed
+-- over unjudged"; none ends above most
 unfoldable pub scanned : List ℕ → ℕ → ℕ → ℕ → ℕ → ℕ → ℕ → Scan
 scanned f x r most zero i floor = Passed floor
 scanned f x r most (suc n) i floor =
@@ -59,7 +60,7 @@ afterScan Broken left next = Halted 20
 unfoldable pub lastIndex : List ℕ → ℕ → Index
 lastIndex f p = cond (eqb (linkAt f p) 0) (Halted 17) (Halted 20)
 
--- "the index chain to the covering entry or its end": from the link at p; 17 at its end
+-- 13.2: "the index chain to the covering entry or its end": from the link at p; 17 at its end
 unfoldable pub indexed : List ℕ → ℕ → ℕ → ℕ → ℕ → Index
 indexed f r p floor zero = lastIndex f p
 indexed f r p floor (suc left) =
@@ -67,22 +68,22 @@ indexed f r p floor (suc left) =
     cond (eqb x 0) (Halted 17)
     (cond (indexMet f x) (afterScan (scanned f x r noLimit (usedAt f x) 0 floor) left (λ upper. indexed f r (nextAt x) upper left)) (Halted 20))
 
--- ---- request #104: a lower record can be met; "a lower record has next 0"
+-- ---- 8.9: a lower record can be met; 8.10: "a lower record has next 0"
 unfoldable pub lowerMet : List ℕ → ℕ → Bool
 lowerMet f x = indexMet f x && eqb (linkAt f (nextAt x)) 0
 
--- the used entries of the lower record that the entry e names, to the one that covers r: "its ranges rise within the naming entry's"
+-- the used entries of the lower record that the entry e names, to the one that covers r: "ranges rise within the naming entry's" (8.11)
 abbrev pub lowerScan : List ℕ → ℕ → Entry → Scan
 lowerScan f r e = scanned f (e .link) r (e .last) (usedAt f (e .link)) 0 (e .first)
 
--- "a lower record that ends without covering is 17"
+-- 13.9: "a lower record that ends without covering is 17"
 abbrev pub afterLower : Scan → (Entry → Index) → Index
 afterLower (Covering d) next = next d
 afterLower (Passed floor) next = Halted 17
 afterLower Broken next = Halted 20
 
--- "A lookup goes down level by level, each with one level fewer left": from the covering entry e to the lowest one, where left more
--- records may be met; "On the reader's way a breach of these, or a ninth level, is 20"
+-- 13.9: "A lookup goes down level by level, each with one level fewer left": from the covering entry e to the lowest one, where left more
+-- records may be met; 13.9: "A breach of 8.10 or 8.11, or a ninth level, is 20"
 unfoldable pub lowered : ℕ → List ℕ → ℕ → Entry → ℕ → Index
 lowered zero f r e left = cond (indexAt f (e .link)) (Halted 20) (Covered e left)
 lowered (suc n) f r e left =
@@ -94,7 +95,7 @@ abbrev pub lowestOf : List ℕ → ℕ → Index → Index
 lowestOf f r (Covered e left) = lowered levelsBelow f r e left
 lowestOf f r (Halted v) = Halted v
 
--- "then the VVR", one more record met
+-- 13.2: "then the VVR", one more record met
 unfoldable pub valuesMet : List ℕ → Entry → ℕ → ℕ → Bool
 valuesMet f e bytes left = leb 1 left && (landsOn f 7 (e .link) && eqb (vvrRule f (e .link) (e .last - e .first + 1) bytes) 0)
 
@@ -127,6 +128,7 @@ levelsThere (Covering d) from = from d
 levelsThere (Passed floor) from = 0
 levelsThere Broken from = 0
 
+-- 13.12: "1 where an entry of the top chain names its values, and one more with each lower record"
 unfoldable pub levelsFrom : ℕ → List ℕ → ℕ → Entry → ℕ
 levelsFrom zero f r e = 1
 levelsFrom (suc n) f r e = cond (indexAt f (e .link)) (1 + levelsThere (lowerScan f r e) (λ d. levelsFrom n f r d)) 1

@@ -1,4 +1,4 @@
--- The way along the lists: CDR and GDR, a list from its head to the wanted record. Document 01, "Values". Assumes nothing.
+-- The way along the lists: CDR and GDR, a list from its head to the wanted record. Section 13 of docs/RULES.md. Assumes nothing.
 use Prim.Native.Nat.{ℕ, zero, suc, _+_, _-_, _/_}
 use mathlib.Core.Bool.{Bool, cond, not, _&&_, _||_}
 use mathlib.Core.List.{List}
@@ -17,26 +17,27 @@ use Rattle.lookup.specs.declared.lists.Wanted.the-variants.{Place, Numbe
 use Rattle.lookup.specs.declared.lists.Way.{Way}
 use Rattle.lookup.specs.declared.lists.Way.the-variants.{Found, Stopped}
 
--- the file opens; "a file refused 1, 3, 4, 5, 14 or 6 at opening, is 20"
+-- the file opens; 13.1: "A file refused 1, 3, 4, 5, 14 or 6 at opening is 20"
 unfoldable pub opened : List ℕ → Bool
 opened f = not (tooLong f) && eqb (opening f) 0
 
--- "more than length/8 records met": how many may be met after the CDR and the GDR, by the whole length, padding too
+-- 13.3: "more than length/8 records met": how many may be met after the CDR and the GDR, by the whole length, padding too; 6.5: "By the
+-- length go .. the reader's allowance"
 unfoldable pub allowance : List ℕ → ℕ
 allowance f = length f / 8 - 2
 
--- "Each record met must .. lie inside the file, each link land at 8 or above on the right type"; #101: "inside" is read "as below" eof
+-- 13.4: "Each record met must .. lie inside the file, each link land at 8 or above on the right type"
 unfoldable pub landsOn : List ℕ → ℕ → ℕ → Bool
 landsOn f t o = leb 8 o && (leb (o + 8) (endOf f) && (typedAt f o (pos t) && leb (o + sizeAt f o) (endOf f)))
 
 abbrev pub isEntryKind : ℕ → Bool
 isEntryKind t = eqb t 5 || eqb t 9
 
--- the VDR of a kind keeps its rule; "Flags bit 2 set" is a breach too
+-- the VDR of a kind keeps its rule; 13.4: "Flags bit 2 set" is a breach too
 unfoldable pub vdrKept : List ℕ → ℕ → ℕ → Bool
 vdrKept f k o = eqb (carriedOf f o) 0 && eqb (variableOf f k o .fault) 0
 
--- "Each record met must meet its Records rule": 4 an ADR, 5 and 9 an AEDR, 3 and 8 a VDR
+-- 13.4: "Each record met must meet its rule": 4 an ADR, 5 and 9 an AEDR, 3 and 8 a VDR
 unfoldable pub ruleKept : List ℕ → ℕ → ℕ → Bool
 ruleKept f t o =
     cond (eqb t 4) (eqb (adrRule f o) 0)
@@ -46,12 +47,13 @@ ruleKept f t o =
 unfoldable pub meets : List ℕ → ℕ → ℕ → Bool
 meets f t o = landsOn f t o && ruleKept f t o
 
--- the record at o, at the place i of its list, is the wanted one: "the wanted place", or "the first of that number"
+-- the record at o, at the place i of its list, is the wanted one: "the wanted place" (13.2), or "the first of that number" (13.2); 13.8:
+-- "by its number, the first that has it, or by its place in the list"
 abbrev pub wantedAt : List ℕ → Wanted → ℕ → ℕ → Bool
 wantedAt f (Place n) i o = eqb i n
 wantedAt f (Number n) i o = isAt f (entryNumAt o) n
 
--- "15 (list over)", and 16 for a list of entries
+-- 13.2: "15 (list over)", and 16 for a list of entries
 abbrev pub overOf : ℕ → ℕ
 overOf t = cond (isEntryKind t) 16 15
 
@@ -67,22 +69,22 @@ sought f t w p i (suc left) =
     cond (eqb o 0) (Stopped (overOf t))
     (cond (meets f t o) (cond (wantedAt f w i o) (Found o left) (sought f t w (nextAt o) (suc i) left)) (Stopped 20))
 
--- "Heads: rVDR 8, zVDR 12, ADR 16"
--- the offset of the GDR's link to its list of records of type t
+-- 4.5: "rVDR head 8 .. zVDR head 12 .. ADR head 16": the offset of the GDR's link to its list of records of type t
 abbrev pub headOfList : List ℕ → ℕ → ℕ
 headOfList f t = cond (eqb t 3) (headOfRVariables (gdrAt f)) (cond (eqb t 8) (headOfZVariables (gdrAt f)) (headOfAttributes (gdrAt f)))
 
--- a list of the GDR from its head to a place, where left records may be met; "a place below 0, is 15 after the GDR"
+-- a list of the GDR from its head to a place, where left records may be met; 13.5: "a number of a variable or attribute below 0, is 15
+-- after the GDR"
 unfoldable pub placeWay : List ℕ → ℕ → ℤ → ℕ → Way
 placeWay f t (pos n) left = sought f t (Place n) (headOfList f t) 0 left
 placeWay f t (negsuc n) left = Stopped 15
 
--- "the sweep, links and indexes end at eof": of a file that opens the part before its end is gone through, where as many records may be
--- met as the whole length allows
+-- 6.4: "the sweep, links and indexes end at eof": of a file that opens the part before its end is gone through, where as many records may
+-- be met as the whole length allows
 abbrev pub fileWay : List ℕ → ℕ → ℤ → Way
 fileWay f t n = placeWay (bodyOf f) t n (allowance f)
 
--- "kinds are record types 3, 8 or 5, 9; any other .. is 15 after the GDR"
+-- 13.5: "Kinds are record types 3, 8 for variables and 5, 9 for entries; any other .. is 15 after the GDR"
 abbrev pub ofKinds : ℕ → ℕ → ℤ → Bool
 ofKinds a b k = eqZ k (pos a) || eqZ k (pos b)
 
@@ -102,11 +104,11 @@ variableWay f k n = cond (opened f) (cond (ofKinds 3 8 k) (fileWay f (kindAmong 
 unfoldable pub attributeWay : List ℕ → ℤ → Way
 attributeWay f n = cond (opened f) (fileWay f 4 n) (Stopped 20)
 
--- "AgrEDR head 12", "AzEDR head 36": the link to the entries of kind k of the ADR at a
+-- 4.6: "AgrEDR head 12", "AzEDR head 36": the link to the entries of kind k of the ADR at a
 abbrev pub headOfEntries : ℕ → ℕ → ℕ
 headOfEntries a k = cond (eqb k 9) (headOfZEntries a) (headOfGrEntries a)
 
--- "for an entry, the ADR's list to the first of that number or its end"
+-- 13.2: "for an entry, the ADR's list to the first of that number or its end"
 abbrev pub entriesOf : List ℕ → ℕ → Wanted → Way → Way
 entriesOf f k w (Found a left) = sought f k w (headOfEntries a k) 0 left
 entriesOf f k w (Stopped v) = Stopped v

@@ -13,15 +13,15 @@ use Rattle.marks.specs.declared.Found.{Found}
 unfoldable pub cleared : List ℕ → ℕ → ℕ → List ℕ
 cleared m at n = take at m ++ (replicate n 0 ++ drop (at + n) m)
 
--- "sets the mark at the record's start to 1 and its other marks to 0"
+-- 7.3: "sets the mark at the record's start to 1 and its other marks to 0"
 unfoldable pub marked : List ℕ → ℕ → ℕ → List ℕ
 marked m at n = set (cleared m at n) at 1
 
--- "A link below 8, past the file, or with a mark other than 1 or 2 is no start"
+-- 8.4: "a link below 8, past the file's end, or with a mark other than 1 or 2 is no start"
 unfoldable pub startAt : List ℕ → List ℕ → ℕ → Bool
 startAt f m t = leb 8 t && ltb t (endOf f) && (eqb (getD m t 0) 1 || eqb (getD m t 0) 2)
 
--- "a record other than the CDR whose type isn't -1 is unclaimed"
+-- 8.15: "a record other than the CDR .. whose type is not -1 is unclaimed"
 unfoldable pub unclaimedAt : List ℕ → List ℕ → ℕ → Bool
 unclaimedAt f m o = not (eqb o 8) && not (typedAt f o (negsuc 0)) && not (eqb (getD m o 0) 2)
 
@@ -41,6 +41,6 @@ leftFrom f m (suc n) o =
     cond (eqb o (endOf f)) (found 0 o)
     (cond (ltb (endOf f) (o + 8)) (found 20 o) (cond (unclaimedAt f m o) (found 13 o) (cond (followedAt f o) rest (found 20 o))))
 
--- "At the UIR end: 13 if a record .. is unclaimed, else accepted"; "the first unclaimed record for 13"
+-- 8.15: "At the UIR end: 13 if a record .. is unclaimed, else accepted"; 11.2: "the first unclaimed record for 13"
 unfoldable pub leftOf : List ℕ → List ℕ → Found
 leftOf f m = leftFrom f m (length f) 8

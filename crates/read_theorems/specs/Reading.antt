@@ -1,5 +1,5 @@
--- WHAT THE READER SHOWS: statements about its definitions, of every file, and of every file that the plain run accepts.
--- Document 01, "Values" and "Numbers that come back"; requests #104, #101 and #102. Assumes nothing.
+-- WHAT THE READER SHOWS: statements about its definitions, of every file, and of every file that the plain run accepts. Sections 2 and 13
+-- to 15 of docs/RULES.md. Assumes nothing.
 use mathlib.Core.Path.{_≡_}
 use mathlib.Core.Logic.{_≢_, _↔_, _⊎_}
 use mathlib.Core.Bool.{Bool, true, false, cond, _&&_}
@@ -48,10 +48,10 @@ PlainAccepts f = (m : List ℕ) × (length f ≤ length m) × (answerOf (endStag
 
 -- ---- THE VALUE SHOWN, of every file, accepted or not
 
--- #101: "the sweep, links and indexes end at eof, and 7, 8 and 20 read "end" as eof, "inside" as below it". What is shown is said of the
--- bytes f before the end of a file, `bodyOf` of it, and what a call answers of the file
+-- 6.4: "the sweep, links and indexes end at eof". What is shown is said of the bytes f before the end of a file, `bodyOf` of it, and what a
+-- call answers of the file
 
--- "the list from its head to the wanted place": the n-th record, from 0, of the list whose head link stands at p
+-- 13.2: "the list from its head to the wanted place": the n-th record, from 0, of the list whose head link stands at p
 abbrev pub nthRecord : List ℕ → ℕ → ℕ → ℕ
 nthRecord f p zero = linkAt f p
 nthRecord f p (suc n) = nthRecord f (nextAt (linkAt f p)) n
@@ -59,10 +59,10 @@ nthRecord f p (suc n) = nthRecord f (nextAt (linkAt f p)) n
 -- the record of type t at o was met as the n-th of the list whose head link stands at p
 pub record Met (f : List ℕ) (t p n o : ℕ) : Type 0 where
   pub place : nthRecord f p n ≡ o
-  -- "Each record met must meet its Records rule and lie inside the file, each link land at 8 or above on the right type"
+  -- 13.4: "Each record met must meet its rule .. and lie inside the file, each link land at 8 or above on the right type"
   pub rules : (h : ℕ) → h ≤ n → meets f t (nthRecord f p h) ≡ true
 
--- "The index entry whose First..Last covers it"
+-- 13.7: "The index entry whose First..Last covers it"
 pub record CoveredBy (f : List ℕ) (r : ℕ) (s : Slot) : Type 0 where
   pub first : firstOf f s ≤ r
   pub last : r ≤ lastOf f s
@@ -79,13 +79,14 @@ lastEntry s (t ∷ ts) = lastEntry t ts
 
 -- the way through the index of the VDR at v to the lowest entry that covers record r
 pub record IndexWay (f : List ℕ) (v r : ℕ) : Type 0 where
-  -- "the index chain to the covering entry": entry `top .entry` of the VXR `top .vxr`, a used one, and the VXR one of the chain
+  -- 13.2: "the index chain to the covering entry": entry `top .entry` of the VXR `top .vxr`, a used one, and the VXR one of the chain
   pub top : Slot
   pub place : ℕ
   pub chained : nthRecord f (headOfIndex v) place ≡ top .vxr
   pub rules : (h : ℕ) → h ≤ place → indexMet f (nthRecord f (headOfIndex v) h) ≡ true
   pub used : top .entry < usedAt f (top .vxr)
-  -- "A lookup goes down level by level": "eight levels, top included", each by a lower record that keeps its rule and has no next
+  -- 13.9: "A lookup goes down level by level": "carried to eight, top included" (8.9), each by a lower record that keeps its rule and has
+  -- no next
   pub below : List Slot
   pub down : WayDown f top below
   pub few : length below ≤ levelsBelow
@@ -104,28 +105,28 @@ reserved f at t = reservedFloat f at (typeOf (natAt f t) .kind) (encodingOf (fil
 
 -- the answer a is the element at an offset
 pub record ElementShown (f : List ℕ) (at t : ℕ) (a : Answer) : Type 0 where
-  -- "with it comes the file offset it was read from"
+  -- 14.6: "With a value comes the file offset it was read from"
   pub offset : a .offset ≡ at
-  -- what data type and encoding make of the bytes there; "Floats keep their bits", but for VAX floats
+  -- what data type and encoding make of the bytes there; 14.5: "Floats keep their bits", but for VAX floats
   pub decoded : elementOf f at t ≡ Given a
   -- the bits are those of the value, where the numbers of f are bytes, as those of every file are
   pub bits : OfBytes f → Agrees (a .value) (a .bits)
-  -- #102: "Turn F_FLOAT, D_FLOAT and G_FLOAT .. into doubles"
+  -- 15.5: "The answer is a double"
   pub vax : vaxFloat f t ≡ true → VaxGiven f at (typeOf (natAt f t) .kind) (encodingOf (fileEncoding f) .float) a
 
 -- where layout and majority put element x of the value at the indices `is`: in the record that begins at o, of the VDR at v, of kind k
 abbrev pub inRecordAt : List ℕ → ℕ → ℕ → ℕ → List ℤ → ℤ → ℕ
 inRecordAt f k v o is x = elementAt f (o + elementPlace f (layoutOf f k v) (rowMajority f) is * valueBytes f v) (dataTypeAt v) x
 
--- in record r, which the lowest entry s covers: "VVR (7). Size 8 + (Last - First + 1) × record bytes"
+-- in record r, which the lowest entry s covers: "Size is 8 + (Last - First + 1) × record bytes" (5.17)
 abbrev pub valueAt : List ℕ → ℕ → ℕ → Slot → ℕ → List ℤ → ℤ → ℕ
 valueAt f k v s r is x = inRecordAt f k v (valuesAt (namedBy f s) + (r - firstOf f s) * recordBytes f v (layoutOf f k v)) is x
 
--- "data type 16, .. elements 24 .., value from 48": element x of the entry at e
+-- 4.7: "data type 16 .. elements 24 .. value 48": element x of the entry at e
 abbrev pub entryAt : List ℕ → ℕ → ℤ → ℕ
 entryAt f e x = elementAt f (entryValueAt e) (entryTypeAt e) x
 
--- "Pad value last if bit 1 is set": it ends with the VDR at v
+-- 4.9: "A pad value comes last, if bit 1 is set": it ends with the VDR at v
 abbrev pub padAt : List ℕ → ℕ → ℤ → ℕ
 padAt f v x = elementAt f (v + sizeAt f v - valueBytes f v) (dataTypeAt v) x
 
@@ -136,13 +137,13 @@ pub record LiesIn (f : List ℕ) (o h offset n : ℕ) : Type 0 where
 
 -- what is shown for element x of the value at the indices `is` in record r of the variable of kind k and number n
 pub record ValueShown (f : List ℕ) (k n r : ℤ) (is : List ℤ) (x : ℤ) (a : Answer) : Type 0 where
-  -- "kinds are record types 3, 8"; "a place below 0, is 15"
+  -- 13.5: "kinds are record types 3, 8"; "a number of a variable or attribute below 0, is 15"
   pub kind : ofKinds 3 8 k ≡ true
   pub number : leZ (pos 0) n ≡ true
   -- the VDR, of that kind and number
   pub vdr : ℕ
   pub variable : Met f (kindAmong 3 8 k) (headOfList f (kindAmong 3 8 k)) (natOr 0 n) vdr
-  -- "A record number from 0 to MaxRec is looked up; with record variance clear any number from 0 reads record 0"
+  -- 13.6: "A record number from 0 to MaxRec is looked up; with record variance clear any number from 0 reads record 0"
   pub there : recordThere f vdr r ≡ true
   -- the way through the index, and the lowest entry that it comes to
   pub way : IndexWay f vdr (recordRead f vdr r)
@@ -150,10 +151,10 @@ pub record ValueShown (f : List ℕ) (k n r : ℤ) (is : List ℤ) (x : ℤ) (a 
   pub last : lastEntry (way .top) (way .below) ≡ slot
   pub isLowest : slot ∈ lowest f levelsBelow (way .top)
   pub covered : CoveredBy f (recordRead f vdr r) slot
-  -- "then the VVR"; "VVR (7). Size 8 + (Last - First + 1) × record bytes"
+  -- 13.2: "then the VVR"; 5.17: "Size is 8 + (Last - First + 1) × record bytes"
   pub typed : typedAt f (namedBy f slot) (pos 7) ≡ true
   pub size : sizeAt f (namedBy f slot) ≡ 8 + (lastOf f slot - firstOf f slot + 1) * recordBytes f vdr (layoutOf f (kindAmong 3 8 k) vdr)
-  -- "dimension index or element out of range, or wrong number of indices" is 18
+  -- 14.2: "dimension index or element out of range, or wrong number of indices" is 18
   pub indices : placed f (layoutOf f (kindAmong 3 8 k) vdr) is ≡ true
   pub element : elementThere f (elementsAt vdr) x ≡ true
   pub inside : LiesIn f (namedBy f slot) 8 (valueAt f (kindAmong 3 8 k) vdr slot (recordRead f vdr r) is x) (elementSize f (dataTypeAt vdr))
@@ -161,12 +162,12 @@ pub record ValueShown (f : List ℕ) (k n r : ℤ) (is : List ℤ) (x : ℤ) (a 
 
 -- what is shown for element x of the entry that is wanted, by its number or its place, of kind k, of attribute b
 pub record EntryShown (f : List ℕ) (b k : ℤ) (w : Wanted) (x : ℤ) (a : Answer) : Type 0 where
-  -- "kinds are record types .. 5, 9"; "a place below 0, is 15"
+  -- 13.5: "kinds are record types .. 5, 9"; "a number of a variable or attribute below 0, is 15"
   pub kind : ofKinds 5 9 k ≡ true
   pub number : leZ (pos 0) b ≡ true
   pub adr : ℕ
   pub attribute : Met f 4 (headOfList f 4) (natOr 0 b) adr
-  -- "for an entry, the ADR's list to the first of that number": the entry is a wanted one, none before it is
+  -- 13.2: "for an entry, the ADR's list to the first of that number": the entry is a wanted one, none before it is
   pub aedr : ℕ
   pub place : ℕ
   pub entry : Met f (kindAmong 5 9 k) (headOfEntries adr (kindAmong 5 9 k)) place aedr
@@ -208,7 +209,7 @@ pub record ShowsRight (f : List ℕ) : Type 0 where
 abbrev pub ValuesShown : Type 0
 ValuesShown = (f : List ℕ) → ShowsRight f
 
--- ---- NEVER 20: "On an accepted file it never gives 20"
+-- ---- NEVER 20: "On an accepted file the reader never gives 20" (13.11)
 
 pub record NeverTwenty (f : List ℕ) : Type 0 where
   pub value : (k n r : ℤ) (is : List ℤ) (x : ℤ) → numberOf (valueRead f k n r is x) ≢ 20
@@ -234,11 +235,11 @@ Never20 = (f : List ℕ) → PlainAccepts f → NeverTwenty f
 abbrev pub placeThere : List ℕ → ℕ → ℤ → Bool
 placeThere f p n = leZ (pos 0) n && ltZ n (fieldAt f p)
 
--- "kinds are record types 3, 8"; GDR: "NrVars 24, .. NzVars 40"
+-- 13.5: "kinds are record types 3, 8"; 4.5: "NrVars 24 .. NzVars 40"
 abbrev pub variableThere : List ℕ → ℤ → ℤ → Bool
 variableThere f k n = ofKinds 3 8 k && placeThere f (cond (eqZ k (pos 3)) (nrVarsAt (gdrAt f)) (nzVarsAt (gdrAt f))) n
 
--- "kinds are record types .. 5, 9"; GDR: "NumAttr 28"
+-- 13.5: "kinds are record types .. 5, 9"; 4.5: "NumAttr 28"
 abbrev pub attributeThere : List ℕ → ℤ → ℤ → Bool
 attributeThere f b k = ofKinds 5 9 k && placeThere f (numAttrAt (gdrAt f)) b
 
@@ -259,19 +260,21 @@ NoneCovers f vxrs r = (s : Slot) → s ∈ lowestEntries f vxrs → CoveredBy f 
 -- in the bytes b before the end of the file f the VDR at v, of kind k and number n, has the index vxrs: the number that comes back, for
 -- every record, indices and element
 pub record NumbersExact (f b : List ℕ) (k n : ℤ) (v : ℕ) (vxrs : List ℕ) : Type 0 where
-  -- "A record number from 0 to MaxRec is looked up": any other is 16
+  -- 13.6: "A record number from 0 to MaxRec is looked up": any other is 16
   pub missing : (r : ℤ) (is : List ℤ) (x : ℤ) → (numberOf (valueRead f k n r is x) ≡ 16) ↔ (recordThere b v r ≡ false)
-  -- "The index entry whose First..Last covers it is used, or 17 exactly if no used entry does"; #104: "now over the lowest entries"
+  -- 13.7: "The index entry whose First..Last covers it is used, or 17 exactly if no used entry does"; 13.10: "17 is over the lowest
+  -- entries"
   pub gap : (r : ℤ) → recordThere b v r ≡ true → (is : List ℤ) (x : ℤ)
       → (numberOf (valueRead f k n r is x) ≡ 17) ↔ NoneCovers b vxrs (recordRead b v r)
-  -- "a lower record that ends without covering is 17", so an empty one is: where an entry of any level covers the record and names one
+  -- 13.9: "a lower record that ends without covering is 17", so an empty one is: where an entry of any level covers the record and names
+  -- one
   pub empty : (r : ℤ) → recordThere b v r ≡ true → (top s : Slot) → top ∈ usedEntries b vxrs → s ∈ entriesUnder b levelsBelow top
       → CoveredBy b (recordRead b v r) s → namesIndex b s ≡ true → usedAt b (namedBy b s) ≡ 0 → (is : List ℤ) (x : ℤ)
       → numberOf (valueRead f k n r is x) ≡ 17
-  -- 18: "dimension index or element out of range, or wrong number of indices"
+  -- 18 by 14.2: "dimension index or element out of range, or wrong number of indices"
   pub wrong : (r : ℤ) → recordThere b v r ≡ true → (s : Slot) → s ∈ lowestEntries b vxrs → CoveredBy b (recordRead b v r) s → (is : List ℤ) (x : ℤ)
       → (numberOf (valueRead f k n r is x) ≡ 18) ↔ (questionRight b (kindAmong 3 8 k) v is x ≡ false)
-  -- "it is the reserved operand, refused with 22"
+  -- 15.4: "it is the reserved operand, refused with 22"
   pub operand : (r : ℤ) → recordThere b v r ≡ true → (s : Slot) → s ∈ lowestEntries b vxrs → CoveredBy b (recordRead b v r) s → (is : List ℤ) (x : ℤ)
       → (numberOf (valueRead f k n r is x) ≡ 22)
       ↔ ((questionRight b (kindAmong 3 8 k) v is x && reserved b (valueAt b (kindAmong 3 8 k) v s (recordRead b v r) is x) (dataTypeAt v)) ≡ true)
@@ -291,7 +294,7 @@ pub record CoversOnce (f b : List ℕ) (k n : ℤ) (v : ℕ) : Type 0 where
 abbrev pub CoveredOnce : Type 0
 CoveredOnce = (f : List ℕ) → PlainAccepts f → (k n : ℤ) (v left : ℕ) → variableWay f k n ≡ Found v left → CoversOnce f (bodyOf f) k n v
 
--- 15: "no such variable or attribute"
+-- 15 by 2.1: "no such variable or attribute"
 pub record NoSuch (f : List ℕ) : Type 0 where
   pub value : (k n r : ℤ) (is : List ℤ) (x : ℤ) → (numberOf (valueRead f k n r is x) ≡ 15) ↔ (variableThere (bodyOf f) k n ≡ false)
   pub entry : (b k n x : ℤ) → (numberOf (entryRead f b k n x) ≡ 15) ↔ (attributeThere (bodyOf f) b k ≡ false)
@@ -307,7 +310,7 @@ pub record NoEntry (f : List ℕ) (a t : ℕ) (n : ℤ) : Type 0 where
   pub linked : Linked f (λ e. e) (headOfEntries a t) entries
   pub none : Each entries (λ earlier e. isAt f (entryNumAt e) n ≡ false)
 
--- 16 of an entry: "no such .. entry number"
+-- 16 of an entry: "no such .. entry number" (2.1)
 abbrev pub NoEntryNumber : Type 0
 NoEntryNumber = (f : List ℕ) → PlainAccepts f → (b k n x : ℤ)
     → (numberOf (entryRead f b k n x) ≡ 16)
@@ -327,8 +330,8 @@ abbrev pub RecordFound : List ℕ → ℤ → ℤ → ℤ → (ℕ → ℕ → T
 RecordFound f k n r Fact =
     FoundWith (λ v left. RecordWith (Fact v) (recordWay (bodyOf f) v (variableOf (bodyOf f) (kindAmong 3 8 k) v .bytes) r left)) (variableWay f k n)
 
--- of every file: 18 exactly where the way was found and the question is wrong, and 22, "the reserved operand, refused with 22", exactly where it was
--- found, the question is right and the element is a reserved operand
+-- of every file: 18 exactly where the way was found and the question is wrong, and 22, "the reserved operand, refused with 22" (15.4), exactly where
+-- it was found, the question is right and the element is a reserved operand
 pub record ElementsExact (f : List ℕ) : Type 0 where
   -- of the record that begins at o
   pub valueWrong : (k n r : ℤ) (is : List ℤ) (x : ℤ)
@@ -343,7 +346,7 @@ pub record ElementsExact (f : List ℕ) : Type 0 where
   pub entryOperand : (b k : ℤ) (w : Wanted) (x : ℤ)
       → (numberOf (entryValue f b k w x) ≡ 22)
       ↔ FoundWith (λ e left. (elementThere (bodyOf f) (entryElementsAt e) x && reserved (bodyOf f) (entryAt (bodyOf f) e x) (entryTypeAt e)) ≡ true) (entryWay f b k w)
-  -- of the VDR at v: "pad value as elements (18 if there is none)"
+  -- of the VDR at v: "A pad value is given as elements, 18 if there is none" (14.2)
   pub padWrong : (k n x : ℤ) → (numberOf (padRead f k n x) ≡ 18) ↔ FoundWith (λ v left. padRight (bodyOf f) v x ≡ false) (variableWay f k n)
   pub padOperand : (k n x : ℤ)
       → (numberOf (padRead f k n x) ≡ 22)
@@ -381,19 +384,19 @@ pub record InRange (f : List ℕ) (v r : ℕ) : Type 0 where
 -- of the variable whose VDR is at v, of kind t
 abbrev pub RecordRefused : List ℕ → ℕ → ℕ → ℤ → List ℤ → ℤ → ℕ → Type 0
 RecordRefused f t v r is x m =
-    -- 16: "no such record .. number"
+    -- 16 by 2.1: "no such record .. number"
     ((m ≡ 16) × (recordThere f v r ≡ false))
-    -- 17: "record number in a gap of the index"
+    -- 17 by 2.1: "record number in a gap of the index"
     ⊎ (((m ≡ 17) × (recordThere f v r ≡ true) × InGap f v (recordRead f v r))
-    -- 18: "dimension index or element out of range, or wrong number of indices"
+    -- 18 by 14.2: "dimension index or element out of range, or wrong number of indices"
     ⊎ (((m ≡ 18) × (recordThere f v r ≡ true) × InRange f v (recordRead f v r) × (questionRight f t v is x ≡ false))
-    -- 22: "the reserved operand"
+    -- 22 by 15.4: "the reserved operand"
     ⊎ ((m ≡ 22) × (recordThere f v r ≡ true) × (i : InRange f v (recordRead f v r)) × (questionRight f t v is x ≡ true)
     × (reserved f (valueAt f t v (i .slot) (recordRead f v r) is x) (dataTypeAt v) ≡ true))))
 
 abbrev pub ValueRefused : List ℕ → ℤ → ℤ → ℤ → List ℤ → ℤ → ℕ → Type 0
 ValueRefused f k n r is x m =
-    -- 15: "no such variable"
+    -- 15 by 2.1: "no such variable"
     ((m ≡ 15) × (variableThere f k n ≡ false))
     ⊎ ((variableThere f k n ≡ true) × (v : ℕ) × Met f (kindAmong 3 8 k) (headOfList f (kindAmong 3 8 k)) (natOr 0 n) v
     × RecordRefused f (kindAmong 3 8 k) v r is x m)
@@ -407,28 +410,29 @@ LevelsRefused f k n r m =
 
 abbrev pub PadRefused : List ℕ → ℤ → ℤ → ℤ → ℕ → Type 0
 PadRefused f k n x m =
-    -- 15: "no such variable"
+    -- 15 by 2.1: "no such variable"
     ((m ≡ 15) × (variableThere f k n ≡ false))
     ⊎ ((variableThere f k n ≡ true) × (v : ℕ) × Met f (kindAmong 3 8 k) (headOfList f (kindAmong 3 8 k)) (natOr 0 n) v
-    -- "pad value as elements (18 if there is none)"; 18: "element out of range"
+    -- 14.2: "A pad value is given as elements, 18 if there is none"; "element out of range"
     × (((m ≡ 18) × (padRight f v x ≡ false))
-    -- 22: "the reserved operand"
+    -- 22 by 15.4: "the reserved operand"
     ⊎ ((m ≡ 22) × (padRight f v x ≡ true) × (reserved f (padAt f v x) (dataTypeAt v) ≡ true))))
 
 abbrev pub EntryRefused : List ℕ → ℤ → ℤ → ℤ → ℤ → ℕ → Type 0
 EntryRefused f b k n x m =
-    -- 15: "no such .. attribute"
+    -- 15 by 2.1: "no such .. attribute"
     ((m ≡ 15) × (attributeThere f b k ≡ false))
     ⊎ ((attributeThere f b k ≡ true) × (a : ℕ) × Met f 4 (headOfList f 4) (natOr 0 b) a
-    -- 16: "no such .. entry number"
+    -- 16 by 2.1: "no such .. entry number"
     × (((m ≡ 16) × NoEntry f a (kindAmong 5 9 k) n)
     ⊎ ((e : ℕ) × (place : ℕ) × Met f (kindAmong 5 9 k) (headOfEntries a (kindAmong 5 9 k)) place e × (isAt f (entryNumAt e) n ≡ true)
-    -- 18: "element out of range"
+    -- 18 by 14.2: "element out of range"
     × (((m ≡ 18) × (elementThere f (entryElementsAt e) x ≡ false))
-    -- 22: "the reserved operand"
+    -- 22 by 15.4: "the reserved operand"
     ⊎ ((m ≡ 22) × (elementThere f (entryElementsAt e) x ≡ true) × (reserved f (entryAt f e x) (entryTypeAt e) ≡ true))))))
 
 -- ---- DEMAND 2, its second half: "From an accepted file the reader gives the value that layout and encoding give, or the named refusal"
+-- (1.7)
 
 -- a value that is shown so, or a refusal of that meaning
 abbrev pub GivenOrRefused : (Answer → Type 0) → (ℕ → Type 0) → Read → Type 0
@@ -448,7 +452,7 @@ pub record ReadsRight (f : List ℕ) : Type 0 where
 abbrev pub Demand2Values : Type 0
 Demand2Values = (f : List ℕ) → PlainAccepts f → ReadsRight f
 
--- ---- PADDING UNREAD: "Bytes and marks from eof on are neither judged nor written", and no answer is taken from them
+-- ---- PADDING UNREAD: "Bytes and marks from eof on are neither judged nor written" (6.6), and no answer is taken from them
 
 -- every call answers the same of the files f and g
 pub record SameAnswers (f g : List ℕ) : Type 0 where

@@ -1,4 +1,4 @@
--- Index records, their entries, and value records; request #104's lower index records. Assumes nothing.
+-- Index records, their entries, and value records; lower index records. Sections 4, 5 and 8 of docs/RULES.md. Assumes nothing.
 use Prim.Native.Nat.{ℕ, _+_, _*_}
 use mathlib.Core.Bool.{Bool, cond, _&&_}
 use mathlib.Core.List.{List}
@@ -9,7 +9,7 @@ use Rattle.records.specs.Layout.{vxrEntriesAt, vxrUsedAt, firstsAt}
 use Rattle.records.specs.Rules.{sizeAt, typedAt, judged}
 use Rattle.records.specs.declared.index.Entry.{Entry}
 
--- "VXR (6). .. entries 12, used 16 (0 to entries), .. Size 20 + 12 × entries"
+-- 5.16: "Used is 0 to entries, size is 20 + 12 × entries"; 8.20: "A negative number of entries .. counts as 0"
 abbrev pub entriesAt : List ℕ → ℕ → ℕ
 entriesAt f x = natAt f (vxrEntriesAt x)
 
@@ -22,7 +22,7 @@ vxrRight f x = atLeast f (vxrUsedAt x) (pos 0) && inOrder f (vxrUsedAt x) (vxrEn
 unfoldable pub vxrRule : List ℕ → ℕ → ℕ
 vxrRule f x = judged f x 20 (vxrRight f x)
 
--- "then all Firsts, all Lasts, all Offsets": where those of entry i of n stand
+-- 4.10: "Firsts 20 .. Lasts behind the Firsts .. Offsets behind the Lasts": where those of entry i of n stand
 abbrev pub firstFieldAt : ℕ → ℕ → ℕ
 firstFieldAt x i = firstsAt x + 4 * i
 
@@ -36,11 +36,11 @@ offsetFieldAt x n i = lastFieldAt x n i + 4 * n
 abbrev pub indexAt : List ℕ → ℕ → Bool
 indexAt f o = leb (o + 8) (endOf f) && typedAt f o (pos 6)
 
--- "First at least 0, above the previous Last in the whole chain"; floor is the previous Last + 1, or 0, or the naming entry's First
+-- 8.8: "First at least 0, above the previous Last in the whole chain"; floor is the previous Last + 1, or 0, or the naming entry's First
 unfoldable pub rises : List ℕ → ℕ → ℕ → Bool
 rises f first floor = atLeast f first (pos 0) && leb floor (natAt f first)
 
--- "Last at least First", and at most the naming entry's Last: "its ranges rise within the naming entry's"
+-- 8.8: "Last at least First", and at most the naming entry's Last: "ranges rise within the naming entry's" (8.11)
 unfoldable pub closes : List ℕ → ℕ → ℕ → ℕ → Bool
 closes f first last most = inOrder f first last && leb (natAt f last) most
 
@@ -49,7 +49,7 @@ abbrev pub noLimit : ℕ
 noLimit = 2147483647
 
 -- the range and the Offset of an entry whose First stands before the file's end: 12 unless it rises; 20 if Last passes the end; 12 unless
--- it closes; 20 if Offset passes the end
+-- it closes; 20 if Offset passes the end; 8.16: "of an entry First, Last and Offset, each after the test of the one before"
 unfoldable pub rangeNumber : List ℕ → ℕ → ℕ → ℕ → ℕ → ℕ → ℕ
 rangeNumber f first last offset floor most =
     cond (rises f first floor)
@@ -79,6 +79,6 @@ entryAmong f x n i floor most =
 unfoldable pub entryOf : List ℕ → ℕ → ℕ → ℕ → ℕ → Entry
 entryOf f x i floor most = entryAmong f x (entriesAt f x) i floor most
 
--- "VVR (7). Size 8 + (Last - First + 1) × record bytes": of n records of the given bytes each
+-- 5.17: "Size is 8 + (Last - First + 1) × record bytes": of n records of the given bytes each
 unfoldable pub vvrRule : List ℕ → ℕ → ℕ → ℕ → ℕ
 vvrRule f o n bytes = judged f o 8 (eqb (sizeAt f o) (8 + n * bytes))

@@ -1,15 +1,15 @@
--- Where the fields of each record stand: document 01, "Records", and "Offsets below are from the record's start". A name ends in At for a
--- field, and begins with headOf for the link to the first record of a list. Assumes nothing.
+-- Where the fields of each record stand, "offsets of fields are from the record's start" (4.1): section 4 of docs/RULES.md. A name ends in
+-- At for a field, and begins with headOf for the link to the first record of a list. Assumes nothing.
 use Prim.Native.Nat.{ℕ, _+_}
 
--- "every record has size at 0 and type at 4"; "Next 8" of every record in a list
+-- 4.1: "Every record has its size at 0 and its type at 4"; 4.3: "the link to the next one at 8" of every record in a list
 abbrev pub typeAt : ℕ → ℕ
 typeAt o = o + 4
 
 abbrev pub nextAt : ℕ → ℕ
 nextAt o = o + 8
 
--- ---- "CDR (1), at file offset 8. .. version (12) .. encoding (20) .. flags (24) .. GDR offset at 8"
+-- ---- 4.4: "CDR (1), at file offset 8 .. GDR offset 8 .. version 12 .. encoding 20 .. flags 24"
 abbrev pub cdrOffset : ℕ
 cdrOffset = 8
 
@@ -25,7 +25,8 @@ encodingAt = 28
 abbrev pub cdrFlagsAt : ℕ
 cdrFlagsAt = 32
 
--- ---- "GDR (2). Heads: rVDR 8, zVDR 12, ADR 16, UIR 44. eof 20, NrVars 24, NumAttr 28, rMaxRec 32, rNumDims 36, NzVars 40, sizes from 60"
+-- ---- 4.5: "rVDR head 8 .. zVDR head 12 .. ADR head 16 .. eof 20 .. NrVars 24 .. NumAttr 28 .. rMaxRec 32 .. rNumDims 36 .. NzVars 40 ..
+-- UIR head 44 .. sizes 60"
 abbrev pub headOfRVariables : ℕ → ℕ
 headOfRVariables g = g + 8
 
@@ -59,7 +60,7 @@ nzVarsAt g = g + 40
 abbrev pub rDimSizesAt : ℕ → ℕ
 rDimSizesAt g = g + 60
 
--- ---- "ADR (4) .. AgrEDR head 12, scope 16, Num 20, count 24, maximum 28, AzEDR head 36, count 40, maximum 44, name 52"
+-- ---- 4.6: "AgrEDR head 12 .. scope 16 .. Num 20 .. count 24 .. maximum 28 .. AzEDR head 36 .. count 40 .. maximum 44 .. name 52"
 abbrev pub headOfGrEntries : ℕ → ℕ
 headOfGrEntries a = a + 12
 
@@ -85,7 +86,7 @@ maximumAfter c = c + 4
 abbrev pub attrNameAt : ℕ → ℕ
 attrNameAt a = a + 52
 
--- ---- "AEDR (5 g/r, 9 z) .. Num 12 (the attribute's), data type 16, entry number 20, elements 24, value from 48"
+-- ---- 4.7: "Num 12 .. data type 16 .. entry number 20 .. elements 24 .. value 48"
 abbrev pub entryAttrAt : ℕ → ℕ
 entryAttrAt e = e + 12
 
@@ -101,7 +102,7 @@ entryElementsAt e = e + 24
 abbrev pub entryValueAt : ℕ → ℕ
 entryValueAt e = e + 48
 
--- ---- "VDR (3 r, 8 z) .. type 12, MaxRec 16, VXRhead 20, VXRtail 24, flags 28, sRecords 32, elements 48, Num 52, name 64"
+-- ---- 4.8: "data type 12 .. MaxRec 16 .. VXRhead 20 .. VXRtail 24 .. flags 28 .. sRecords 32 .. elements 48 .. Num 52 .. name 64"
 abbrev pub dataTypeAt : ℕ → ℕ
 dataTypeAt v = v + 12
 
@@ -129,14 +130,14 @@ varNumAt v = v + 52
 abbrev pub varNameAt : ℕ → ℕ
 varNameAt v = v + 64
 
--- "An rVDR has variances at 128 ..; a zVDR has a dimension count .. at 128, sizes .., then variances"
+-- 4.9: "An rVDR has variances at 128 .. A zVDR has a dimension count at 128, then sizes, then variances"
 abbrev pub rVariancesAt : ℕ → ℕ
 rVariancesAt v = v + 128
 
 abbrev pub zNumDimsAt : ℕ → ℕ
 zNumDimsAt v = v + 128
 
--- ---- "VXR (6). Next 8, entries 12, used 16, then all Firsts, all Lasts, all Offsets"
+-- ---- 4.10: "next 8 .. entries 12 .. used 16 .. Firsts 20 .. Lasts .. Offsets"
 abbrev pub vxrEntriesAt : ℕ → ℕ
 vxrEntriesAt x = x + 12
 
@@ -146,10 +147,10 @@ vxrUsedAt x = x + 16
 abbrev pub firstsAt : ℕ → ℕ
 firstsAt x = x + 20
 
--- ---- "VVR (7)": the values stand behind size and type
+-- ---- 4.11: "VVR (7)": the values stand behind size and type
 abbrev pub valuesAt : ℕ → ℕ
 valuesAt o = o + 8
 
--- ---- "UIR (-1) .. next 8, previous 12"
+-- ---- 4.12: "next 8 .. previous 12"
 abbrev pub previousAt : ℕ → ℕ
 previousAt u = u + 12

@@ -1,4 +1,5 @@
--- The entries of an index, and the tree that they make: an entry names values or one lower index record. Request #104. Assumes nothing.
+-- The entries of an index, and the tree that they make: an entry names values or one lower index record. Section 8 of docs/RULES.md.
+-- Assumes nothing.
 use Prim.Native.Nat.{ℕ, zero, suc, _+_}
 use mathlib.Core.Bool.{Bool, cond}
 use mathlib.Core.List.{List, [], _∷_, _++_}
@@ -49,11 +50,11 @@ usedEntries f xs = flat (slotsOf f) xs
 
 -- ---- levels
 
--- "Carry this to eight levels, top included": how many lie below the top chain
+-- 8.9: "Levels are carried to eight, top included": how many lie below the top chain
 abbrev pub levelsBelow : ℕ
 levelsBelow = 7
 
--- "let an index entry name an index record instead of values"
+-- 8.9: "An index entry names values (7) or one lower index record (6)"
 abbrev pub namesIndex : List ℕ → Slot → Bool
 namesIndex f s = indexAt f (namedBy f s)
 
@@ -70,7 +71,7 @@ lowest f (suc n) s = cond (namesIndex f s) (flat (lowest f n) (lowerSlots f s)) 
 abbrev pub lowestEntries : List ℕ → List ℕ → List Slot
 lowestEntries f xs = flat (lowest f levelsBelow) (usedEntries f xs)
 
--- the entries of all levels from s on, each before those under it: "its entries are taken before the naming entry's neighbour"
+-- the entries of all levels from s on, each before those under it: "entries are taken before the naming entry's neighbour" (8.12)
 abbrev pub entriesUnder : List ℕ → ℕ → Slot → List Slot
 entriesUnder f zero s = s ∷ []
 entriesUnder f (suc n) s = s ∷ cond (namesIndex f s) (flat (entriesUnder f n) (lowerSlots f s)) []

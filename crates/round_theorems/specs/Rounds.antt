@@ -1,4 +1,4 @@
--- FILES BY TURNS: statements about rounds of jobs (request #105). Assumes nothing.
+-- FILES BY TURNS: statements about rounds of jobs (section 12 of docs/RULES.md). Assumes nothing.
 use mathlib.Core.Path.{_≡_}
 use mathlib.Core.Logic.{_↔_, _≢_, _⊎_}
 use mathlib.Core.Bool.{true}
@@ -30,7 +30,7 @@ Share p r = (i : ℕ) × (In i p × In i r)
 abbrev pub roundFrom : List ℕ → ℕ → Window → Rounded
 roundFrom f q w = roundOf f w (length (w .rows)) q
 
--- "parts outside an area": a row has one, of the file area or of the marks area
+-- 12.4: "parts outside an area": a row has one, of the file area or of the marks area
 abbrev pub SomeOutside : List ℕ → Window → Type 0
 SomeOutside f w =
     (k : ℕ)
@@ -38,7 +38,7 @@ SomeOutside f w =
     × ((length f < partsAt (w .rows) k .file .from + partsAt (w .rows) k .file .len)
     ⊎ (length (w .marks) < partsAt (w .rows) k .marks .from + partsAt (w .rows) k .marks .len)))
 
--- "overlapping parts of nonzero length": two rows have some
+-- 12.4: "overlapping parts of nonzero length": two rows have some
 abbrev pub SomeOverlap : Window → Type 0
 SomeOverlap w =
     (i : ℕ)
@@ -47,7 +47,7 @@ SomeOverlap w =
     × ((k < length (w .rows))
     × (Share (partsAt (w .rows) i .file) (partsAt (w .rows) k .file) ⊎ Share (partsAt (w .rows) i .marks) (partsAt (w .rows) k .marks)))))
 
--- "q of 0, more than eight jobs, parts outside an area or overlapping parts of nonzero length: refused with 24, nothing changed"
+-- 12.4: "q of 0, more than eight jobs, parts outside an area or overlapping parts of nonzero length: refused with 24, nothing changed"
 pub record Refusal (f : List ℕ) (q : ℕ) (w : Window) : Type 0 where
   pub exactly : (roundFrom f q w .answer ≡ pos 24) ↔ ((q ≡ 0) ⊎ ((8 < length (w .rows)) ⊎ (SomeOutside f w ⊎ SomeOverlap w)))
   pub unchanged : roundFrom f q w .answer ≡ pos 24 → roundFrom f q w .window ≡ w
@@ -57,7 +57,7 @@ Refusals = (f : List ℕ) (q : ℕ) (w : Window) → Refusal f q w
 
 -- ---- ROUNDS
 
--- r rounds, "with one q and the areas and rows untouched between rounds"
+-- r rounds, "with one q and the areas and rows untouched between rounds" (12.6)
 unfoldable pub roundsOf : List ℕ → ℕ → Window → ℕ → Window
 roundsOf f q w zero = w
 roundsOf f q w (suc r) = roundFrom f q (roundsOf f q w r) .window
@@ -95,12 +95,12 @@ grantsAlone q o (suc r) = grantAlone q (grantsAlone q o r)
 
 -- what is promised of rounds where the first is not refused, whatever rows, states, files and marks
 pub record RoundsKept (f : List ℕ) (q : ℕ) (w : Window) : Type 0 where
-  -- no later round is refused: each "answers -1"
+  -- no later round is refused: each "answers -1" (12.3)
   pub goes-on : (r : ℕ) → roundFrom f q (roundsOf f q w r) .answer ≡ negsuc 0
-  -- "each job's verdicts and marks depend on its own part, its own row and q only": after r rounds its own is what r grants of q steps to
-  -- it alone make of it
+  -- 12.6: "each job's verdicts and marks depend on its own part, its own row and q only": after r rounds its own is what r grants of q
+  -- steps to it alone make of it
   pub alone : (k r : ℕ) → k < length (w .rows) → ownAfter f q w k r ≡ grantsAlone q (ownOf f w k) r
-  -- "A round changes nothing else": not the number of rows, an owner or a part, nor the number of marks or a mark in no job's part
+  -- 12.5: "A round changes nothing else": not the number of rows, an owner or a part, nor the number of marks or a mark in no job's part
   pub rows-count : (r : ℕ) → length (roundsOf f q w r .rows) ≡ length (w .rows)
   pub owners : (k r : ℕ) → rowAt (roundsOf f q w r .rows) k .owner ≡ rowAt (w .rows) k .owner
   pub parts : (k r : ℕ) → partsAt (roundsOf f q w r .rows) k ≡ partsAt (w .rows) k
@@ -128,11 +128,12 @@ Isolated =
 
 -- ---- A ROW, made up or not: what a grant promises, read per job
 
--- what is promised of job k of a window whose first round is not refused, with a state of the length docs/ gives
+-- what is promised of job k of a window whose first round is not refused, with a state of the length docs/ gives; 12.9: "with -1 a job made
+-- q steps, with 21 none"
 pub record AnyJob (f : List ℕ) (q : ℕ) (w : Window) (k : ℕ) : Type 0 where
   -- a row's answer is a number that comes back from a check
   pub number : (r : ℕ) → comesBack (ownAfter f q w k (suc r) .answer) ≡ true
-  -- "a finished one its verdict", and nothing else of its own changes
+  -- 12.3: "a finished one its verdict", and nothing else of its own changes
   pub repeats : (r : ℕ)
       → finished (load (ownOf f w k .state) .stage) ≡ true
       → ownAfter f q w k (suc r)
@@ -147,7 +148,7 @@ pub record AnyJob (f : List ℕ) (q : ℕ) (w : Window) (k : ℕ) : Type 0 where
   pub unfinished : (r : ℕ)
       → finished (load (ownAfter f q w k (suc r) .state) .stage) ≡ true
       → (ownAfter f q w k (suc r) .answer ≢ negsuc 0) × (ownAfter f q w k (suc r) .answer ≢ pos 21)
-  -- "A grant makes as many steps as it has or as remain": with -1 the turn made all q, with 21 none
+  -- 9.3: "A grant makes as many steps as it has or as remain": with -1 the turn made all q, with 21 none
   pub spent : (r : ℕ)
       → ownAfter f q w k (suc r) .answer ≡ negsuc 0
       → grantTo q (ownAfter f q w k r) .steps ≡ q
@@ -169,7 +170,7 @@ AnyJobs =
 
 -- ---- A JOB BEGUN FRESH
 
--- "(its length / 4 rounded down + 1) / q rounds, rounded up", of a job of so many bytes
+-- 12.7: "(its length / 4 rounded down + 1) / q rounds, rounded up", of a job of so many bytes
 abbrev pub roundsWithin : ℕ → ℕ → ℕ
 roundsWithin n q = ((n / 4 + 1) + (q - 1)) / q
 
@@ -183,14 +184,15 @@ plainAt o q r = plainRun (o .file) (o .marks) (r * q) .at
 
 -- what is promised of job k of a window whose first round is not refused, where it is begun fresh
 pub record FreshJob (f : List ℕ) (q : ℕ) (w : Window) (k : ℕ) : Type 0 where
-  -- "Demand 3 is then read per job": after r rounds its state and marks are the plain run's after r * q steps, and so is its answer
+  -- 12.8: "Demands 2 and 3 are read per job": after r rounds its state and marks are the plain run's after r * q steps, and so is its
+  -- answer
   pub state-is : (r : ℕ) → ownAfter f q w k r .state ≡ save (plainAt (ownOf f w k) q r .state)
   pub marks-are : (r : ℕ) → ownAfter f q w k r .marks ≡ plainAt (ownOf f w k) q r .marks
   pub answer-is : (r : ℕ) → ownAfter f q w k (suc r) .answer ≡ answerOf (plainAt (ownOf f w k) q (suc r) .state .stage)
   -- and so is the location, by a grant of 0 on its state, whatever file x and marks y are lent
   pub location-is : (r : ℕ) (x y : List ℕ)
       → grantOf x y (ownAfter f q w k r .state) 0 .location ≡ locationIn (plainAt (ownOf f w k) q r .state .stage)
-  -- "ends within (its length / 4 rounded down + 1) / q rounds, rounded up": its state is finished, and its answer is a verdict
+  -- 12.7: "ends within (its length / 4 rounded down + 1) / q rounds, rounded up": its state is finished, and its answer is a verdict
   pub ends : (r : ℕ)
       → roundsWithin (partsAt (w .rows) k .file .len) q ≤ r
       → (finished (load (ownAfter f q w k r .state) .stage) ≡ true) × (ownAfter f q w k r .answer ≢ negsuc 0)

@@ -1,6 +1,5 @@
--- The small files of document 01, some with lower index records and some that are padded, and their plain runs, in one table: verdict,
--- place, steps and marks.
--- Assumes nothing.
+-- The small files of section 18 of docs/RULES.md, some with lower index records and some that are padded, and their plain runs, in one
+-- table: verdict, place, steps and marks. Assumes nothing.
 use mathlib.Core.Path.{_≡_, refl}
 use mathlib.Core.Bool.{Bool, true, false, _&&_}
 use mathlib.Core.List.{List, [], _∷_, _++_}
@@ -47,9 +46,9 @@ wordsOf (x ∷ xs) = x / 16777216 ∷ x / 65536 % 256 ∷ x / 256 % 256 ∷ x % 
 abbrev pub minusOne : ℕ
 minusOne = 4294967295
 
--- "Base file: magics, CDR at 8 (encoding 6, flags 3, GDR at 312), GDR at 312, no lists, rMaxRec -1", and what follows: an encoding and
--- flags, a length, the head and count of its zVariables, the head of its unused records, and the records after the GDR. "In every file
--- here eof is the length"
+-- 18.1: "Base file: magics, CDR at 8 (encoding 6, flags 3, GDR at 312), GDR at 312, no lists, rMaxRec -1", and what follows: an encoding
+-- and flags, a length, the head and count of its zVariables, the head of its unused records, and the records after the GDR. 18.1: "In every
+-- file here eof is the length"
 unfoldable pub fileBy : ℕ → ℕ → ℕ → ℕ → ℕ → ℕ → List ℕ → List ℕ
 fileBy encoding flags len zHead zVars uHead rest =
     wordsOf (0xCDF26002 ∷ 0x0000FFFF ∷ 304 ∷ 1 ∷ 312 ∷ 2 ∷ 0 ∷ encoding ∷ flags ∷ [])
@@ -63,18 +62,18 @@ fileOf len zHead zVars uHead rest = fileBy 6 3 len zHead zVars uHead rest
 unfoldable pub indexTo : ℕ → List ℕ
 indexTo offset = wordsOf (32 ∷ 6 ∷ 0 ∷ 1 ∷ 1 ∷ 0 ∷ 2 ∷ offset ∷ [])
 
--- "one zVariable, type 2, one element, no dimensions, no pad, record variance set, MaxRec 2, VDR at 372", its index from 504 on, then its
--- VVR, of a size and with values
+-- 18.4: "one zVariable, type 2, one element, no dimensions, no pad, record variance set, MaxRec 2, VDR at 372", its index from 504 on, then
+-- its VVR, of a size and with values
 unfoldable pub variableBy : List ℕ → ℕ → List ℕ → List ℕ
 variableBy index size values =
     wordsOf (132 ∷ 8 ∷ 0 ∷ 2 ∷ 2 ∷ 504 ∷ 504 ∷ 1 ∷ 0 ∷ 0 ∷ 0 ∷ 0 ∷ 1 ∷ 0 ∷ 0 ∷ 0 ∷ [])
     ++ (replicate 64 0 ++ (wordsOf (0 ∷ []) ++ (index ++ (wordsOf (size ∷ 7 ∷ []) ++ values))))
 
--- "VXR of one used entry 0..2 at 504, VVR .. at 536"
+-- 18.4: "VXR of one used entry 0..2 at 504, VVR .. at 536"
 unfoldable pub variable : ℕ → List ℕ → List ℕ
 variable size values = variableBy (indexTo 536) size values
 
--- request #104: n such VXRs one below the other, from an offset on; the last names what stands behind it
+-- 8.9: n such VXRs one below the other, from an offset on; the last names what stands behind it
 unfoldable pub levels : ℕ → ℕ → List ℕ
 levels zero at = []
 levels (suc n) at = indexTo (at + 32) ++ levels n (at + 32)
@@ -87,6 +86,7 @@ plane a b v w values =
     ++ (replicate 64 0
     ++ (wordsOf (2 ∷ a ∷ b ∷ v ∷ w ∷ 32 ∷ 6 ∷ 0 ∷ 1 ∷ 1 ∷ 0 ∷ 0 ∷ 552 ∷ (8 + length values) ∷ 7 ∷ []) ++ values))
 
+-- 18.2: "A: the base file"
 unfoldable pub fileA : List ℕ
 fileA = fileOf 372 0 0 0 []
 
@@ -97,46 +97,46 @@ fileB = []
 unfoldable pub fileC : List ℕ
 fileC = take 371 (fileOf 371 0 0 0 [])
 
--- "an unlisted 8-byte unused record"
+-- 18.3: "an unlisted 8-byte unused record"
 unfoldable pub fileD : List ℕ
 fileD = fileOf 380 0 0 0 (wordsOf (8 ∷ minusOne ∷ []))
 
--- "the same with type 7"
+-- 18.3: "the same with type 7"
 unfoldable pub fileE : List ℕ
 fileE = fileOf 380 0 0 0 (wordsOf (8 ∷ 7 ∷ []))
 
--- "a listed 16-byte UIR"
+-- 18.3: "a listed 16-byte UIR"
 unfoldable pub fileF : List ℕ
 fileF = fileOf 388 0 0 372 (wordsOf (16 ∷ minusOne ∷ 0 ∷ 0 ∷ []))
 
--- "F with the UIR naming itself as next"
+-- 18.3: "F with the UIR naming itself as next"
 unfoldable pub fileG : List ℕ
 fileG = fileOf 388 0 0 372 (wordsOf (16 ∷ minusOne ∷ 372 ∷ 0 ∷ []))
 
 unfoldable pub fileH : List ℕ
 fileH = fileOf 550 372 1 0 (variable 14 (replicate 6 0))
 
--- "H with a VVR of 15 bytes"
+-- 18.4: "H with a VVR of 15 bytes"
 unfoldable pub fileI : List ℕ
 fileI = fileOf 551 372 1 0 (variable 15 (replicate 7 0))
 
--- H with an index of n levels; its values are 0, 1 and 2
+-- H with an index of n levels; its values are 0, 1 and 2; 18.7: "H with n levels of one entry each"
 unfoldable pub deep : ℕ → List ℕ
 deep n = fileOf (518 + 32 * n) 372 1 0 (variableBy (levels n 504) 14 (0 ∷ 0 ∷ 1 ∷ 0 ∷ 2 ∷ 0 ∷ []))
 
--- request #101: H with n bytes behind its eof
+-- 18.7: H with n bytes behind its eof
 unfoldable pub padded : ℕ → List ℕ
 padded n = fileH ++ replicate n 9
 
--- "in H, bytes FF FE at 546", in an encoding
+-- 18.5: "in H, bytes FF FE at 546", in an encoding
 unfoldable pub fileJ : ℕ → List ℕ
 fileJ encoding = fileBy encoding 3 550 372 1 0 (variable 14 (0 ∷ 0 ∷ 255 ∷ 254 ∷ 0 ∷ 0 ∷ []))
 
--- "sizes 2,3 both varying", by row with flags 3, by column with flags 2
+-- 18.6: "sizes 2,3 both varying", by row with flags 3, by column with flags 2
 unfoldable pub fileL : ℕ → List ℕ
 fileL flags = fileBy 6 flags 566 372 1 0 (plane 2 3 minusOne minusOne (0 ∷ 1 ∷ 2 ∷ 3 ∷ 4 ∷ 5 ∷ []))
 
--- "sizes 3,5, variances true, false"
+-- 18.6: "sizes 3,5, variances true, false"
 unfoldable pub fileM : List ℕ
 fileM = fileBy 6 3 563 372 1 0 (plane 3 5 minusOne 0 (0 ∷ 1 ∷ 2 ∷ []))
 

@@ -1,1 +1,1 @@
-// The small files of document 01, run by computation.
+// The small files of docs/RULES.md, section 18, run by computation.

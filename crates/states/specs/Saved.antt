@@ -18,14 +18,14 @@ use Rattle.states.specs.declared.state.Stage.the-variants.{Fresh, Sweep,
 use Rattle.states.specs.declared.state.State.{State}
 use Rattle.states.specs.Stages.{locationIn, done}
 
--- how many numbers a saved state has
+-- 10.1: "A state is 34 numbers"
 abbrev pub stateLength : ℕ
 stateLength = 34
 
 abbrev pub bit : Bool → ℕ
 bit b = cond b 1 0
 
--- verdict + 1 or 0, length, phase, kind, link, count, greatest, owner, before, entry, floor, covered
+-- 10.2: verdict + 1 or 0, length, phase, then "kind, link, count, greatest, owner, before, entry, floor, covered"
 abbrev pub saveWalk : ℕ → W.Walk → List ℕ
 saveWalk l Start = 0 ∷ l ∷ 2 ∷ 0 ∷ 0 ∷ 0 ∷ 0 ∷ 0 ∷ 0 ∷ 0 ∷ 0 ∷ 0 ∷ []
 saveWalk l (Vars k p n g) = 0 ∷ l ∷ 3 ∷ k ∷ p ∷ n ∷ g ∷ 0 ∷ 0 ∷ 0 ∷ 0 ∷ 0 ∷ []
@@ -59,7 +59,7 @@ abbrev pub saveLevels : Levels → List ℕ
 saveLevels s =
     saveLevel (s .a) ++ (saveLevel (s .b) ++ (saveLevel (s .c) ++ (saveLevel (s .d) ++ (saveLevel (s .e) ++ (saveLevel (s .f) ++ saveLevel (s .g))))))
 
--- all thirty-four; the last is the location: "Every refusal of a grant, a repeated one too"
+-- all thirty-four; the last is the location: "Every refusal of a grant, a repeated one too" (11.1)
 abbrev pub saveNumbers : ℕ → Stage → List ℕ
 saveNumbers l g = saveStage l g ++ (saveLevels (levelsIn g) ++ (locationIn g ∷ []))
 
@@ -67,7 +67,7 @@ unfoldable pub save : State → List ℕ
 save s = saveNumbers (s .length) (s .stage)
 
 -- ---- ranges: those of the walk's own numbers are specs/Ranges.antt of the walk
--- a length that an opening notes
+-- a length that an opening notes; 10.4: "the length 372 to 2,147,483,647"
 abbrev pub lengthRange : ℕ → Bool
 lengthRange n = leb 372 n && leb n 2147483647
 
@@ -88,7 +88,7 @@ abbrev pub noneOf : List Level → Bool
 noneOf [] = true
 noneOf (l ∷ ls) = noneThere l && noneOf ls
 
--- "After a level that is not there none is there"
+-- 10.6: "After a level that is not there none is there"
 abbrev pub levelsStand : List Level → Bool
 levelsStand [] = true
 levelsStand (l ∷ ls) = (levelThere l && levelsStand ls) || noneOf (l ∷ ls)
@@ -146,7 +146,8 @@ listBy s phase =
     (cond (eqb phase 5) (walkingBy s (Entry (varBy s) (getD s 8 0) (getD s 9 0) (getD s 10 0) (eqb (getD s 11 0) 1)))
     (laterBy s phase)))
 
--- the stage that the numbers would be, by their phase; a number that has no place in a stage is not looked at here
+-- the stage that the numbers would be, by their phase; a number that has no place in a stage is not looked at here; 10.3: "The phases, and
+-- the numbers that have a meaning there"
 unfoldable pub stageBy : List ℕ → ℕ → Stage
 stageBy s phase = cond (eqb phase 0) Fresh (cond (eqb phase 1) (Sweep (getD s 4 0)) (cond (eqb phase 2) (walkingBy s Start) (listBy s phase)))
 
@@ -156,11 +157,13 @@ sameNumbers [] (y ∷ ys) = false
 sameNumbers (x ∷ xs) [] = false
 sameNumbers (x ∷ xs) (y ∷ ys) = eqb x y && sameNumbers xs ys
 
--- the numbers are those of that stage: each in its range, and those without a place in it 0
+-- the numbers are those of that stage: each in its range, and those without a place in it 0; 10.8: "a number outside its range or not 0
+-- where it has no meaning"
 abbrev pub checked : List ℕ → ℕ → Stage → Stage
 checked s l g = cond (stageRange l g && sameNumbers (saveNumbers l g) s) g OutOfRange
 
--- "finished": the verdict number alone says so, 0 to 14, 20 and 23; of the others the location is looked at, where the verdict has one
+-- 10.7: "Finished is said by number 0 alone": the verdict number alone says so, 0 to 14, 20 and 23; of the others the location is looked
+-- at, where the verdict has one
 abbrev pub verdictRange : ℕ → Bool
 verdictRange v = leb v 14 || eqb v 20 || eqb v 23
 

@@ -6,7 +6,7 @@ use Rattle.states.specs.declared.state.Stage.{Stage}
 use Rattle.states.specs.declared.state.Stage.the-variants.{Fresh, Sweep, Walking, Done, OutOfRange}
 use Rattle.states.specs.declared.state.State.{State}
 
--- "Fresh is the state docs/ gives to begin with"
+-- 10.1: "Fresh, the state to begin with"
 abbrev pub fresh : State
 fresh = record { length = 0; stage = Fresh }
 
@@ -21,7 +21,7 @@ finished (Walking w up) = false
 finished (Done v p) = true
 finished OutOfRange = false
 
--- the number that comes back: "-1 running, no verdict", or the verdict
+-- the number that comes back: "-1 running, no verdict" (2.1), or the verdict
 abbrev pub answerOf : Stage → ℤ
 answerOf Fresh = negsuc 0
 answerOf (Sweep o) = negsuc 0

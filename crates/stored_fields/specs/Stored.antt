@@ -5,7 +5,7 @@ use mathlib.Core.List.{List, [], _∷_}
 use lib.ListN.{length, set}
 use lib.Dec.{leb}
 
--- the number n as a control field, "4 bytes, big-endian", at an offset
+-- the number n as a control field, "4-byte .. big-endian" (3.1), at an offset
 abbrev pub written : List ℕ → ℕ → ℕ → List ℕ
 written f at n = set (set (set (set f at (n / 16777216)) (at + 1) (n / 65536 % 256)) (at + 2) (n / 256 % 256)) (at + 3) (n % 256)
 

@@ -29,14 +29,14 @@ Agrees (Single x) n = FloatBits binary32 x n
 Agrees (Double x) n = FloatBits binary64 x n
 Agrees (Code x) n = n ≡ x
 
--- #102: the answer for the VAX float at an offset, of a kind of value and of float
+-- 15.5: the answer for the VAX float at an offset, of a kind of value and of float
 pub record VaxGiven (f : List ℕ) (at kind float : ℕ) (a : Answer) : Type 0 where
-  -- "Single-precision types in these encodings now answer with a double"
+  -- 15.5: "The answer is a double, of single-precision types too"
   pub double : a .value ≡ Double (ofBits binary64 (a .bits))
   -- of the number that its bits say
   pub number : HasValue (ofBits binary64 (a .bits)) (signOf (a .bits)) (unitsOf (a .bits)) (2 ^ 1074)
-  -- "nearest, ties to an even last bit"
+  -- 15.5: "nearest, ties to an even last bit"
   pub nearest : NearestAt (vaxKind kind float) f at (Given (a .bits))
-  -- "F_FLOAT must come out exact"; any other does where a double is the value
+  -- 15.6: "F_FLOAT comes out exact"; any other does where a double is the value
   pub exact : eqb kind single ≡ true → ExactAt ffloat f at (Given (a .bits))
   pub exactIf : ExactIf (vaxKind kind float) f at (Given (a .bits))

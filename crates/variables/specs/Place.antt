@@ -13,11 +13,11 @@ use Rattle.variables.specs.declared.vdr.Variable.{Variable}
 use Rattle.variables.specs.declared.place.Place.{Place}
 use Rattle.variables.specs.declared.place.Place.the-variants.{At, Wrong}
 
--- "Row majority: last varying index runs fastest; column: first": of n dimensions, the j-th from the slowest
+-- 14.3: "Row majority: last varying index runs fastest; column: first": of n dimensions, the j-th from the slowest
 abbrev pub slower : Bool → ℕ → ℕ → ℕ
 slower row n j = cond row j (n - suc j)
 
--- a dimension's index moves the place; "A dimension of false variance takes any index below its size and moves nothing"
+-- a dimension's index moves the place; 14.4: "A dimension of false variance takes any index below its size and moves nothing"
 abbrev pub moved : Bool → ℕ → ℕ → ℕ → ℕ
 moved varies size index place = cond varies (place * size + index) place
 
@@ -59,7 +59,7 @@ indicesRight f p is (suc n) = indicesRight f p is n && indexRight (getD is n (po
 unfoldable pub rowFits : List ℕ → ℕ → ℕ → Bool
 rowFits f p n = leb (p + 4 * n) (endOf f)
 
--- the number that comes back: "value given", "dimension index or element out of range, or wrong number of indices"
+-- the number that comes back: "value given" (2.1), "dimension index or element out of range, or wrong number of indices" (14.2)
 abbrev pub refusalOf : Place → ℕ
 refusalOf (At n) = 0
 refusalOf Wrong = 18

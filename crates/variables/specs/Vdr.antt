@@ -14,13 +14,13 @@ use Rattle.variables.specs.declared.vdr.Layout.{Layout}
 use Rattle.variables.specs.declared.vdr.Variable.{Variable}
 use Rattle.variables.specs.Limit.{capped}
 
--- "14 looks at Flags only in a VDR of 32 bytes or more": 14 if bit 2 is set there, else 0. Where the file ends before them the VDR's
+-- 5.15: "14 looks at Flags only in a VDR of 32 bytes or more": 14 if bit 2 is set there, else 0. Where the file ends before them the VDR's
 -- rule says whether that is 10 or 20
 unfoldable pub carriedOf : List ℕ → ℕ → ℕ
 carriedOf f o = cond (ltb (endOf f) (o + 32)) 0 (cond (ltb (sizeAt f o) 32) 0 (cond (bitAt f (varFlagsAt o) 4) 14 0))
 
--- "type 12, MaxRec 16 (-1 or more), .. flags 28 (bit 0 record variance, 1 pad, 2 compressed, others clear), sRecords 32 (0 to 2),
--- elements 48 (1 or more; exactly 1 unless type 51 or 52)"; "any other type 10"
+-- 5.9: "A data type of 3.6, MaxRec -1 or more, flags with bits 3 to 31 clear, sRecords 0 to 2, elements 1 or more, and exactly 1 unless the
+-- type is 51 or 52"; 3.7: "Any other number is no data type, and a record that has it breaks its rule"
 unfoldable pub vdrFields : List ℕ → ℕ → Bool
 vdrFields f o =
     leb 1 (elementSize f (dataTypeAt o))
@@ -30,8 +30,8 @@ vdrFields f o =
     && atLeast f (elementsAt o) (pos 1)
     && (isAt f (dataTypeAt o) (pos 51) || isAt f (dataTypeAt o) (pos 52) || isAt f (elementsAt o) (pos 1))
 
--- "An rVDR has variances at 128, as many as rNumDims; a zVDR has a dimension count (0 to 10) at 128, sizes (1 or more), then variances":
--- the bytes before its dimensions, and where their count stands, in the zVDR or in the GDR
+-- 4.9: "An rVDR has variances at 128, as many as rNumDims; its sizes stand in the GDR. A zVDR has a dimension count at 128, then sizes,
+-- then variances": the bytes before its dimensions, and where their count stands, in the zVDR or in the GDR
 abbrev pub headOf : ℕ → ℕ
 headOf k = cond (eqb k 8) 132 128
 
@@ -58,14 +58,14 @@ layoutOf f k o = layoutAt k o (numDimsAt f k o) (natAt f (numDimsAt f k o))
 unfoldable pub valueBytes : List ℕ → ℕ → ℕ
 valueBytes f o = natAt f (elementsAt o) * elementSize f (dataTypeAt o)
 
--- "Pad value last if bit 1 is set. Size is exact"
+-- 5.12: "comes last if bit 1 is set. Size is exact"
 unfoldable pub padBytes : List ℕ → ℕ → ℕ
 padBytes f o = cond (bitAt f (varFlagsAt o) 2) (valueBytes f o) 0
 
 unfoldable pub sizeExact : List ℕ → ℕ → Layout → Bool
 sizeExact f o l = eqb (o + sizeAt f o) (l .variances + 4 * l .count + padBytes f o)
 
--- "sizes (1 or more)"; "A variance is -1 or 0"
+-- 5.11: "Each dimension's size is 1 or more"; "a variance is -1 (true) or 0 (false)"
 unfoldable pub dimensionsRight : List ℕ → Layout → Bool
 dimensionsRight f l =
     eachWithin f (l .sizes) (l .count) (pos 1) (pos 2147483647) && eachWithin f (l .variances) (l .count) (negsuc 0) (pos 0)
@@ -74,20 +74,20 @@ dimensionsRight f l =
 unfoldable pub factorOf : List ℕ → ℕ → ℕ → ℕ
 factorOf f p q = cond (isAt f q (negsuc 0)) (natAt f p) 1
 
--- "the sizes of dimensions whose variance is true", multiplied: of n dimensions, sizes from p and variances from q on
+-- 5.13: "the sizes of dimensions whose variance is true", multiplied: of n dimensions, sizes from p and variances from q on
 unfoldable pub valuesPerRecord : List ℕ → ℕ → ℕ → ℕ → ℕ
 valuesPerRecord f zero p q = 1
 valuesPerRecord f (suc n) p q = factorOf f p q * valuesPerRecord f n (p + 4) (q + 4)
 
--- "Record bytes: elements × element size × the sizes of dimensions whose variance is true"
+-- 5.13: "Record bytes: elements × element size × the sizes of dimensions whose variance is true"
 unfoldable pub recordBytes : List ℕ → ℕ → Layout → ℕ
 recordBytes f o l = valueBytes f o * valuesPerRecord f (l .count) (l .sizes) (l .variances)
 
 abbrev pub vdrFault : ℕ → Variable
 vdrFault v = record { fault = v; dimensions = record { count = 0; sizes = 0; variances = 0 }; value = 0; bytes = 0 }
 
--- a VDR whose fields are right, with its dimensions: 10 unless its size is exact; 20 if the dimensions pass the file's end;
--- 10 unless they are right; "Above 2,147,483,647: 10"
+-- a VDR whose fields are right, with its dimensions: 10 unless its size is exact; 20 if the dimensions pass the file's end; 10 unless they
+-- are right; 5.13: "Above 2,147,483,647 the VDR breaks its rule"
 unfoldable pub dimensioned : List ℕ → ℕ → Layout → Variable
 dimensioned f o l =
     cond (sizeExact f o l)
@@ -99,7 +99,8 @@ dimensioned f o l =
     (vdrFault 10))))
     (vdrFault 10)
 
--- the VDR of a kind at an offset: the number of its rule, 0, 10 or 20, and where that is 0 its dimensions and bytes
+-- the VDR of a kind at an offset: the number of its rule, 0, 10 or 20, and where that is 0 its dimensions and bytes; the tests are in the
+-- order of 5.14
 unfoldable pub variableOf : List ℕ → ℕ → ℕ → Variable
 variableOf f k o =
     cond (eqb (reachOf f o (headOf k)) 0)

@@ -1,5 +1,5 @@
 -- Doubles by their bits: which bits are those of a finite double, the number that they denote as a fraction of whole numbers, and "nearest, ties to
--- an even last bit" over all finite doubles. The double of bits n is ±unitsOf n / 2 ^ 1074. Assumes nothing.
+-- an even last bit" (15.5) over all finite doubles. The double of bits n is ±unitsOf n / 2 ^ 1074. Assumes nothing.
 use Prim.Native.Nat.{ℕ, zero, suc, _+_, _-_, _*_, _/_, _%_, _^_, _≤_, _<_}
 use mathlib.Core.Path.{_≡_}
 use mathlib.Core.Bool.{Bool, Bool·beq, cond}
@@ -39,14 +39,14 @@ between s a t b = cond (Bool·beq s t) (apart a b) (a + b)
 unfoldable pub distance : Bool → ℕ → ℕ → ℕ → ℕ
 distance s num den n = between s (num * 2 ^ 1074) (signOf n) (unitsOf n * den)
 
--- "nearest, ties to an even last bit": r is the bits of a finite double, no finite double is nearer to ±num / den, and where another is as near, r's
--- last bit is even
+-- 15.5: "nearest, ties to an even last bit": r is the bits of a finite double, no finite double is nearer to ±num / den, and where another is as
+-- near, r's last bit is even
 pub record Nearest (s : Bool) (num den r : ℕ) : Type 0 where
   pub finite : Finite r
   pub closest : (n : ℕ) → Finite n → distance s num den r ≤ distance s num den n
   pub even : (n : ℕ) → Finite n → (n ≡ r → ⊥) → distance s num den n ≡ distance s num den r → r % 2 ≡ 0
 
--- "exact": r is the bits of the finite double that is ±num / den itself
+-- 15.6: "exact": r is the bits of the finite double that is ±num / den itself
 pub record Equal (s : Bool) (num den r : ℕ) : Type 0 where
   pub finite : Finite r
   pub sign : signOf r ≡ s

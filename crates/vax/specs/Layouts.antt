@@ -1,5 +1,5 @@
--- Where the bits of an F_FLOAT, a D_FLOAT and a G_FLOAT stand in its bytes: the rows of tables 5.4, 5.7 and 5.8 of the format description, "7-7" read as
--- 0-7. Assumes nothing.
+-- Where the bits of an F_FLOAT, a D_FLOAT and a G_FLOAT stand in its bytes: the rows of tables 5.4, 5.7 and 5.8 of the format description: 15.2.
+-- Assumes nothing.
 use Prim.Native.Nat.{ℕ, suc, _+_, _-_, _*_, _/_, _%_, _^_}
 use mathlib.Core.List.{List, [], _∷_}
 use lib.ListN.{getD}

@@ -1,4 +1,5 @@
--- What is promised of VAX floats, of every sign, exponent and mantissa, and of any bytes at any offset. Request #102. Assumes nothing.
+-- What is promised of VAX floats, of every sign, exponent and mantissa, and of any bytes at any offset. Section 15 of docs/RULES.md.
+-- Assumes nothing.
 use Prim.Native.Nat.{ℕ, _+_, _^_, _≤_, _<_}
 use mathlib.Core.Path.{_≡_}
 use mathlib.Core.Bool.{Bool}
@@ -12,7 +13,7 @@ use Rattle.vax.specs.Rounding.{vaxOf, vaxAt}
 use Rattle.vax.specs.declared.Vax.{Vax}
 use Rattle.vax.specs.declared.Vax.the-variants.{Given}
 
--- "Prove the rounding once over mantissa width and exponent offset". e ≤ b + 1023: the value is below 2 ^ 1023, where a double does not overflow
+-- 15.7: "once over mantissa width and exponent offset". e ≤ b + 1023: the value is below 2 ^ 1023, where a double does not overflow
 pub record Rounds (w b : ℕ) : Type 0 where
   pub nearest : (e m : ℕ) (s : Bool) → m < 2 ^ w → e ≤ b + 1023 → Holds Nearest w b s e m (vaxOf w b s e m)
   -- no other double is
@@ -29,7 +30,7 @@ pub record BytesRead (f : List ℕ) (at : ℕ) : Type 0 where
   pub ffloatNearest : NearestAt ffloat f at (vaxAt ffloat f at)
   pub dfloatNearest : NearestAt dfloat f at (vaxAt dfloat f at)
   pub gfloatNearest : NearestAt gfloat f at (vaxAt gfloat f at)
-  -- "F_FLOAT must come out exact"; a G_FLOAT does but for exponents 1 and 2, whose doubles are subnormal
+  -- 15.6: "F_FLOAT comes out exact"; a G_FLOAT does but for exponents 1 and 2, whose doubles are subnormal
   pub ffloatExact : ExactAt ffloat f at (vaxAt ffloat f at)
   pub gfloatExact : (exponentAt gfloat f at ≡ 1 → ⊥) → (exponentAt gfloat f at ≡ 2 → ⊥) → ExactAt gfloat f at (vaxAt gfloat f at)
   -- each does where it can

@@ -34,7 +34,7 @@ withSign s n = cond s (2 ^ 63) 0 + n
 abbrev pub leading : ℕ → ℕ → ℕ
 leading w m = 2 ^ w + m
 
--- "An exponent of zero with the sign clear is zero whatever its mantissa; with the sign set it is the reserved operand"
+-- 15.4: "An exponent of zero with the sign clear is zero (+0) whatever its mantissa; with the sign set it is the reserved operand"
 unfoldable pub vaxOf : ℕ → ℕ → Bool → ℕ → ℕ → Vax
 vaxOf w b s e m = cond (eqb e 0) (cond s Reserved (Given 0)) (Given (withSign s (sizeOf w (e + 1074 - b) (leading w m))))
 

@@ -1,5 +1,5 @@
--- VAX floats: the number that one denotes, "the exact VAX value written as a fraction of whole numbers", and what an answer must say of it. Request #102.
--- A kind has w mantissa bits below a leading digit that is not stored, and its exponent counts from an offset b. Assumes nothing.
+-- VAX floats: the number that one denotes, "The exact VAX value, a fraction of whole numbers" (15.3), and what an answer must say of it. Section 15
+-- of docs/RULES.md. A kind has w mantissa bits below a leading digit that is not stored, and its exponent counts from an offset b. Assumes nothing.
 use Prim.Native.Nat.{ℕ, zero, suc, _+_, _*_, _^_}
 use mathlib.Core.Path.{_≡_}
 use mathlib.Core.Bool.{Bool, true, false, _&&_}
@@ -10,8 +10,8 @@ use Rattle.vax.specs.Layouts.{Kind, parts}
 use Rattle.vax.specs.declared.Vax.{Vax}
 use Rattle.vax.specs.declared.Vax.the-variants.{Given, Reserved}
 
--- ---- the value of a sign, an exponent e and a mantissa m: ±0.1m (binary) * 2 ^ (e - b), which is ±numOf w e m / denOf w b.
--- "An exponent of zero with the sign clear is zero whatever its mantissa"
+-- ---- the value of a sign, an exponent e and a mantissa m: ±0.1m (binary) * 2 ^ (e - b), which is ±numOf w e m / denOf w b. 15.4: "An
+-- exponent of zero with the sign clear is zero (+0) whatever its mantissa"
 abbrev pub numOf : ℕ → ℕ → ℕ → ℕ
 numOf w zero m = 0
 numOf w (suc e) m = (2 ^ w + m) * 2 ^ suc e
@@ -19,11 +19,12 @@ numOf w (suc e) m = (2 ^ w + m) * 2 ^ suc e
 abbrev pub denOf : ℕ → ℕ → ℕ
 denOf w b = 2 ^ (w + 1 + b)
 
--- "with the sign set it is the reserved operand"
+-- 15.4: "with the sign set it is the reserved operand"
 abbrev pub isReserved : Bool → ℕ → Bool
 isReserved s e = eqb e 0 && s
 
--- ---- what an answer says, P being "nearest" or "exact": the reserved operand where it is one, and else the bits of a double of which P holds; zero is +0
+-- ---- what an answer says, P being "nearest" (15.5) or "exact" (15.6): the reserved operand where it is one, and else the bits of a double of which
+-- P holds; zero is +0
 abbrev pub Holds : (Bool → ℕ → ℕ → ℕ → Type 0) → ℕ → ℕ → Bool → ℕ → ℕ → Vax → Type 0
 Holds P w b s e m Reserved = isReserved s e ≡ true
 Holds P w b s e m (Given r) = (isReserved s e ≡ false) × (e ≡ 0 → r ≡ 0) × P s (numOf w e m) (denOf w b) r

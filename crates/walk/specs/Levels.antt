@@ -1,4 +1,4 @@
--- The index records above the one that is walked: at most seven, the nearest first. Request #104. Assumes nothing.
+-- The index records above the one that is walked: at most seven, the nearest first. Section 8 of docs/RULES.md. Assumes nothing.
 use Prim.Native.Nat.{ℕ}
 use mathlib.Core.Bool.{Bool, true, false, cond}
 use mathlib.Core.Option.{Option, none, some}
@@ -23,12 +23,12 @@ noLevels = record { a = noLevel; b = noLevel; c = noLevel; d = noLevel; e = noLe
 unfoldable pub isNone : Level → Bool
 isNone l = eqb (l .next) 0
 
--- "its ranges rise within the naming entry's": the greatest Last that an entry may have; no entry names a record of the top chain, so there
--- it has no limit
+-- 8.11: "ranges rise within the naming entry's": the greatest Last that an entry may have; no entry names a record of the top chain, so
+-- there it has no limit
 unfoldable pub mostOf : Level → ℕ
 mostOf l = cond (isNone l) noLimit (l .last)
 
--- "eight levels, top included": the record that is walked is not one of the eighth level
+-- 8.9: "carried to eight, top included": the record that is walked is not one of the eighth level
 unfoldable pub roomBelow : Levels → Bool
 roomBelow s = isNone (s .g)
 

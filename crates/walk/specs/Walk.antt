@@ -1,4 +1,4 @@
--- The walk along the links, a step a link, without marks: document 01, "The check, step by step", 3, and request #104. Assumes nothing.
+-- The walk along the links, a step a link, without marks: sections 5 and 8 of docs/RULES.md. Assumes nothing.
 use Prim.Native.Nat.{ℕ, _+_, _-_, min, max}
 use mathlib.Core.Bool.{Bool, false, cond, _&&_, _||_}
 use mathlib.Core.List.{List, [], _∷_}
@@ -26,7 +26,7 @@ use Rattle.walk.specs.declared.positions.Link.the-variants.{Past, Zero, 
 use Rattle.walk.specs.declared.positions.Step as T
 use Rattle.walk.specs.declared.positions.Step.the-variants.{Over, End, Take, Down, Up}
 
--- 8 for type; 20 if the file ends before it
+-- 8.5: "8 for its type: another than the one asked for"; 20 if the file ends before it
 unfoldable pub typeNumber : List ℕ → ℕ → ℤ → ℕ
 typeNumber f o t = cond (ltb (endOf f) (o + 8)) 20 (unless 8 (typedAt f o t))
 
@@ -38,7 +38,7 @@ takes early o typed late next = Take (cond (eqb early 0 && eqb late 0) next Star
 unfoldable pub leadsTo : List ℕ → ℕ → L.Link
 leadsTo f p = cond (ltb (endOf f) (p + 4)) Past (cond (eqb (linkAt f p) 0) Zero (To (linkAt f p)))
 
--- the step at a link, by where it leads: 20 if the file ends before it; "A zero link ends a list"
+-- the step at a link, by where it leads: 20 if the file ends before it; 8.13: "A zero link ends a list"
 abbrev pub byLink : L.Link → T.Step → (ℕ → T.Step) → T.Step
 byLink Past over taken = End 20
 byLink Zero over taken = over
@@ -56,7 +56,7 @@ pub record Listing : Type 0 where
 abbrev pub claim : List ℕ → Listing → ℕ → T.Step
 claim f l o = takes 0 o (typeNumber f o (l .typed)) (l .number o) (l .next o)
 
--- THE STEP AT A LINK OF A LIST, which stands at p
+-- THE STEP AT A LINK OF A LIST, which stands at p; 8.16: "the link itself"
 unfoldable pub listStep : List ℕ → ℕ → Listing → T.Step
 listStep f p l = byLink (leadsTo f p) (l .over) (claim f l)
 
@@ -68,27 +68,28 @@ gdrNamed f = leb 20 (endOf f)
 abbrev pub overBy : List ℕ → ℕ → W.Walk → T.Step
 overBy f number next = cond (gdrNamed f) (Over next number) (End 20)
 
--- 11 unless the field at p is z; 20 if it passes the file's end
+-- 11 unless the field at p is z; 20 if it passes the file's end; 8.16: "at a list's end each field that is compared"
 unfoldable pub fieldNumber : List ℕ → ℕ → ℤ → ℕ
 fieldNumber f p z = cond (ltb (endOf f) (p + 4)) 20 (unless 11 (isAt f p z))
 
--- "counts equal lengths, each maximum is the greatest ..": a list's count at p, then its maximum at q; greatest is the maximum + 1
+-- 8.13: "counts equal lengths; each maximum is the greatest ..": a list's count at p, then its maximum at q; greatest is the maximum + 1
 unfoldable pub tallied : List ℕ → ℕ → ℕ → ℕ → ℕ → ℕ
 tallied f p n q greatest = first (fieldNumber f p (pos n) ∷ fieldNumber f q (before greatest) ∷ [])
 
--- ---- variables: NrVars 24, NzVars 40; "rMaxRec is the greatest MaxRec of rVariables or -1"
+-- ---- variables: NrVars 24, NzVars 40; 8.13: "rMaxRec is the greatest MaxRec of rVariables or -1"
 unfoldable pub varsTally : List ℕ → ℕ → ℕ → ℕ → ℕ
 varsTally f k n greatest = cond (eqb k 8) (fieldNumber f (nzVarsAt (gdrAt f)) (pos n)) (tallied f (nrVarsAt (gdrAt f)) n (rMaxRecAt (gdrAt f)) greatest)
 
--- "the GDR's heads r, z, ADR, UIR" at 8, 12, 16, 44
+-- 8.1: "the GDR's heads r, z, ADR, UIR" at 8, 12, 16, 44
 abbrev pub afterVars : List ℕ → ℕ → W.Walk
 afterVars f k = cond (eqb k 8) (Attrs (headOfAttributes (gdrAt f)) 0) (Vars 8 (headOfZVariables (gdrAt f)) 0 0)
 
--- "14, 10, 11": compressed values; the VDR's rule; "Num is the place in its list from 0"
+-- 8.3: "14, 10, 11": compressed values; the VDR's rule; 8.7: "Num is the place in its list from 0"; 8.6: "a VDR's Flags .. then the rule of
+-- the record"
 unfoldable pub varNumber : List ℕ → ℕ → ℕ → ℕ → ℕ
 varNumber f k n o = first (carriedOf f o ∷ variableOf f k o .fault ∷ unless 11 (isAt f (varNumAt o) (pos n)) ∷ [])
 
--- "VDR: VXRhead, next": its index chain begins at 20
+-- 8.2: "VDR: VXRhead, next": its index chain begins at 20
 abbrev pub intoIndex : List ℕ → ℕ → ℕ → ℕ → ℕ → W.Walk
 intoIndex f k n greatest o =
     Chain (record { kind = k; vdr = o; place = n; greatest = max (afterAt f (maxRecAt o)) greatest }) (headOfIndex o) 0 0 false
@@ -100,8 +101,8 @@ abbrev pub varsList : List ℕ → ℕ → ℕ → ℕ → Listing
 varsList f k n greatest =
     record { over = varsOver f k n greatest; typed = pos k; number = varNumber f k n; next = intoIndex f k n greatest }
 
--- ---- an index. "VXRtail is the last VXR, or 0 if there is none; else 11. Then MaxRec is -1 or lies in some used entry's range; else 12";
--- "VXRtail speaks of the top chain alone, and at its end MaxRec, unless -1, must now lie in the range of an entry that names values"
+-- ---- an index. 8.13: "VXRtail .. is the last VXR, or 0 if there is none"; 8.14: "MaxRec, unless -1, lies in the range of an entry that
+-- names values; else 12"
 unfoldable pub chainTally : List ℕ → ℕ → ℕ → Bool → ℕ
 chainTally f v last covered = first (fieldNumber f (tailOfIndex v) (pos last) ∷ unless 12 (isAt f (maxRecAt v) (negsuc 0) || covered) ∷ [])
 
@@ -109,12 +110,13 @@ abbrev pub chainOver : List ℕ → Var → ℕ → Bool → T.Step
 chainOver f u last covered =
     Over (Vars (u .kind) (nextAt (u .vdr)) (u .place + 1) (u .greatest)) (chainTally f (u .vdr) last covered)
 
--- "VXR: each used offset, next": entry i, or where there are no more the link to the next VXR
+-- 8.2: "VXR: each used offset, next": entry i, or where there are no more the link to the next VXR; 10.5: "floor is the least that the next
+-- First may be"
 abbrev pub entered : List ℕ → Var → ℕ → ℕ → ℕ → Bool → W.Walk
 entered f u x i floor covered = cond (ltb i (usedAt f x)) (AtEntry u x i floor covered) (Chain u (nextAt x) x floor covered)
 
 -- a lower record is over: on to the neighbour of the entry that named it, in the record of the nearest level; 20 if that record's used
--- passes the file's end
+-- passes the file's end; 8.19: "its VXR's used past the end is 20"
 abbrev pub lowerOver : List ℕ → Var → Level → Bool → T.Step
 lowerOver f u near covered =
     cond (ltb (endOf f) (near .vxr + 20)) (End 20) (Up (entered f u (near .vxr) (near .next) (near .last + 1) covered))
@@ -124,7 +126,7 @@ abbrev pub chainList : List ℕ → Var → ℕ → ℕ → Bool → Listing
 chainList f u last floor covered =
     record { over = chainOver f u last covered; typed = pos 6; number = vxrRule f; next = λ o. entered f u o 0 floor covered }
 
--- the next of a lower record, which stands at p: "a lower record has next 0 (else 11 ..)"
+-- the next of a lower record, which stands at p: "A lower record has next 0, else 11" (8.10)
 unfoldable pub lowerNext : List ℕ → Var → Level → ℕ → Bool → T.Step
 lowerNext f u near p covered = byLink (leadsTo f p) (lowerOver f u near covered) (λ o. End 11)
 
@@ -137,7 +139,7 @@ chainStep f near u p last floor covered =
 abbrev pub covers : List ℕ → ℕ → Entry → Bool
 covers f v e = atLeast f (maxRecAt v) (pos 0) && (leb (e .first) (natAt f (maxRecAt v)) && leb (natAt f (maxRecAt v)) (e .last))
 
--- the VVR's own size; then the VDR's rule, which the record bytes come from; then the VVR's rule
+-- 8.17: "the VVR's own size, 10 below 8; the VDR's rule, 10 or 20; then the VVR's rule"
 unfoldable pub valuesNumber : List ℕ → Variable → Entry → ℕ
 valuesNumber f v e = first (reachOf f (e .link) 8 ∷ v .fault ∷ vvrRule f (e .link) (e .last - e .first + 1) (v .bytes) ∷ [])
 
@@ -150,12 +152,12 @@ valuesStep f u x i covered e =
     takes (e .fault) (e .link) (typeNumber f (e .link) (pos 7)) (valuesNumber f (variableOf f (u .kind) (u .vdr)) e)
     (entered f u x (i + 1) (e .last + 1) (covered || covers f (u .vdr) e))
 
--- the lower record's rule; "a lower record has next 0 (else 11, on its claim)"
+-- the lower record's rule; 8.10: "A lower record has next 0, else 11, on its claim"
 unfoldable pub lowerNumber : List ℕ → ℕ → ℕ
 lowerNumber f o = first (vxrRule f o ∷ unless 11 (isAt f (nextAt o) (pos 0)) ∷ [])
 
--- an entry that names an index record: "deeper is refused with 23, looked for right after the type"; "its entries are taken before the
--- naming entry's neighbour". Where room, a level more may lie below. An entry whose range or record is refused is a link that is refused
+-- an entry that names an index record: "23, looked for right after the type" (8.9); 8.12: "entries are taken before the naming entry's
+-- neighbour". Where room, a level more may lie below. An entry whose range or record is refused is a link that is refused
 abbrev pub lowerStep : List ℕ → Var → ℕ → ℕ → Bool → Bool → Entry → T.Step
 lowerStep f u x i covered room e =
     cond (eqb (e .fault) 0 && eqb (lowerNumber f (e .link)) 0)
@@ -188,21 +190,21 @@ countIn k = cond (eqb k 9) (zCountAt 0) (grCountAt 0)
 unfoldable pub entriesTally : List ℕ → ℕ → ℕ → ℕ → ℕ → ℕ
 entriesTally f k a n greatest = tallied f (a + countIn k) n (maximumAfter (a + countIn k)) greatest
 
--- "ADR: AgrEDR head, AzEDR head, next" at 12, 36, 8
+-- 8.2: "ADR: AgrEDR head, AzEDR head, next" at 12, 36, 8
 abbrev pub afterEntries : ℕ → ℕ → ℕ → W.Walk
 afterEntries k a n = cond (eqb k 9) (Attrs (nextAt a) (n + 1)) (Entries 9 a n (headOfZEntries a) 0 0)
 
 abbrev pub entriesOver : List ℕ → ℕ → ℕ → ℕ → ℕ → ℕ → T.Step
 entriesOver f k a n e greatest = Over (afterEntries k a n) (entriesTally f k a e greatest)
 
--- "an entry's Num is its attribute's"; 20 if that one passes the file's end
+-- 8.7: "an entry's Num is its attribute's"; 20 if that one passes the file's end
 unfoldable pub numNumber : List ℕ → ℕ → ℕ → ℕ
 numNumber f a o = cond (ltb (endOf f) (a + 24)) 20 (unless 11 (sameAt f (entryAttrAt o) (attrNumAt a)))
 
 unfoldable pub entryNumber : List ℕ → ℕ → ℕ → ℕ
 entryNumber f a o = first (aedrRule f o ∷ numNumber f a o ∷ [])
 
--- one more entry. The count stops at 2 ^ 31, which no field can say
+-- one more entry; 8.18: "stops at 2,147,483,648, which no field can say"
 unfoldable pub oneMore : ℕ → ℕ
 oneMore n = min (n + 1) 2147483648
 
@@ -215,7 +217,7 @@ entriesList f k a n e greatest =
       next = λ o. Entries k a n (nextAt o) (oneMore e) (max (afterAt f (entryNumAt o)) greatest);
     }
 
--- ---- unused records: "a UIR's previous is its predecessor, 0 for the first"
+-- ---- unused records: "a UIR's previous is its predecessor, 0 for the first" (8.7)
 unfoldable pub unusedNumber : List ℕ → ℕ → ℕ → ℕ
 unusedNumber f b o = first (uirRule f o ∷ unless 11 (isAt f (previousAt o) (pos b)) ∷ [])
 
@@ -227,7 +229,7 @@ abbrev pub startStep : List ℕ → T.Step
 startStep f = cond (gdrNamed f) (takes 0 (gdrAt f) (typeNumber f (gdrAt f) (pos 2)) 0 (Vars 3 (headOfRVariables (gdrAt f)) 0 0)) (End 20)
 
 -- THE WALK, a case for each kind of link. Of the levels above the record that is walked a step looks at the nearest, near, and at whether
--- there is room for one more
+-- there is room for one more; 10.10: "What a step leaves, where it does not refuse"
 unfoldable pub walkStepBy : List ℕ → Level → Bool → W.Walk → T.Step
 walkStepBy f near room Start = startStep f
 walkStepBy f near room (Vars k p n greatest) = listStep f p (varsList f k n greatest)
