@@ -3,8 +3,7 @@ ghost use mathlib.Core.Path.{_≡_};
 ghost use Prim.Native.Nat.{_-_};
 ghost use lib.Dec.{eqb};
 ghost use mathlib.Core.Bool.{cond};
-ghost use Rattle.records.specs.Layout.{headOfRVariables, headOfZVariables, headOfGrEntries, headOfZEntries};
-ghost use Rattle.faults.specs.Holder.{linkIn, holderOf};
+ghost use Rattle.faults.specs.Holder.{linkIn, variablesHead, entriesHead, holderOf};
 use records::layout;
 use walk::positions::Walk;
 
@@ -41,7 +40,7 @@ fn by_kind(kind: u32, z: u32, there: u32, elsewhere: u32) -> u32
 
 // Where the head of the list of variables of a kind stands in the GDR.
 fn head_of_variables(kind: u32) -> u32
-    ensures { λ r. ⌜ r ≡ cond (eqb kind 8) (headOfZVariables 0) (headOfRVariables 0) ⌝ }
+    ensures { λ r. ⌜ r ≡ variablesHead kind ⌝ }
 {
     by_kind(
         kind,
@@ -53,7 +52,7 @@ fn head_of_variables(kind: u32) -> u32
 
 // Where the head of an attribute's list of entries of a kind stands in its ADR.
 fn head_of_entries(kind: u32) -> u32
-    ensures { λ r. ⌜ r ≡ cond (eqb kind 9) (headOfZEntries 0) (headOfGrEntries 0) ⌝ }
+    ensures { λ r. ⌜ r ≡ entriesHead kind ⌝ }
 {
     by_kind(
         kind,
