@@ -3,7 +3,7 @@ ghost use mathlib.Core.Path.{_≡_};
 ghost use Rattle.checker.specs.Grant.{granted, grantOf, begun, beginOf};
 use checker::grants;
 
-// A fresh state of 34 numbers, and -1, as no check has a verdict yet; or 20, and nothing changed, where there are not 34.
+// A fresh state, and -1, as no check has a verdict yet; or 20, and nothing changed, where it has another length than a state has.
 #[no_mangle]
 pub extern "C" fn tlz_check_begin(state: &mut [u32]) -> i32
     ensures { λ r. ⌜ begun r (now (state .exit)) ≡ beginOf (now (state .entry)) ⌝ }

@@ -11,7 +11,7 @@ use Rattle.walk.specs.declared.positions.Level.{Level}
 use Rattle.walk.specs.declared.positions.Levels.{Levels}
 use Rattle.walk.specs.declared.positions.Walk as W
 use Rattle.walk.specs.declared.positions.Walk.the-variants.{Start}
-use Rattle.states.specs.Saved.{levelList, noneOf, levelsStand, levelsBelong, levelsRange}
+use Rattle.states.specs.Saved.{levelList, levelsStand, levelsBelong, levelsRange}
 use Rattle.states.proofs.LevelLists.{none-there, rest-there, front-there, back-there, small-there, head-none, none-head}
 use Rattle.checker.proofs.Placed.{PlacedBy, Placed}
 

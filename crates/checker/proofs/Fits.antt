@@ -1,6 +1,6 @@
 -- A sound check is fit for a step, and its verdict for an answer. Assumes nothing.
-use mathlib.Core.Path.{_≡_, refl, sym}
-use mathlib.Core.Bool.{true, false, true≢false, _||_}
+use mathlib.Core.Path.{_≡_, refl}
+use mathlib.Core.Bool.{true, false, _||_}
 use mathlib.Core.List.{List}
 use Prim.Native.Nat.{ℕ, _≤_}
 use native.Mathlib.Omega.{arith}
@@ -9,7 +9,6 @@ use mathlib.Core.Bool.{Bool}
 use borrow.Author.Tests.{leb-true, eqb-true}
 use Rattle.states.specs.declared.state.Stage.{Stage}
 use Rattle.states.specs.declared.state.Stage.the-variants.{Fresh, Sweep, Walking, Done, OutOfRange}
-use Rattle.states.specs.Saved.{stageRange}
 use Rattle.checker.specs.Bounds.{Ready}
 use Rattle.states.specs.Bounds.{VerdictFits, IsVerdict, Loaded}
 use Rattle.states.proofs.LevelLists.{levels-small}

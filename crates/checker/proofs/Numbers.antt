@@ -4,22 +4,23 @@
 use mathlib.Core.Path.{_≡_, refl}
 use mathlib.Core.Bool.{Bool, true, false, cond, _&&_, _||_}
 use mathlib.Core.List.{List, [], _∷_}
-use Prim.Native.Nat.{ℕ, zero, suc, _+_, _-_, _*_}
+use Prim.Native.Nat.{ℕ, _+_, _-_}
 use lib.Dec.{ltb, eqb}
 use lib.IntN.{ℤ, pos, negsuc}
-use Rattle.format.specs.Fields.{endOf, isAt, sameAt, linkAt, bitAt, before}
+use Rattle.format.specs.Fields.{endOf, isAt, sameAt, bitAt, before}
 use Rattle.format.specs.Numbers.{first, unless}
 use Rattle.format.proofs.Tests.{cond-keeps}
 use Rattle.format.proofs.Numbers.{All, first-has}
-use Rattle.records.specs.Rules.{sizeAt, reachOf, judged}
+use Rattle.records.specs.Rules.{reachOf}
 use Rattle.records.specs.Opening.{gdrAt}
-use Rattle.records.specs.Attributes.{adrRight, adrRule, aedrRight, aedrRule}
-use Rattle.records.specs.Index.{entryOf, indexAt, vxrRight, vxrRule, vvrRule}
+use Rattle.records.specs.Attributes.{adrRule, aedrRule}
+use Rattle.records.specs.Index.{entryOf, indexAt, vxrRule, vvrRule}
 use Rattle.records.specs.Unused.{uirRule}
 use Rattle.records.specs.declared.index.Entry as I
 use Rattle.variables.specs.declared.vdr.Variable.{Variable}
 use Rattle.variables.specs.Vdr.{carriedOf, variableOf}
-use Rattle.records.proofs.Judged.{reach-cases, judged-cases}
+use Rattle.records.proofs.Judged.{reach-cases}
+use Rattle.records.proofs.Fielded.{adr-has, aedr-has, vxr-has, vvr-has, uir-has}
 use Rattle.records.proofs.Ranges.{entry-cases}
 use Rattle.variables.proofs.Rule.{vdr-cases, carried-cases}
 use Rattle.walk.specs.Walk.{typeNumber, gdrNamed, fieldNumber, overBy, afterVars, varsList, lowerOver, lowerNext, chainList, attrsList, entriesList, unusedList, Listing, listStep, tallied, countIn, numNumber, varsTally, varNumber, chainTally, valuesNumber, lowerNumber, attrNumber, entriesTally, entryNumber, unusedNumber, lowerStep, valuesStep, entryStep, walkStepBy}
@@ -107,9 +108,6 @@ module _ (f : List ℕ) (E L : ℕ → Type 0) (Q : ℕ → ℕ → Type 0) (ear
     has-reach : (o n : ℕ) → Q t (reachOf f o n)
     has-reach o n = reach-cases f o (Q t) n (has-10 t) (has-20 t) (λ _. has-0 t)
 
-    has-judged : (o n : ℕ) (right : Bool) → Q t (judged f o n right)
-    has-judged o n right = judged-cases f o n right (Q t) (has-10 t) (has-20 t) (λ _. has-0 t)
-
     has-variable : (k o : ℕ) → Q t (variableOf f k o .fault)
     has-variable k o = vdr-cases f k o (λ u. Q t (u .fault)) (has-10 t) (has-20 t) (λ _. has-0 t)
 
@@ -123,12 +121,10 @@ module _ (f : List ℕ) (E L : ℕ → Type 0) (Q : ℕ → ℕ → Type 0) (ear
         (has-carried, (has-variable k t, (has-unless 11 (isAt f (t + 52) (pos n)) (has-11 t), tt)))
 
     has-vxr : (o : ℕ) → Q t (vxrRule f o)
-    unfolding vxrRule
-    has-vxr o = has-judged o 20 (vxrRight f o)
+    has-vxr o = vxr-has f o (Q t) (has-0 t) (has-10 t) (has-20 t)
 
     has-vvr : (o n bytes : ℕ) → Q t (vvrRule f o n bytes)
-    unfolding vvrRule
-    has-vvr o n bytes = has-judged o 8 (eqb (sizeAt f o) (8 + n * bytes))
+    has-vvr o n bytes = vvr-has f o (Q t) (has-0 t) (has-10 t) (has-20 t) n bytes
 
     has-values : (v : Variable) (e : I.Entry) → Q t (v .fault) → Q t (valuesNumber f v e)
     unfolding valuesNumber
@@ -142,24 +138,24 @@ module _ (f : List ℕ) (E L : ℕ → Type 0) (Q : ℕ → ℕ → Type 0) (ear
         has-first (vxrRule f o ∷ unless 11 (isAt f (o + 8) (pos 0)) ∷ []) (has-vxr o, (has-unless 11 (isAt f (o + 8) (pos 0)) (has-11 t), tt))
 
     has-attr : (n o : ℕ) → Q t (attrNumber f n o)
-    unfolding attrNumber adrRule
+    unfolding attrNumber
     has-attr n o =
         has-first (adrRule f o ∷ unless 11 (isAt f (o + 20) (pos n)) ∷ [])
-        (has-judged o 116 (adrRight f o), (has-unless 11 (isAt f (o + 20) (pos n)) (has-11 t), tt))
+        (adr-has f o (Q t) (has-0 t) (has-10 t) (has-20 t), (has-unless 11 (isAt f (o + 20) (pos n)) (has-11 t), tt))
 
     has-aedr : (a o : ℕ) → Q t (entryNumber f a o)
-    unfolding entryNumber aedrRule numNumber
+    unfolding entryNumber numNumber
     has-aedr a o =
         has-first (aedrRule f o ∷ numNumber f a o ∷ []) (
-          has-judged o 48 (aedrRight f o),
+          aedr-has f o (Q t) (has-0 t) (has-10 t) (has-20 t),
           (has-cond (ltb (endOf f) (a + 24)) (has-20 t) (has-unless 11 (sameAt f (o + 12) (a + 20)) (has-11 t)), tt),
         )
 
     has-unused : (b o : ℕ) → Q t (unusedNumber f b o)
-    unfolding unusedNumber uirRule
+    unfolding unusedNumber
     has-unused b o =
         has-first (uirRule f o ∷ unless 11 (isAt f (o + 12) (pos b)) ∷ [])
-        (has-judged o 16 true, (has-unless 11 (isAt f (o + 12) (pos b)) (has-11 t), tt))
+        (uir-has f o (Q t) (has-0 t) (has-10 t) (has-20 t), (has-unless 11 (isAt f (o + 12) (pos b)) (has-11 t), tt))
 
   -- ---- a step of the walk
   -- a link of an index, to lower records or to values

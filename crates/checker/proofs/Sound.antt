@@ -2,7 +2,7 @@
 use mathlib.Core.Path.{_≡_, refl, sym, ap, _∙_}
 use mathlib.Core.Logic.{_≢_, inl, inr}
 use mathlib.Core.Bool.{Bool, true, false, cond, not, true≢false, and-false, _&&_, _||_}
-use mathlib.Core.List.{List, [], _∷_}
+use mathlib.Core.List.{List}
 use Prim.Native.Nat.{ℕ, _+_, _≤_}
 use native.Mathlib.Omega.{arith}
 use lib.ListN.{length, set, length-set}
@@ -11,7 +11,7 @@ use borrow.Author.Tests.{leb-true, ltb-false, eqb-true, le-leb, le-ltb, eq-eqb, 
 use Rattle.format.specs.Fields.{endOf}
 use Rattle.records.specs.Rules.{sizeAt}
 use Rattle.records.specs.Opening.{tooLong, bodyOf}
-use Rattle.format.proofs.Tests.{both, every}
+use Rattle.format.proofs.Tests.{both}
 use Rattle.records.proofs.Opens.{opening-passes}
 use Rattle.records.proofs.Bodies.{body-le}
 use Rattle.marks.specs.Marks.{marked}

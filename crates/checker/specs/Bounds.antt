@@ -3,17 +3,15 @@
 use Prim.Native.Nat.{ℕ, _≤_}
 use mathlib.Core.List.{List}
 use lib.ListN.{length}
-use mathlib.Core.Path.{_≡_}
-use mathlib.Core.Bool.{true, cond}
+use mathlib.Core.Bool.{cond}
 use lib.Dec.{eqb}
 use Rattle.walk.specs.Bounds.{Within, SmallLevels}
 use Rattle.walk.specs.declared.positions.Levels.{Levels}
 use Rattle.walk.specs.declared.positions.Walk as W
-use Rattle.faults.specs.Fault.{faultAt, savedLocation}
+use Rattle.faults.specs.Fault.{faultAt}
 use Rattle.faults.specs.declared.fault.Involved.{Involved}
 use Rattle.checker.specs.Step.{conf, Run, walking}
 use Rattle.states.specs.Stages.{done}
-use Rattle.states.specs.Saved.{stageRange, verdictRange}
 use Rattle.checker.specs.declared.runs.Ran.{Ran}
 use Rattle.states.specs.declared.state.State.{State}
 use Rattle.checker.specs.declared.steps.Went.{Went}

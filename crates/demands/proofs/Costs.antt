@@ -13,8 +13,8 @@ use Rattle.format.proofs.Numbers.{unless-zero, zeros}
 use Rattle.format.specs.Fields.{endOf, isAt}
 use Rattle.records.specs.Rules.{sizeAt}
 use Rattle.records.specs.Opening.{gdrAt}
-use Rattle.records.specs.Attributes.{adrRight, adrRule, aedrRight, aedrRule}
-use Rattle.records.specs.Index.{usedAt, vxrRight, vxrRule, indexAt, entryOf}
+use Rattle.records.specs.Attributes.{adrRule, aedrRule}
+use Rattle.records.specs.Index.{usedAt, vxrRule, indexAt, entryOf}
 use Rattle.records.specs.Unused.{uirRule}
 use Rattle.records.specs.declared.index.Entry.{Entry}
 use Rattle.variables.specs.Vdr.{carriedOf, headOf, variableOf}

@@ -5,15 +5,13 @@ use mathlib.Core.Bool.{Bool, true, false, cond, _&&_, _||_, true≢false, or-tru
 use mathlib.Core.List.{List, [], _∷_, _++_, append-assoc, reverseAux}
 use Prim.Native.Nat.{ℕ, zero, suc, _+_, _-_, _*_, _≤_, _<_}
 use native.Mathlib.Omega.{arith}
-use lib.Dec.{ltb, leb, eqb}
+use lib.Dec.{leb}
 use lib.IntN.{ℤ, pos, negsuc}
 use lib.Signed.{leZ}
 use borrow.Author.Tests.{leb-true, le-leb, eqb-true, eq-eqb}
-use Rattle.format.specs.Fields.{endOf, fieldAt, eqZ, isAt, atLeast, atMost, natOr, natAt, linkAt}
+use Rattle.format.specs.Fields.{endOf, fieldAt, eqZ, isAt, atLeast, natOr, natAt, linkAt}
 use Rattle.format.proofs.SignedTests.{eqZ-true}
-use Rattle.format.specs.Bytes.{bigAt}
 use Rattle.records.specs.Rules.{sizeAt, typedAt}
-use Rattle.records.specs.Attributes.{elementSize}
 use Rattle.records.specs.Index.{usedAt, vxrRight, vxrRule, indexAt, vvrRule}
 use Rattle.records.specs.Tree.{Slot, slotsFrom, slotsOf, usedEntries, firstAt, lastAt, firstOf, lastOf, namedBy, namedByAll, levelsBelow, flat, namesIndex, lowerSlots, lowest, lowestEntries, entriesUnder}
 use Rattle.records.proofs.Ranges.{order-natural}
@@ -21,7 +19,7 @@ use Rattle.variables.specs.Vdr.{vdrFields, layoutOf, recordBytes, variableOf}
 use Rattle.walk.specs.Walk.{fieldNumber, chainTally, covers, valuesNumber, lowerNumber}
 use Rattle.walk.specs.Levels.{mostOf}
 use Rattle.demands.specs.Acceptance.{_∈_, Each, Consecutive, lastOr0, indexOffsets, ValuesRight, RangeRight, EntryRight, IndexRight}
-use Rattle.format.proofs.Tests.{every, both, or-left, cond-keeps}
+use Rattle.format.proofs.Tests.{both, or-left, cond-keeps}
 use Rattle.format.specs.Numbers.{first, unless}
 use Rattle.format.proofs.Numbers.{unless-zero, zeros}
 use Rattle.format.proofs.FieldRanges.{nat-small}

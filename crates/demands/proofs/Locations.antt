@@ -2,22 +2,22 @@
 -- link reaches. Assumes nothing.
 use mathlib.Core.Path.{_≡_, refl, sym, ap, _∙_, subst}
 use mathlib.Core.Logic.{_≢_, _⊎_, inl, inr}
-use mathlib.Core.Bool.{Bool, true, false, cond, not, _&&_, _||_, true≢false, and-false}
+use mathlib.Core.Bool.{Bool, true, false, cond, not, _&&_, _||_, true≢false}
 use mathlib.Core.List.{List, [], _∷_}
 use Prim.Native.Nat.{ℕ, zero, suc, _+_, _/_, _≤_, _<_}
 use native.Mathlib.Omega.{arith}
 use lib.Dec.{ltb, leb, eqb}
 use lib.IntN.{pos}
 use lib.ListN.{length, set}
-use borrow.Author.Tests.{eqb-true, eqb-false, eq-eqb, ne-eqb, leb-true, leb-false, le-leb, lt-leb, not-true}
+use borrow.Author.Tests.{eqb-true, eqb-false, eq-eqb, ne-eqb, not-true}
 use Rattle.format.proofs.FieldRanges.{end-is}
 use Rattle.format.specs.Fields.{endOf}
 use Rattle.format.proofs.Tests.{both, cond-keeps}
 use Rattle.format.specs.Numbers.{first, unless}
 use Rattle.records.specs.Rules.{typedAt}
 use Rattle.records.specs.Opening.{bodyOf}
-use Rattle.records.specs.Tiles.{tileRight, tileFields, typeUncarried, tile}
-use Rattle.records.proofs.Tiled.{tile-has}
+use Rattle.records.specs.Tiles.{tile}
+use Rattle.records.proofs.Tiled.{tile-seven, tile-fourteen, tile-has}
 use Rattle.records.proofs.Bodies.{body-le}
 use Rattle.marks.specs.Marks.{startAt, leftOf}
 use Rattle.marks.specs.declared.Found as F
@@ -252,35 +252,10 @@ module _ (f m : List ℕ) (p : ℕ) (long : length f ≤ length m) where
   stop-makes v o ss t e n x = let s = sweep-stops b v p ss (length f) 8 m t e n x in opens-run f m long v p o (s .0) (s .1)
 
   no-record : tile b (endOf b) p ≡ 7 → p ≢ endOf b → NoRecord b p
-  unfolding tile tileRight
-  no-record e x = (x, go (leb (p + 8) (endOf b)) refl (tileFields b (endOf b) p) refl (typeUncarried b p) e)
-    where
-      go : (x : Bool) → leb (p + 8) (endOf b) ≡ x → (y : Bool) → tileFields b (endOf b) p ≡ y → (z : Bool) → _≡_ {A = ℕ} (cond (x && y) (cond z 14 0) 7) 7
-          → (endOf b < p + 8) ⊎ (tileFields b (endOf b) p ≡ false)
-      go false i y j z e = inl (leb-false (p + 8) (endOf b) i)
-      go true i false j z e = inr j
-      go true i true j true e = absurd (omega arith)
-      go true i true j false e = absurd (omega arith)
-
-  record-no : NoRecord b p → tile b (endOf b) p ≡ 7
-  unfolding tile tileRight
-  record-no (x, inl h) = rw (lt-leb (p + 8) (endOf b) h)
-  record-no (x, inr h) = rw (h, and-false (leb (p + 8) (endOf b)))
+  no-record e x = (x, tile-seven b (endOf b) p .0 e)
 
   uncarried : tile b (endOf b) p ≡ 14 → NotCarried b p
-  unfolding tile tileRight
-  uncarried e = go (leb (p + 8) (endOf b)) refl (tileFields b (endOf b) p) refl (typeUncarried b p) refl e
-    where
-      go : (x : Bool) → leb (p + 8) (endOf b) ≡ x → (y : Bool) → tileFields b (endOf b) p ≡ y → (z : Bool) → typeUncarried b p ≡ z
-          → _≡_ {A = ℕ} (cond (x && y) (cond z 14 0) 7) 14 → NotCarried b p
-      go true i true j true k e = (leb-true (p + 8) (endOf b) i, j, k)
-      go true i true j false k e = absurd (omega arith)
-      go true i false j z k e = absurd (omega arith)
-      go false i y j z k e = absurd (omega arith)
-
-  carried-not : NotCarried b p → (tile b (endOf b) p ≡ 14) × (p ≢ endOf b)
-  unfolding tile tileRight
-  carried-not h = (rw (le-leb (p + 8) (endOf b) (h .0), h .1, h .2), λ e. omega (arith, h .0))
+  uncarried e = tile-fourteen b (endOf b) p .0 e
 
   stops-at : (v : ℕ) (Fault : List ℕ → ℕ → Type 0) → (tile b (endOf b) p ≡ v → p ≢ endOf b → Fault b p) → Opens f → Stopped b v p 8 → TilesStop (below f) Fault p
   stops-at v Fault reads o s =
@@ -379,12 +354,11 @@ module _ (f m : List ℕ) (p : ℕ) (long : length f ≤ length m) where
       λ e. seven-reads 7 refl (run-cases 7 e),
       λ h.
           let s = stop-back NoRecord (h .0) (h .1) in
-          stop-makes 7 (h .0) (s .starts) (tiled-tiles b (s .starts) 8 p (s .tiled)) (record-no (s .fault)) (λ e. omega arith) (s .fault .0),
+          stop-makes 7 (h .0) (s .starts) (tiled-tiles b (s .starts) 8 p (s .tiled)) (tile-seven b (endOf b) p .1 (s .fault .1)) (λ e. omega arith) (s .fault .0),
     );
     swept = λ o h.
         let s = stop-back NotCarried o h in
-        let t = carried-not (s .fault) in
-        stop-makes 14 o (s .starts) (tiled-tiles b (s .starts) 8 p (s .tiled)) (t .0) (λ e. omega arith) (t .1);
+        stop-makes 14 o (s .starts) (tiled-tiles b (s .starts) 8 p (s .tiled)) (tile-fourteen b (endOf b) p .1 (s .fault)) (λ e. omega arith) (λ e. omega (arith, s .fault .0));
     fourteen = λ o e. fourteen-reads 14 refl o (run-cases 14 e);
     linked = λ v l e. let r = linked-reads v l (run-cases v e) in (r .0, r .1 .1);
     deeper = λ e.

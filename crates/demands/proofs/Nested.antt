@@ -7,7 +7,7 @@ use mathlib.Core.List.{List, [], _∷_, _++_}
 use Prim.Native.Nat.{ℕ, suc, _+_, _≤_, _<_, min, max}
 use native.Mathlib.Numerals.{add-one}
 use native.Mathlib.Omega.{arith}
-use lib.Dec.{ltb, eqb}
+use lib.Dec.{eqb}
 use lib.IntN.{pos, negsuc}
 use lib.ListN.{length}
 use borrow.Author.Tests.{eqb-true, eqb-false, lt-ltb, le-ltb}
@@ -16,7 +16,7 @@ use Rattle.format.proofs.SignedTests.{eqZ-true}
 use Rattle.format.specs.Numbers.{unless}
 use Rattle.format.proofs.Numbers.{unless-zero, zeros}
 use Rattle.records.specs.Opening.{gdrAt}
-use Rattle.records.specs.Index.{usedAt, vxrRight, vxrRule, indexAt, entryOf}
+use Rattle.records.specs.Index.{usedAt, vxrRule, indexAt, entryOf}
 use Rattle.records.specs.Tree.{Slot, slotsOf, firstOf, lastOf, namedBy, namedByAll, levelsBelow, flat, namesIndex, entriesUnder}
 use Rattle.records.proofs.Ranges.{EntryParts, entry-is, entry-reads}
 use Rattle.records.specs.declared.index.Entry.{Entry}

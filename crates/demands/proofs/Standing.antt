@@ -24,7 +24,7 @@ use Rattle.walk.specs.declared.positions.Step as T
 use Rattle.walk.specs.declared.positions.Step.the-variants.{Over, End, Take, Down, Up}
 use Rattle.walk.proofs.Leads.{link-keeps, list-keeps}
 use Rattle.faults.specs.Holder.{linkIn, holderOf}
-use Rattle.demands.proofs.Positions.{Position, position, top, Move, passes, stops, takes, moveBy, moveOf}
+use Rattle.demands.proofs.Positions.{Position, top, Move, passes, stops, takes, moveBy, moveOf}
 
 module _ (f : List ℕ) (S : ℕ → Type 0) (first : S 8) (low : (o : ℕ) → S o → 8 ≤ o) where
   -- ---- what a position names

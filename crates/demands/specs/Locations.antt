@@ -80,7 +80,7 @@ pub record Locations (f m : List ℕ) (p : ℕ) : Type 0 where
   pub deeper : endStage f m ≡ Done 23 p → typedAt (below f) p (pos 6) ≡ true
   -- 11.2: "the first unclaimed record for 13": the first that no link reaches
   pub thirteen : (endStage f m ≡ Done 13 p) ↔ (Opens f × FirstUnreached (below f) p)
-  -- 11.2: "0 for the others": a refusal of the opening has no place
+  -- 11.2: "0 for the others": a refusal of the opening has no location
   pub unopened : (v : ℕ) → (Opens f → ⊥) → endStage f m ≡ Done v p → p ≡ 0
 
 abbrev pub WhereItLies : Type 0

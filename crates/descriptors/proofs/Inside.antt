@@ -11,7 +11,7 @@ use Rattle.format.proofs.FieldRanges.{end-is}
 use Rattle.format.proofs.FieldRanges.{end-is}
 use Rattle.records.specs.Opening.{bodyOf}
 use Rattle.variables.specs.Vdr.{numDimsAt, layoutAt, layoutOf, variableOf}
-use Rattle.variables.proofs.Rule.{vdr-reads, Dimensions, of-variable}
+use Rattle.variables.proofs.Rule.{vdr-reads, of-variable}
 use Rattle.lookup.specs.Lists.{kindAmong, meets, variableWay, attributeWay, entryWay}
 use Rattle.lookup.specs.declared.lists.Wanted.{Wanted}
 use Rattle.lookup.specs.declared.lists.Way.{Way}

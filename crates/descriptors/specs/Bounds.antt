@@ -5,7 +5,6 @@ use mathlib.Core.List.{List}
 use lib.ListN.{length}
 use lib.Dec.{eqb}
 use Rattle.lookup.specs.Lists.{isEntryKind}
-use Rattle.variables.specs.declared.vdr.Layout.{Layout}
 use Rattle.lookup.specs.declared.lists.Way.{Way}
 use Rattle.lookup.specs.declared.lists.Way.the-variants.{Found, Stopped}
 use Rattle.descriptors.specs.declared.Dimensions.{Dimensions}

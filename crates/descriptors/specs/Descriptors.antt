@@ -10,8 +10,6 @@ use Rattle.records.specs.Layout.{encodingAt, cdrFlagsAt, nrVarsAt, numAttrAt, r
 use Rattle.records.specs.Opening.{gdrAt, rNumDims, fileEnd, bodyOf}
 use Rattle.variables.specs.Vdr.{variableOf}
 use Rattle.variables.specs.Place.{indexRight}
-use Rattle.variables.specs.declared.vdr.Variable.{Variable}
-use Rattle.variables.specs.declared.vdr.Layout.{Layout}
 use Rattle.lookup.specs.Lists.{opened, isEntryKind, kindAmong, variableWay, attributeWay, entryWay}
 use Rattle.lookup.specs.declared.lists.Wanted.{Wanted}
 use Rattle.lookup.specs.declared.lists.Way.{Way}

@@ -11,7 +11,6 @@ use Rattle.records.specs.Rules.{sizeAt, typedAt}
 use Rattle.records.specs.Opening.{tooLong, gdrAt, opening, bodyOf}
 use Rattle.records.specs.Attributes.{adrRule, aedrRule}
 use Rattle.variables.specs.Vdr.{carriedOf, variableOf}
-use Rattle.variables.specs.declared.vdr.Variable.{Variable}
 use Rattle.lookup.specs.declared.lists.Wanted.{Wanted}
 use Rattle.lookup.specs.declared.lists.Wanted.the-variants.{Place, Number}
 use Rattle.lookup.specs.declared.lists.Way.{Way}

@@ -1,7 +1,7 @@
 -- Marks: what the sweep writes, and what the walk's last step looks at. Assumes nothing.
 use Prim.Native.Nat.{ℕ, zero, suc, _+_}
 use mathlib.Core.Bool.{Bool, cond, not, _&&_, _||_}
-use mathlib.Core.List.{List, [], _∷_, _++_}
+use mathlib.Core.List.{List, _++_}
 use lib.ListN.{length, getD, take, drop, set, replicate}
 use lib.Dec.{ltb, leb, eqb}
 use lib.IntN.{negsuc}

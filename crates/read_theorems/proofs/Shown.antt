@@ -1,21 +1,20 @@
 -- THE VALUE SHOWN: of every file, accepted or not. Assumes nothing.
 use mathlib.Core.Path.{_≡_, refl, sym, ap, _∙_, subst}
-use mathlib.Core.Bool.{Bool, true, false, cond, _&&_, _||_}
+use mathlib.Core.Bool.{Bool, true, false, cond, _&&_}
 use mathlib.Core.List.{List}
 use Prim.Native.Nat.{ℕ, suc, _+_, _-_, _*_, _≤_, _<_}
 use native.Mathlib.Nat.{zero-add, mul-le-mul-right, suc-mul, mul-comm}
 use native.Mathlib.Omega.{arith}
-use lib.Dec.{ltb, leb, eqb}
-use lib.IntN.{ℤ, pos, negsuc}
+use lib.Dec.{eqb}
+use lib.IntN.{ℤ, pos}
 use lib.ListN.{length}
-use borrow.Author.Tests.{eqb-true, leb-true}
-use Rattle.format.specs.Bytes.{bigAt}
-use Rattle.format.specs.Fields.{eqZ, isAt, natAt, natOr, bitAt, atLeast, atMost}
+use borrow.Author.Tests.{eqb-true}
+use Rattle.format.specs.Fields.{eqZ, natAt, natOr, bitAt}
 use Rattle.format.specs.Encodings.{encodingOf}
 use Rattle.records.specs.Layout.{dataTypeAt, elementsAt, varFlagsAt, entryElementsAt, entryTypeAt, entryValueAt}
-use Rattle.records.specs.Rules.{sizeAt, typedAt}
-use Rattle.records.specs.Opening.{cdrRight, bodyOf}
-use Rattle.records.specs.Attributes.{elementSize, aedrRight, aedrRule}
+use Rattle.records.specs.Rules.{sizeAt}
+use Rattle.records.specs.Opening.{bodyOf}
+use Rattle.records.specs.Attributes.{elementSize}
 use Rattle.records.specs.Index.{vvrRule}
 use Rattle.records.specs.Tree.{Slot, firstOf, lastOf, namedBy}
 use Rattle.records.specs.declared.index.Entry.{Entry}
@@ -48,7 +47,7 @@ use Rattle.records.proofs.Fielded.{vvr-law, aedr-law, AedrFields, aedr-fields}
 use Rattle.demands.proofs.VariableFacts.{z-layout, r-layout, exact-size}
 use Rattle.format.proofs.Tests.{both}
 use Rattle.values.proofs.Agreeing.{Decodes, decodes}
-use Rattle.records.proofs.Opens.{opening-passes}
+use Rattle.records.proofs.Opens.{cdr-fields, opening-passes}
 use Rattle.records.proofs.Bodies.{opening-body}
 use Rattle.lookup.proofs.Opening.{opened-parts}
 use Rattle.lookup.proofs.Kept.{Lies, lands-lies, meets-parts, variable-kept, entry-kept}
@@ -61,15 +60,8 @@ pub list-met : (f : List ℕ) (t p n o : ℕ) → nth f p n ≡ o → ((h : ℕ)
 list-met f t p n o e g = record { place = sym (nth-same f p n) ∙ e; rules = λ h l. ap (meets f t) (sym (nth-same f p h)) ∙ g h l }
 
 -- ---- the encoding of a file that opens
-cdr-ordered : (f : List ℕ) → cdrRight f ≡ true → 1 ≤ encodingOf (fileEncoding f) .order
-unfolding cdrRight
-cdr-ordered f e =
-    let order = leb 1 (encodingOf (natAt f 28) .order) in
-    let before = typedAt f 8 (pos 1) && eqb (sizeAt f 8) 304 && isAt f 20 (pos 2) in
-    leb-true 1 (encodingOf (natAt f 28) .order) (both before order (both (before && order) (ltb (bigAt f 32 4) 4) e .0) .1)
-
 pub ordered : (f : List ℕ) → opened f ≡ true → 1 ≤ encodingOf (fileEncoding (bodyOf f)) .order
-ordered f e = let b = bodyOf f in cdr-ordered b (opening-passes b (opening-body f (opened-parts f e .1)) .cdr)
+ordered f e = let b = bodyOf f in cdr-fields b .0 (opening-passes b (opening-body f (opened-parts f e .1)) .cdr) .encoding
 
 module _ (f : List ℕ) where
   -- ---- the values of a record

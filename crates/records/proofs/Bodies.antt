@@ -1,11 +1,11 @@
 -- The end of a file, and what lies before it: the opening goes by that alone. Assumes nothing.
 use mathlib.Core.Path.{_≡_, refl, sym, ap, _∙_}
-use mathlib.Core.Bool.{Bool, true, false, cond, _&&_}
+use mathlib.Core.Bool.{Bool, true, false, _&&_}
 use mathlib.Core.List.{List, _++_}
 use Prim.Native.Nat.{ℕ, _+_, _*_, _≤_}
 use native.Mathlib.Omega.{arith}
 use lib.Dec.{leb, eqb}
-use lib.IntN.{pos, negsuc}
+use lib.IntN.{pos}
 use lib.ListN.{length, take, length-append}
 use lib.Seq.{length-take-le, take-length, take-append-seam, take-take}
 use borrow.Author.Tests.{leb-true, eqb-true, le-leb}
@@ -13,7 +13,7 @@ use Rattle.format.specs.Fields.{endOf, isAt, atLeast, atMost, eachWithin, natAt
 use Rattle.format.proofs.Tests.{both}
 use Rattle.format.proofs.FieldRanges.{end-is}
 use Rattle.format.proofs.Agree.{same-big, same-field, same-each}
-use Rattle.records.specs.Rules.{sizeAt, typedAt}
+use Rattle.records.specs.Rules.{sizeAt}
 use Rattle.records.specs.Opening.{magicsRight, whollyCompressed, cdrRight, singleFile, gdrAt, eofOf, eofRight, gdrFields, rNumDims, gdrRight, magicsNumber, descriptorsNumber, opening, fileEnd, bodyOf, Unpadded}
 use Rattle.records.proofs.Opens.{window, Passes, opening-passes, passes-opening, gdr-parts}
 

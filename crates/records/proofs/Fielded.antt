@@ -1,22 +1,21 @@
 -- The rules of records by their fields: of an ADR, an AEDR, a VXR, a VVR and a UIR. Assumes nothing.
-use mathlib.Core.Path.{_≡_, refl}
+use mathlib.Core.Path.{_≡_}
 use mathlib.Core.Logic.{_↔_}
-use mathlib.Core.Bool.{Bool, true, false, _&&_}
+use mathlib.Core.Bool.{true}
 use mathlib.Core.List.{List, [], _∷_}
 use Prim.Native.Nat.{ℕ, _+_, _*_, _≤_}
 use native.Mathlib.Omega.{arith}
 use lib.Dec.{leb, eqb}
-use lib.IntN.{ℤ, pos, negsuc}
-use lib.Signed.{leZ}
+use lib.IntN.{pos}
 use borrow.Author.Tests.{leb-true, eqb-true, le-leb, eq-eqb}
-use Rattle.format.specs.Fields.{fieldAt, natOr, natAt, atLeast, withinAt, inOrder}
+use Rattle.format.specs.Fields.{natAt, atLeast, withinAt, inOrder}
 use Rattle.format.proofs.Tests.{every}
 use Rattle.records.specs.Layout.{scopeAt, entryTypeAt, entryNumAt, entryElementsAt, vxrEntriesAt, vxrUsedAt}
 use Rattle.records.specs.Rules.{sizeAt}
 use Rattle.records.specs.Attributes.{adrRight, adrRule, elementSize, aedrRight, aedrRule}
 use Rattle.records.specs.Index.{entriesAt, usedAt, vxrRight, vxrRule, vvrRule}
 use Rattle.records.specs.Unused.{uirRule}
-use Rattle.records.proofs.Judged.{Judged, judged-law}
+use Rattle.records.proofs.Judged.{Judged, judged-law, judged-cases}
 use Rattle.records.proofs.Ranges.{order-natural}
 
 module _ (f : List ℕ) (o : ℕ) where
@@ -40,6 +39,28 @@ module _ (f : List ℕ) (o : ℕ) where
   pub uir-law : uirRule f o ≡ 0 ↔ Judged f o 16 true
   unfolding uirRule
   uir-law = judged-law f o 16 true
+
+  -- ---- what 0, 10 and 20 have, the number of each rule has
+  module _ (Q : ℕ → Type 0) (keeps : Q 0) (wrong : Q 10) (past : Q 20) where
+    pub adr-has : Q (adrRule f o)
+    unfolding adrRule
+    adr-has = judged-cases f o 116 (adrRight f o) Q wrong past (λ _. keeps)
+
+    pub aedr-has : Q (aedrRule f o)
+    unfolding aedrRule
+    aedr-has = judged-cases f o 48 (aedrRight f o) Q wrong past (λ _. keeps)
+
+    pub vxr-has : Q (vxrRule f o)
+    unfolding vxrRule
+    vxr-has = judged-cases f o 20 (vxrRight f o) Q wrong past (λ _. keeps)
+
+    pub vvr-has : (n bytes : ℕ) → Q (vvrRule f o n bytes)
+    unfolding vvrRule
+    vvr-has n bytes = judged-cases f o 8 (eqb (sizeAt f o) (8 + n * bytes)) Q wrong past (λ _. keeps)
+
+    pub uir-has : Q (uirRule f o)
+    unfolding uirRule
+    uir-has = judged-cases f o 16 true Q wrong past (λ _. keeps)
 
   -- ---- an ADR
   pub record AdrFields : Type 0 where

@@ -1,19 +1,21 @@
 -- When the numbers of the opening are 0: the magic numbers, the CDR and the GDR. Assumes nothing.
 use mathlib.Core.Path.{_≡_}
 use mathlib.Core.Logic.{_↔_}
-use mathlib.Core.Bool.{Bool, true, false, cond, _&&_}
+use mathlib.Core.Bool.{true, false, cond, _&&_}
 use mathlib.Core.List.{List, [], _∷_}
-use Prim.Native.Nat.{ℕ, _+_, _*_, _≤_}
+use Prim.Native.Nat.{ℕ, _+_, _*_, _≤_, _<_}
 use native.Mathlib.Omega.{arith}
-use lib.Dec.{leb, eqb}
+use lib.Dec.{ltb, leb, eqb}
 use lib.IntN.{pos, negsuc}
 use lib.ListN.{length}
-use borrow.Author.Tests.{leb-true, eqb-true, le-leb, eq-eqb}
-use Rattle.format.specs.Fields.{endOf, isAt, atLeast, withinAt, eachWithin}
+use borrow.Author.Tests.{ltb-true, leb-true, eqb-true, lt-ltb, le-leb, eq-eqb}
+use Rattle.format.specs.Bytes.{bigAt}
+use Rattle.format.specs.Fields.{endOf, isAt, atLeast, withinAt, eachWithin, natAt}
+use Rattle.format.specs.Encodings.{encodingOf}
 use Rattle.format.proofs.Tests.{both, every, cond-keeps, cond-left, cond-right}
 use Rattle.format.proofs.Numbers.{zeros, first-has}
 use Rattle.format.proofs.FieldRanges.{end-is}
-use Rattle.records.specs.Layout.{nrVarsAt, numAttrAt, rMaxRecAt, rNumDimsAt, nzVarsAt, rDimSizesAt}
+use Rattle.records.specs.Layout.{cdrOffset, versionAt, encodingAt, cdrFlagsAt, nrVarsAt, numAttrAt, rMaxRecAt, rNumDimsAt, nzVarsAt, rDimSizesAt}
 use Rattle.records.specs.Rules.{sizeAt, typedAt}
 use Rattle.records.specs.Opening.{magicsRight, whollyCompressed, cdrRight, singleFile, gdrAt, eofOf, eofRight, gdrFields, rNumDims, gdrRight, magicsNumber, descriptorsNumber, opening}
 
@@ -33,6 +35,26 @@ module _ (f : List ℕ) where
         record { least = leb-true 372 (length f) (w .0); magics = w .1; uncompressed = cond-right (whollyCompressed f) 3 0 (a .1) .0 },
     λ m. rw (le-leb 372 (length f) (m .least), m .magics, m .uncompressed),
   )
+
+  -- ---- the CDR
+  pub record CdrFields : Type 0 where
+    pub typed : typedAt f cdrOffset (pos 1) ≡ true
+    pub size : sizeAt f cdrOffset ≡ 304
+    pub version : isAt f versionAt (pos 2) ≡ true
+    pub encoding : 1 ≤ encodingOf (natAt f encodingAt) .order
+    pub flags : bigAt f cdrFlagsAt 4 < 4
+
+  pub cdr-fields : cdrRight f ≡ true ↔ CdrFields
+  unfolding cdrRight
+  cdr-fields =
+      let order = encodingOf (natAt f encodingAt) .order in
+      let flags = bigAt f cdrFlagsAt 4 in
+      let tests = typedAt f cdrOffset (pos 1) ∷ eqb (sizeAt f cdrOffset) 304 ∷ isAt f versionAt (pos 2) ∷ leb 1 order ∷ ltb flags 4 ∷ [] in (
+        λ e.
+            let p = every tests e in
+            record { typed = p 0; size = eqb-true (sizeAt f cdrOffset) 304 (p 1); version = p 2; encoding = leb-true 1 order (p 3); flags = ltb-true flags 4 (p 4) },
+        λ p. rw (p .typed, eq-eqb (sizeAt f cdrOffset) 304 (p .size), p .version, le-leb 1 order (p .encoding), lt-ltb flags 4 (p .flags)),
+      )
 
   -- ---- the CDR and the GDR
   pub record Descriptors : Type 0 where

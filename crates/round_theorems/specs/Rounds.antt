@@ -18,11 +18,11 @@ use Rattle.jobs.specs.Turns.{Window, rowAt, partsAt, Rounded, roundOf}
 
 -- ---- REFUSED WITH 24
 
--- the place i of an area lies in a part
+-- byte i of an area lies in a part
 abbrev pub In : ℕ → Part → Type 0
 In i p = (p .from ≤ i) × (i < p .from + p .len)
 
--- two parts have a place in common
+-- two parts have a byte in common
 abbrev pub Share : Part → Part → Type 0
 Share p r = (i : ℕ) × (In i p × In i r)
 

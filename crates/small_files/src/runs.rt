@@ -1,5 +1,6 @@
 // A check from a fresh state to its verdict.
 use calls::checks;
+use states::state;
 
 // What a check came to: -1 or its verdict, the location of a refusal, and the steps it made.
 pub(crate) struct Run {
@@ -10,7 +11,7 @@ pub(crate) struct Run {
 
 // One grant of 1000 steps.
 pub(crate) fn in_one(file: &[u8], marks: &mut [u8]) -> Run {
-    let mut state = [0u32; 34];
+    let mut state = [0u32; state::STATE_LENGTH];
     checks::tlz_check_begin(&mut state);
     let mut steps: u64 = 0;
     let mut location: u64 = 0;
@@ -54,7 +55,7 @@ fn each(file: &[u8], marks: &mut [u8], state: &mut [u32]) -> Run {
 }
 
 pub(crate) fn in_many(file: &[u8], marks: &mut [u8]) -> Run {
-    let mut state = [0u32; 34];
+    let mut state = [0u32; state::STATE_LENGTH];
     checks::tlz_check_begin(&mut state);
     each(file, marks, &mut state)
 }

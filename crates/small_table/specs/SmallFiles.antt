@@ -1,5 +1,5 @@
 -- The small files of section 18 of docs/RULES.md, some with lower index records and some that are padded, and their plain runs, in one
--- table: verdict, place, steps and marks. Assumes nothing.
+-- table: verdict, location, steps and marks. Assumes nothing.
 use mathlib.Core.Path.{_≡_, refl}
 use mathlib.Core.Bool.{Bool, true, false, _&&_}
 use mathlib.Core.List.{List, [], _∷_, _++_}
@@ -141,13 +141,13 @@ unfoldable pub fileM : List ℕ
 fileM = fileBy 6 3 563 372 1 0 (plane 3 5 minusOne 0 (0 ∷ 1 ∷ 2 ∷ []))
 
 -- ---- rows
--- the marks at some places
+-- the marks at some offsets
 unfoldable pub marksAre : List ℕ → List (ℕ × ℕ) → Bool
 marksAre m [] = true
 marksAre m (p ∷ ps) = eqb (getD m (p .0) 0) (p .1) && marksAre m ps
 
--- the plain run over a file, with marks that are all 7 to begin with, gives this verdict and place in this many steps and leaves these
--- marks
+-- the plain run over a file, with marks that are all 7 to begin with, gives this verdict and location in this many steps and leaves
+-- these marks
 unfoldable pub ends : ℤ → ℕ → ℕ → List (ℕ × ℕ) → Run → Bool
 ends v p n ps r =
     eqZ (answerOf (r .at .state .stage)) v && eqb (locationIn (r .at .state .stage)) p && eqb (r .made) n && marksAre (r .at .marks) ps

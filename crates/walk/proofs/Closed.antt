@@ -3,12 +3,12 @@ use mathlib.Core.Path.{_≡_, refl}
 use mathlib.Core.Logic.{_⊎_, inl, inr}
 use mathlib.Core.Bool.{Bool, true, false, cond, or-true, _&&_, _||_}
 use mathlib.Core.List.{List, [], _∷_}
-use Prim.Native.Nat.{ℕ, _+_, _≤_, max}
+use Prim.Native.Nat.{ℕ, _+_, _≤_}
 use native.Mathlib.Omega.{arith}
 use lib.Dec.{ltb, eqb}
 use borrow.Author.Tests.{ltb-true, leb-true, le-leb, eqb-true, eq-eqb}
-use lib.IntN.{pos, negsuc}
-use Rattle.format.specs.Fields.{endOf, isAt, afterAt}
+use lib.IntN.{pos}
+use Rattle.format.specs.Fields.{endOf, isAt}
 use Rattle.records.specs.Opening.{gdrAt}
 use Rattle.records.specs.Index.{usedAt, entryOf, indexAt}
 use Rattle.records.specs.Attributes.{adrRule}

@@ -1,6 +1,6 @@
 -- The offset of the GDR, and what an index entry says, are below 2 ^ 31. Assumes nothing.
 use mathlib.Core.List.{List}
-use Prim.Native.Nat.{ℕ, _+_, _<_}
+use Prim.Native.Nat.{ℕ, _<_}
 use native.Mathlib.Omega.{arith}
 use Rattle.format.proofs.FieldRanges.{nat-small, link-small}
 use Rattle.records.specs.Opening.{gdrAt}

@@ -10,7 +10,7 @@ use Rattle.records.specs.Rules.{typedAt, reachOf}
 use Rattle.records.specs.Layout.{nextAt, headOfRVariables, headOfZVariables, headOfAttributes, headOfUnused, nrVarsAt, numAttrAt, rMaxRecAt, nzVarsAt, headOfGrEntries, attrNumAt, grCountAt, headOfZEntries, zCountAt, maximumAfter, entryAttrAt, entryNumAt, maxRecAt, headOfIndex, tailOfIndex, varNumAt, previousAt}
 use Rattle.records.specs.Opening.{gdrAt}
 use Rattle.records.specs.Attributes.{adrRule, aedrRule}
-use Rattle.records.specs.Index.{usedAt, vxrRule, indexAt, entryOf, vvrRule}
+use Rattle.records.specs.Index.{usedAt, vxrRule, indexAt, entryOf, entryCovers, vvrRule}
 use Rattle.records.specs.Unused.{uirRule}
 use Rattle.records.specs.declared.index.Entry.{Entry}
 use Rattle.variables.specs.Vdr.{carriedOf, variableOf}
@@ -137,7 +137,7 @@ chainStep f near u p last floor covered =
 
 -- MaxRec of the VDR v lies in an entry's range
 abbrev pub covers : List ℕ → ℕ → Entry → Bool
-covers f v e = atLeast f (maxRecAt v) (pos 0) && (leb (e .first) (natAt f (maxRecAt v)) && leb (natAt f (maxRecAt v)) (e .last))
+covers f v e = atLeast f (maxRecAt v) (pos 0) && entryCovers e (natAt f (maxRecAt v))
 
 -- 8.17: "the VVR's own size, 10 below 8; the VDR's rule, 10 or 20; then the VVR's rule"
 unfoldable pub valuesNumber : List ℕ → Variable → Entry → ℕ

@@ -99,8 +99,8 @@ pub enum Step {
     End {
         number: u32,
     },
-    // A link to a record: where the walk goes on, the number before its place is looked at, the record, the number of its type, the
-    // number of its rule and its place in the list.
+    // A link to a record: where the walk goes on, the number before its offset is looked at, the record, the number of its type,
+    // the number of its rule and its place in the list.
     Take {
         next: Walk,
         early: u32,

@@ -7,7 +7,6 @@ use native.Mathlib.Omega.{arith}
 use borrow.Author.Tests.{not-true, not-false}
 use Rattle.format.proofs.SignedTests.{cast-nat, is-nat}
 use Rattle.format.specs.Types.{typeOf}
-use Rattle.format.specs.declared.types.DataType.{DataType}
 use Rattle.records.specs.Attributes.{elementSize}
 use Rattle.answers.specs.Answers.{elementRead}
 use Rattle.answers.proofs.Elements.{there-not-below, there-bytes, read-there}

@@ -2,7 +2,6 @@ use borrow.Author.Tests.{eq-eqb, ne-eqb, lt-leb, le-leb}
 use mir.Facts.{toZ-ofZ}
 use mir.Val.{SFits}
 use mir.Syntax.{w32}
-use native.Mathlib.Omega.{arith}
 use borrow.Author.Needs.{needs}
 use Rattle.descriptors.proofs.file_field_in.Statement.{statement}
 use Rattle.descriptors.proofs.file_field_in.Tie as tie

@@ -3,7 +3,7 @@ use mir.Val.{toZ, ofZ}
 use mir.Facts.{toZ-ofZ}
 use Rattle.format.proofs.SignedTests.{equal-is}
 use Rattle.format.specs.Fields.{isAt}
-use Rattle.values.proofs.Extend.{wider-fits, wider-is}
+use Rattle.values.proofs.Extend.{wider-fits}
 use mir.Syntax.{w32, w64}
 use mathlib.Core.Path.{_∙_}
 use borrow.Author.Needs.{needs}

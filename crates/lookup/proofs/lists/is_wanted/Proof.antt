@@ -1,7 +1,7 @@
 use mir.Val.{SFits}
 use mir.Facts.{toZ-ofZ}
 use mir.Syntax.{w64}
-use mathlib.Core.Path.{_∙_, sym, ap}
+use mathlib.Core.Path.{_∙_}
 use borrow.Author.Needs.{needs}
 use Rattle.lookup.proofs.lists.is_wanted.Statement.{statement}
 use Rattle.lookup.proofs.lists.is_wanted.Tie as tie

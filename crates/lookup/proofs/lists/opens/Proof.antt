@@ -1,6 +1,6 @@
 use Rattle.lookup.proofs.Opening.{opens-inside}
 use Rattle.lookup.specs.Lists.{opened}
-use borrow.Author.Tests.{eqb-true, not-true}
+use borrow.Author.Tests.{eqb-true}
 use mathlib.Core.Bool.{true≢false}
 use mathlib.Core.Path.{_∙_, sym}
 use borrow.Author.Needs.{needs}

@@ -1,4 +1,3 @@
-use borrow.Author.Tests.{eq-eqb, ne-eqb}
 use borrow.Author.Needs.{needs}
 use Rattle.lookup.proofs.lists.over.Statement.{statement}
 use Rattle.lookup.proofs.lists.over.Tie as tie

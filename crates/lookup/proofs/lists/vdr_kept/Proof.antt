@@ -2,8 +2,8 @@ use Rattle.lookup.specs.Lists.{vdrKept}
 use Rattle.variables.proofs.Rule.{vdr-inside}
 use Rattle.variables.specs.declared.vdr.Variable.{Variable}
 use borrow.Author.Tests.{eq-eqb, ne-eqb, eqb-true}
-use mathlib.Core.Bool.{true, false, true≢false}
-use mathlib.Core.Path.{_∙_, sym, ap, _≡_}
+use mathlib.Core.Bool.{true≢false}
+use mathlib.Core.Path.{_∙_, sym, ap}
 use borrow.Author.Needs.{needs}
 use Rattle.lookup.proofs.lists.vdr_kept.Statement.{statement}
 use Rattle.lookup.proofs.lists.vdr_kept.Tie as tie

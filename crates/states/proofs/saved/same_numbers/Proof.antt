@@ -1,7 +1,7 @@
 use native.Mathlib.Omega.{arith}
 use mathlib.Core.Path.{_≡_, _∙_, sym, refl}
 use Prim.Native.Nat.{_≤_, _-_}
-use lib.ListN.{length, drop}
+use lib.ListN.{drop}
 use Rattle.states.specs.Saved.{stateLength, sameNumbers}
 use Rattle.states.proofs.Same.{differ, agree, all-same}
 use borrow.Author.Needs.{needs}

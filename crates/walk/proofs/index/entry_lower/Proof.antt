@@ -1,6 +1,6 @@
 use Rattle.walk.proofs.Entered.{lower-late, lower-on}
 use native.Mathlib.Omega.{arith}
-use mathlib.Core.Path.{_∙_, ap, sym}
+use mathlib.Core.Path.{_∙_}
 use borrow.Author.Needs.{needs}
 use Rattle.walk.proofs.index.entry_lower.Statement.{statement}
 use Rattle.walk.proofs.index.entry_lower.Tie as tie

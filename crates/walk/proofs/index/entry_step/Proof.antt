@@ -3,8 +3,7 @@ use Rattle.walk.specs.Walk.{entryFaulty, entryStep}
 use Rattle.variables.proofs.Rule.{bytes-small}
 use Rattle.variables.specs.declared.vdr.Variable.{Variable}
 use Rattle.records.specs.Index.{entryOf}
-use native.Mathlib.Omega.{arith}
-use mathlib.Core.Path.{_∙_, ap, sym}
+use mathlib.Core.Path.{_∙_, ap}
 use borrow.Author.Needs.{needs}
 use Rattle.walk.proofs.index.entry_step.Statement.{statement}
 use Rattle.walk.proofs.index.entry_step.Tie as tie

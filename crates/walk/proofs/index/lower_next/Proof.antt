@@ -1,4 +1,3 @@
-use mathlib.Core.Path.{_∙_}
 use Rattle.walk.specs.Walk.{lowerNext}
 use Rattle.walk.proofs.Leads.{led}
 use borrow.Author.Needs.{needs}

@@ -1,4 +1,4 @@
-use borrow.Author.Tests.{lt-ltb, le-ltb, eq-eqb, ne-eqb}
+use borrow.Author.Tests.{lt-ltb, le-ltb}
 use borrow.Author.Needs.{needs}
 use Rattle.walk.proofs.index.lower_over.Statement.{statement}
 use Rattle.walk.proofs.index.lower_over.Tie as tie

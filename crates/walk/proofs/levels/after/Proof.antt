@@ -1,4 +1,3 @@
-use mathlib.Core.Path.{sym, ap, _∙_}
 use borrow.Author.Needs.{needs}
 use Rattle.walk.proofs.levels.after.Statement.{statement}
 use Rattle.walk.proofs.levels.after.Tie as tie

@@ -1,7 +1,7 @@
 use native.Mathlib.Omega.{arith}
 use borrow.Author.Needs.{needs}
-use Rattle.checker.proofs.steps.place_number.Statement.{statement}
-use Rattle.checker.proofs.steps.place_number.Tie as tie
+use Rattle.checker.proofs.steps.start_number.Statement.{statement}
+use Rattle.checker.proofs.steps.start_number.Tie as tie
 
 is-start-requires : tie.Need-is-start-requires
 is-start-requires c κs = search needs
@@ -12,5 +12,5 @@ returns c = (simp (← c .before .is-start .ensures .0, c .if1 .taken), λ e. c 
 returns-2 : tie.Need-returns-2
 returns-2 c = (simp (← c .before .is-start .ensures .0, c .if1 .left), λ e. omega arith)
 
-pub place-number-spec : {M : Type 1} → statement M
-place-number-spec = tie.close (tie.spec is-start-requires returns returns-2)
+pub start-number-spec : {M : Type 1} → statement M
+start-number-spec = tie.close (tie.spec is-start-requires returns returns-2)
