@@ -28,7 +28,7 @@ struct plain_job {
 /* A fresh state. */
 struct plain_state plain_begin(void);
 
-/* As tlz_check_grant, or NOT_HERE, for a grant of 1 or more; the place of a refusal is in the state. */
+/* As tlz_check_grant, or NOT_HERE, for a grant of 1 or more; the location of a refusal is in the state. */
 int32_t plain_grant(const uint8_t *file, size_t file_len, uint8_t *marks, size_t marks_len, struct plain_state *state,
                     uint64_t grant, uint64_t *steps);
 

@@ -100,7 +100,7 @@ int32_t tlz_check_begin(uint32_t *state, size_t state_len);
  *   state, state_len   the state, made fresh by tlz_check_begin or kept from an earlier grant; TLZ_STATE_LEN numbers
  *   grant              the most steps to make
  *   steps              set to the steps made, in every case: 0 to grant
- *   where              set to the place, in every case: the file offset of the record at fault, or 0
+ *   where              set to the location, in every case: the file offset of the record at fault, or 0
  *
  * Gives:
  *   TLZ_RUNNING        all granted steps were made and the check is not finished: grant more
@@ -111,7 +111,7 @@ int32_t tlz_check_begin(uint32_t *state, size_t state_len);
  *   TLZ_OTHER_FILE     not finished: file_len is not the length noted at opening, or marks_len is below it. 0 steps, state
  *                      and marks unchanged; the check goes on when the right buffers are lent.
  *
- * The place, by the answer:
+ * The location, by the answer:
  *   7, 14 in the sweep   the swept record; where fewer than 8 bytes are left, the offset at which they begin
  *   8, 9, 12             the record that holds the link: for an index entry its index record; 8 for the CDR's link
  *   11 at a list's end,  the record that holds the zero link: the list's last member, or the one with the list's head where
@@ -122,8 +122,8 @@ int32_t tlz_check_begin(uint32_t *state, size_t state_len);
  *   all others           0: -1, 0, 1 to 6, 14 at the opening, 20, 21
  *
  * What a refusal leaves: the refusing step is counted, changes no mark, and leaves a state that says no more than the
- * verdict and the place. A finished state gives both again, in 0 steps and whatever is lent; no mark changes. Begin again to
- * check another file with it. A grant of 0 changes nothing and gives TLZ_RUNNING, or the verdict and the place.
+ * verdict and the location. A finished state gives both again, in 0 steps and whatever is lent; no mark changes. Begin again
+ * to check another file with it. A grant of 0 changes nothing and gives TLZ_RUNNING, or the verdict and the location.
  *
  * TLZ_ACCEPTED comes only from a check that made all its steps: an unfinished one that was stopped, was lent another length
  * or was granted 0 steps never gives it, nor does a state of a wrong length. State and marks are believed, though:
@@ -194,7 +194,7 @@ typedef struct tlz_job {
  * bytes, is finished within (n / 4 + 1) / q rounds, rounded up; and after r rounds it stands where a check of its own stands
  * after r * q steps.
  *
- * A round tells neither steps nor places. The place of a refused job comes from a grant of 0 on its state, whatever file and
+ * A round tells neither steps nor locations. That of a refused job comes from a grant of 0 on its state, whatever file and
  * marks are lent.
  *
  * A worked loop, over jobs begun fresh:

@@ -32,7 +32,7 @@ static void print_number(const char *name, int32_t number, int32_t none)
         printf(", \"%s\": %" PRId32, name, number);
 }
 
-/* The place of a refusal, in both forms, and what stands there. */
+/* The location of a refusal, in both forms, and what stands there. */
 static void print_place(const struct job *job)
 {
     if (job->place == 0)
