@@ -49,7 +49,7 @@ rowMajority f = bitAt f cdrFlagsAt 1
 unfoldable pub elementThere : List ℕ → ℕ → ℤ → Bool
 elementThere f p x = leZ (pos 0) x && ltZ x (fieldAt f p)
 
--- the offset of element x of the values from an offset on, whose data type stands at t
+-- the offset of element x of the values from an offset on, whose data type stands at t: "+ element × element size" (14.7)
 abbrev pub elementAt : List ℕ → ℕ → ℕ → ℤ → ℕ
 elementAt f at t x = at + natOr 0 x * elementSize f t
 
@@ -61,7 +61,8 @@ elementOf f at t = decodedOf f at (natAt f t) (fileEncoding f)
 unfoldable pub elementRead : List ℕ → ℕ → ℕ → ℕ → ℤ → Read
 elementRead f at t c x = cond (elementThere f c x) (answered (elementOf f (elementAt f at t x) t)) (Refused 18)
 
--- of a record that begins at an offset: the value at a place, the VDR at v saying its data type and elements
+-- of a record that begins at an offset: the value at a place, the VDR at v saying its data type and elements; 14.7: "place × elements ×
+-- element size"
 abbrev pub atPlace : List ℕ → ℕ → ℕ → ℕ → ℤ → Place → Read
 atPlace f v bytes at x (At p) = elementRead f (at + p * bytes) (dataTypeAt v) (elementsAt v) x
 atPlace f v bytes at x Wrong = Refused 18
@@ -98,7 +99,7 @@ entryValue f a k w x = entryOn (bodyOf f) x (entryWay f a k w)
 abbrev pub entryRead : List ℕ → ℤ → ℤ → ℤ → ℤ → Read
 entryRead f a k n x = entryValue f a k (Number n) x
 
--- 4.9: "A pad value comes last, if bit 1 is set": its offset, behind the variances
+-- 4.9: "A pad value comes last, if bit 1 is set"; 14.7: "a pad value's behind the variances"
 abbrev pub padValueAt : Variable → ℕ
 padValueAt u = u .dimensions .variances + 4 * u .dimensions .count
 

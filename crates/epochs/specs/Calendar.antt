@@ -9,7 +9,7 @@ use Rattle.epochs.specs.declared.calendar.Date.{Date}
 abbrev pub date : ℕ → ℕ → ℕ → Date
 date y m d = record { year = y; month = m; day = d }
 
--- a year that 4 divides is a leap year, but of those that 100 divides only one that 400 divides; so year 0 is one
+-- 17.2: "a year that 4 divides is a leap year, but of those that 100 divides only one that 400 divides; so year 0 is one"
 unfoldable pub leap : ℕ → Bool
 leap y = eqb (y % 4) 0 && (not (eqb (y % 100) 0) || eqb (y % 400) 0)
 

@@ -36,7 +36,7 @@ unfoldable pub isEpoch : Float → Bool
 unfolding countOf
 isEpoch x = isWhole (countOf x)
 
--- 17.1: "from year 0 to 9999": a date of these years, and milliseconds of the day
+-- 17.4: "a date that does not exist, a year outside 0 to 9999, and milliseconds that are not of a day" are none
 unfoldable pub isMoment : Date → ℕ → Bool
 unfolding isDate
 isMoment d t = leb (d .year) 9999 && (isDate d && ltb t dayLength)

@@ -45,7 +45,7 @@ pub record Promise (f m : List ℕ) (gs : List Grant) : Type 0 where
   -- location, as many steps, this state and these marks
   pub single : grantOf f m (save fresh) (play f m gs .steps)
       ≡ granted (play f m gs .answer) (play f m gs .location) (play f m gs .steps) (play f m gs .state) (play f m gs .marks)
-  -- 9.10: "until one refuses or accepts": the plain run is finished within length/4 + 1 steps
+  -- 1.9: "The check ends within length/4 + 1 steps": so does the plain run
   pub ends : InTime f m
   pub short : runLength f m ≤ stepLimit f
   -- 2.1: "accepted", 0: a grant of the list answers it exactly if the plain run accepts within the steps made by then
@@ -76,7 +76,7 @@ FreshInRange =
     (f m : List ℕ) (k : ℕ)
     → (load (save (plainRun f m k .at .state)) ≡ plainRun f m k .at .state) × (plainRun f m k .at .state .stage ≢ OutOfRange)
 
--- 2.5: "0 to 14, 20, 21 and 23"
+-- 2.5: "-1, 0 to 14, 20, 21 and 23"
 abbrev pub comesBack : ℤ → Bool
 comesBack (pos v) = leb v 14 || (eqb v 20 || (eqb v 21 || eqb v 23))
 comesBack (negsuc n) = eqb n 0

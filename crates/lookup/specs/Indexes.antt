@@ -99,7 +99,7 @@ lowestOf f r (Halted v) = Halted v
 unfoldable pub valuesMet : List ℕ → Entry → ℕ → ℕ → Bool
 valuesMet f e bytes left = leb 1 left && (landsOn f 7 (e .link) && eqb (vvrRule f (e .link) (e .last - e .first + 1) bytes) 0)
 
--- the offset of record r in the values that an entry names
+-- the offset of record r in the values that an entry names: "VVR + 8 + (record - First) × record bytes" (14.7)
 abbrev pub recordAt : Entry → ℕ → ℕ → ℕ
 recordAt e r bytes = valuesAt (e .link) + (r - e .first) * bytes
 

@@ -118,7 +118,7 @@ pub record ElementShown (f : List ℕ) (at t : ℕ) (a : Answer) : Type 0 where
 abbrev pub inRecordAt : List ℕ → ℕ → ℕ → ℕ → List ℤ → ℤ → ℕ
 inRecordAt f k v o is x = elementAt f (o + elementPlace f (layoutOf f k v) (rowMajority f) is * valueBytes f v) (dataTypeAt v) x
 
--- in record r, which the lowest entry s covers: "Size is 8 + (Last - First + 1) × record bytes" (5.17)
+-- in record r, which the lowest entry s covers; 4.11: "the values of its records, one after the other, from 8 on"
 abbrev pub valueAt : List ℕ → ℕ → ℕ → Slot → ℕ → List ℤ → ℤ → ℕ
 valueAt f k v s r is x = inRecordAt f k v (valuesAt (namedBy f s) + (r - firstOf f s) * recordBytes f v (layoutOf f k v)) is x
 

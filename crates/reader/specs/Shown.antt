@@ -9,8 +9,8 @@ use Rattle.descriptors.specs.declared.Field.the-variants.{Is, Refused as NoFiel
 use Rattle.descriptors.specs.declared.Name.{Name}
 use Rattle.descriptors.specs.declared.Name.the-variants.{Bytes, Nameless}
 
--- 14.5: "A value answer is one case per kind": kind, bits, offset; 2.4: "a refusal carries its number and no value": the caller's numbers
--- stay
+-- 14.5: "A value answer is one case per kind": kind and bits; 14.6: "With a value comes the file offset it was read from"; 2.4: "a refusal
+-- carries its number and no value": the caller's numbers stay
 pub record ShownValue : Type 0 where
   pub answer : ℤ
   pub kind : ℕ

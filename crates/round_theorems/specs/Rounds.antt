@@ -128,7 +128,7 @@ Isolated =
 
 -- ---- A ROW, made up or not: what a grant promises, read per job
 
--- what is promised of job k of a window whose first round is not refused, with a state of the length docs/ gives; 12.9: "with -1 a job made
+-- what is promised of job k of a window whose first round is not refused, with a state of 34 numbers (10.1); 12.9: "with -1 a job made
 -- q steps, with 21 none"
 pub record AnyJob (f : List ℕ) (q : ℕ) (w : Window) (k : ℕ) : Type 0 where
   -- a row's answer is a number that comes back from a check

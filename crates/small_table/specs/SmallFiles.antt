@@ -73,7 +73,7 @@ variableBy index size values =
 unfoldable pub variable : ℕ → List ℕ → List ℕ
 variable size values = variableBy (indexTo 536) size values
 
--- 8.9: n such VXRs one below the other, from an offset on; the last names what stands behind it
+-- 18.7: "n levels of one entry each": VXRs one below the other, from an offset on; the last names what stands behind it
 unfoldable pub levels : ℕ → ℕ → List ℕ
 levels zero at = []
 levels (suc n) at = indexTo (at + 32) ++ levels n (at + 32)

@@ -93,7 +93,7 @@ abbrev pub levelsStand : List Level → Bool
 levelsStand [] = true
 levelsStand (l ∷ ls) = (levelThere l && levelsStand ls) || noneOf (l ∷ ls)
 
--- levels stand above an index record alone, that of some variable
+-- 10.6: "levels stand above an index record alone": that of some variable
 abbrev pub levelsBelong : Levels → Option Var → Bool
 levelsBelong up none = noneOf (levelList up)
 levelsBelong up (some u) = levelsStand (levelList up)

@@ -42,7 +42,7 @@ valueOf kind size n =
     (cond (eqb kind single) (Single (ofBits binary32 n))
     (cond (eqb kind double) (Double (ofBits binary64 n)) (Code n))))
 
--- two's complement of 64 bits
+-- 14.5: "With a value come 64 bits: a signed number in two's complement"
 abbrev pub extendedOf : ℤ → ℕ
 extendedOf (pos n) = n
 extendedOf (negsuc n) = 2 ^ 64 - suc n

@@ -38,6 +38,7 @@ headOf k = cond (eqb k 8) 132 128
 unfoldable pub numDimsAt : List ℕ → ℕ → ℕ → ℕ
 numDimsAt f k o = cond (eqb k 8) (zNumDimsAt o) (rNumDimsAt (gdrAt f))
 
+-- 5.10: "is 0 to 10"
 unfoldable pub countRight : List ℕ → ℕ → Bool
 countRight f p = withinAt f p (pos 0) (pos 10)
 

@@ -27,7 +27,7 @@ abbrev pub AllIn : List Range → Type 0
 AllIn [] = Unit {0}
 AllIn (r ∷ rs) = InRange r × AllIn rs
 
--- 10.9: "a step from numbers in range leads to numbers in range"
+-- the numbers of a position are in their ranges (10.4)
 pub record Within (w : W.Walk) : Type 0 where
   pub all : AllIn (rangesOf w)
 

@@ -13,7 +13,8 @@ pub data Range : Type 0 where
   upTo : ℕ → ℕ → Range
   oneOf : ℕ → ℕ → ℕ → Range
 
--- an offset, a place in a list or an entry; where a link stands, at most 64 above an offset; a count, or a number + 1
+-- 10.4: "offsets, places and an entry's number up to 2,147,483,647; where a link stands up to 2,147,483,711; counts and numbers + 1 up to
+-- 2,147,483,648"
 abbrev pub offset : ℕ → Range
 offset o = upTo o 2147483647
 

@@ -126,7 +126,8 @@ abbrev pub chainList : List ℕ → Var → ℕ → ℕ → Bool → Listing
 chainList f u last floor covered =
     record { over = chainOver f u last covered; typed = pos 6; number = vxrRule f; next = λ o. entered f u o 0 floor covered }
 
--- the next of a lower record, which stands at p: "A lower record has next 0, else 11" (8.10)
+-- the next of a lower record, which stands at p, and which its claim has found to be zero (8.10); 8.19: "Where a made-up state stands at a
+-- lower next that is not zero, it is 11"
 unfoldable pub lowerNext : List ℕ → Var → Level → ℕ → Bool → T.Step
 lowerNext f u near p covered = byLink (leadsTo f p) (lowerOver f u near covered) (λ o. End 11)
 
