@@ -115,10 +115,11 @@ pub fn names(text: &str) -> Result<Vec<String>, String> {
     Ok(declared(text)?.into_iter().map(|of| of.name).collect())
 }
 
-/// A number of elements: as it is, or by the name of a constant of the text.
+/// A number of elements: as it is, or by the name of a constant of the text, with its module before it or not.
 fn count_of(word: &str, text: &str) -> Option<usize> {
+    let name = word.rsplit("::").next()?;
     let constant = || {
-        let (_, rest) = text.split_once(&format!("const {word}: usize = "))?;
+        let (_, rest) = text.split_once(&format!("const {name}: usize = "))?;
         rest.split(';').next()?.trim().parse().ok()
     };
     word.parse().ok().or_else(constant)

@@ -281,6 +281,7 @@ const OF_SOURCES: &[(&str, &str)] = &[
     ("fn tlz_round(", "fn tlz_rounds("),
     ("    pub owner: u32,\n    pub answer: i32,\n", "    pub answer: i32,\n    pub owner: u32,\n"),
     ("    pub owner: u32,\n    pub answer: i32,\n", "    pub owner: u32,\n    pub answer: u32,\n"),
+    ("const STATE_LENGTH: usize = 34;", "const STATE_LENGTH: usize = 35;"),
     ("    epoch: f64,\n    year: &mut i32,\n", "    epoch: f32,\n    year: &mut i32,\n"),
     ("    epoch: f64,\n    year: &mut i32,\n", "    year: &mut i32,\n    epoch: f64,\n"),
     ("    month: &mut i32,\n    day: &mut i32,\n", "    day: &mut i32,\n    month: &mut i32,\n"),
@@ -404,8 +405,9 @@ fn the_length_of_a_state() {
         let answer = check_begin(&mut vec![1; other]);
         assert_eq!(answer, if other == length { -1 } else { 20 }, "{other}");
     }
-    let in_code = numbers_behind(&sources(), "if state.len() != ");
-    assert!(in_code.len() >= 2 && in_code.iter().all(|number| *number == length), "{in_code:?}");
+    assert_eq!(numbers_behind(&sources(), "const STATE_LENGTH: usize = "), [length]);
+    let literal = numbers_behind(&sources(), "state.len() != ");
+    assert!(literal.is_empty(), "the code has one literal for it: {literal:?}");
     for document in ["docs/STATE.md", "docs/INTERFACE.md"] {
         let said = numbers_behind(&text(document), "`TLZ_STATE_LEN` is ");
         assert!(
