@@ -10,7 +10,7 @@ use Rattle.epochs.specs.declared.counts.Count.{Count}
 use Rattle.epochs.specs.declared.counts.Count.the-variants.{Whole, NoEpoch}
 use Rattle.epochs.specs.Calendar.{date, isDate, daysBefore}
 
--- milliseconds of a day
+-- 17.2: "A day has 86,400,000 milliseconds"
 abbrev pub dayLength : ℕ
 dayLength = 86400000
 
