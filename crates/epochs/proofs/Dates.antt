@@ -10,8 +10,9 @@ use borrow.Author.Tests.{ltb-true, ltb-false, leb-true, le-leb}
 use Rattle.format.proofs.Tests.{both}
 use Rattle.epochs.specs.declared.calendar.Date.{Date}
 use Rattle.epochs.specs.Calendar.{date, leap, monthDays, daysBeforeMonth, daysBeforeYear, isDate, daysBefore, nextDay, dateOf}
-use Rattle.epochs.proofs.Years.{InYear, all-years}
-use Rattle.epochs.proofs.Months.{Holds, year-length, no-month, month-zero, month-some, month-short}
+use Rattle.epochs.specs.Bounds.{InYear, InMonth, DateFits}
+use Rattle.epochs.proofs.Years.{all-years}
+use Rattle.epochs.proofs.Months.{year-length, no-month, month-zero, month-some, month-short}
 
 -- what is not below is at most
 pub at-most : (a b : ℕ) → (b < a → ⊥) → a ≤ b
@@ -159,17 +160,17 @@ date-is n y m d v e =
 -- ---- the date that the code finds: the day d of the year y, its month m, and b days before that
 module _ (n y d : ℕ) (l : Bool) (in-y : InYear n y d) (l-is : l ≡ leap y) where
   pub day-of-year : d < cond l 366 365
-  day-of-year = rw l-is (in-y .1 .1)
+  day-of-year = rw l-is (in-y .day)
 
-  module _ (m b : ℕ) (in-m : Holds l d m) (b-is : b ≡ daysBeforeMonth l m) where
-    pub date-found : (date y m (d - b + 1) ≡ dateOf n) × ((y ≤ 9999) × ((m ≤ 12) × (d - b + 1 ≤ 31)))
+  module _ (m b : ℕ) (in-m : InMonth l d m) (b-is : b ≡ daysBeforeMonth l m) where
+    pub date-found : (date y m (d - b + 1) ≡ dateOf n) × DateFits (date y m (d - b + 1))
     date-found =
         let b-of : b ≡ daysBeforeMonth (leap y) m = b-is ∙ ap (λ (t : Bool). daysBeforeMonth t m) l-is in
-        let low : b ≤ d = rw (sym b-is) at (in-m .1 .0) in
-        let high : d < daysBeforeMonth (leap y) (suc m) = rw l-is at (in-m .1 .1) in
+        let low : b ≤ d = rw (sym b-is) at (in-m .from) in
+        let high : d < daysBeforeMonth (leap y) (suc m) = rw l-is at (in-m .to) in
         let v : Valid y m (d - b + 1) = record { some = omega arith; within = omega (arith, next-before (leap y) m) } in (
           date-is n y m (d - b + 1) v (omega (arith, in-y)),
-          (in-y .0, (in-m .0 .1, omega (arith, v .within, month-short (leap y) m (in-m .0 .0) (in-m .0 .1)))),
+          record { year = in-y .year; month = in-m .last; day = omega (arith, v .within, month-short (leap y) m (in-m .first) (in-m .last)) },
         )
 
 -- ---- what the code finds of a date

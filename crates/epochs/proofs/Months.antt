@@ -11,6 +11,7 @@ use lib.ListN.{List·getD-eq-default}
 use mir.Facts.{and-yes}
 use borrow.Author.Tests.{lt-ltb, le-ltb, le-leb, lt-leb, ne-eqb, eq-eqb}
 use Rattle.epochs.specs.Calendar.{monthDays, daysBeforeMonth}
+use Rattle.epochs.specs.Bounds.{InMonth}
 
 -- all numbers below n pass a test
 abbrev allBelow : ℕ → (ℕ → Bool) → Bool
@@ -97,19 +98,16 @@ module _ (l : Bool) (m : ℕ) (h : m ≤ 12) where
 monthBy : Bool → ℕ → ℕ
 monthBy l d = cond (ltb d (61 - cond l 1 2)) ((12 * d + 373) / 367) ((12 * (d + cond l 1 2) + 373) / 367)
 
-abbrev pub Holds : Bool → ℕ → ℕ → Type 0
-Holds l d r = ((1 ≤ r) × (r ≤ 12)) × ((daysBeforeMonth l r ≤ d) × (d < daysBeforeMonth l (suc r)))
-
 holds : Bool → ℕ → ℕ → Bool
 holds l d r = leb 1 r && (leb r 12 && (leb (daysBeforeMonth l r) d && ltb d (daysBeforeMonth l (suc r))))
 
-holds-says : (l : Bool) (d r : ℕ) → T (holds l d r) → Holds l d r
+holds-says : (l : Bool) (d r : ℕ) → T (holds l d r) → InMonth l d r
 unfolding holds
 holds-says l d r t =
     let p = and-yes (leb 1 r) (leb r 12 && (leb (daysBeforeMonth l r) d && ltb d (daysBeforeMonth l (suc r)))) t in
     let q = and-yes (leb r 12) (leb (daysBeforeMonth l r) d && ltb d (daysBeforeMonth l (suc r))) (p .1) in
     let s = and-yes (leb (daysBeforeMonth l r) d) (ltb d (daysBeforeMonth l (suc r))) (q .1) in
-    ((leb→le 1 r (p .0), leb→le r 12 (q .0)), (leb→le (daysBeforeMonth l r) d (s .0), ltb→lt d (daysBeforeMonth l (suc r)) (s .1)))
+    record { first = leb→le 1 r (p .0); last = leb→le r 12 (q .0); from = leb→le (daysBeforeMonth l r) d (s .0); to = ltb→lt d (daysBeforeMonth l (suc r)) (s .1) }
 
 all-months : (l : Bool) → T (allBelow (cond l 366 365) (λ d. holds l d (monthBy l d)))
 unfolding daysBeforeMonth monthDays monthBy holds
@@ -127,13 +125,13 @@ year-small true = omega arith
 year-small false = omega arith
 
 module _ (l : Bool) (d : ℕ) (h : d < cond l 366 365) where
-  month-at : Holds l d (monthBy l d)
+  month-at : InMonth l d (monthBy l d)
   month-at = holds-says l d (monthBy l d) (below (cond l 366 365) (λ d. holds l d (monthBy l d)) (all-months l) d h)
 
-  pub month-early : d < 61 - cond l 1 2 → Holds l d ((12 * d + 373) / 367)
+  pub month-early : d < 61 - cond l 1 2 → InMonth l d ((12 * d + 373) / 367)
   unfolding monthBy
   month-early e = rw (lt-ltb d (61 - cond l 1 2) e) at month-at
 
-  pub month-late : 61 - cond l 1 2 ≤ d → Holds l d ((12 * (d + cond l 1 2) + 373) / 367)
+  pub month-late : 61 - cond l 1 2 ≤ d → InMonth l d ((12 * (d + cond l 1 2) + 373) / 367)
   unfolding monthBy
   month-late e = rw (le-ltb d (61 - cond l 1 2) e) at month-at

@@ -12,6 +12,7 @@ use Rattle.epochs.specs.declared.calendar.Date.{Date}
 use Rattle.epochs.specs.declared.counts.Count.{Count}
 use Rattle.epochs.specs.declared.counts.Count.the-variants.{Whole, NoEpoch}
 use Rattle.epochs.specs.Calendar.{dateOf}
+use Rattle.epochs.specs.Bounds.{DateFits}
 use Rattle.epochs.specs.Epochs.{dayLength, countOf, isEpoch}
 use Rattle.epochs.specs.Shown.{shownDate, shownAt, dateShown, shownDouble, epochShown, differenceShown}
 use Rattle.epochs.proofs.Wholes.{count-value}
@@ -21,13 +22,13 @@ module _ (x : Float) (c : Count) (c-is : c ≡ countOf x) (n : ℕ) (n-is : c �
   pub day-fits : n / dayLength < 3652425
   day-fits = omega (arith, count-value x n (sym c-is ∙ n-is) .1)
 
-  pub date-shown : (d : Date) → (d ≡ dateOf (n / dayLength)) × ((d .year ≤ 9999) × ((d .month ≤ 12) × (d .day ≤ 31))) → (y₀ m₀ d₀ t₀ : ℤ)
+  pub date-shown : (d : Date) → (d ≡ dateOf (n / dayLength)) × DateFits d → (y₀ m₀ d₀ t₀ : ℤ)
       → shownDate (pos 0) (toZ w32 (d .year)) (toZ w32 (d .month)) (toZ w32 (d .day)) (toZ w32 (n % dayLength)) ≡ dateShown (countOf x) y₀ m₀ d₀ t₀
   unfolding dateShown
   date-shown d k y₀ m₀ d₀ t₀ =
-      let py = toZ-pos w32 {n = d .year} (omega (arith, k .1 .0)) in
-      let pm = toZ-pos w32 {n = d .month} (omega (arith, k .1 .1 .0)) in
-      let pd = toZ-pos w32 {n = d .day} (omega (arith, k .1 .1 .1)) in
+      let py = toZ-pos w32 {n = d .year} (omega (arith, k .1 .year)) in
+      let pm = toZ-pos w32 {n = d .month} (omega (arith, k .1 .month)) in
+      let pd = toZ-pos w32 {n = d .day} (omega (arith, k .1 .day)) in
       let pt = toZ-pos w32 {n = n % dayLength} (omega arith) in
       rw (sym c-is ∙ n-is, py, pm, pd, pt) (ap (λ (e : Date). shownAt e (n % dayLength)) (k .0))
 

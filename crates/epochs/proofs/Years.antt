@@ -7,6 +7,7 @@ use native.Mathlib.Nat.{div-add-mod', div-eq-of-lt-le, mod-lt}
 use borrow.Author.Tests.{eqb-true, eqb-false}
 use lib.Dec.{eqb}
 use Rattle.epochs.specs.Calendar.{leap, daysBeforeYear}
+use Rattle.epochs.specs.Bounds.{InYear}
 
 -- the days of the years before y
 abbrev byDivision : ℕ → ℕ
@@ -91,13 +92,9 @@ some-before n (suc y) k = omega arith
 pub all-years : daysBeforeYear 10000 ≡ 3652425
 all-years = sym (by-division 10000)
 
--- the day n is the day d of the year y
-abbrev pub InYear : ℕ → ℕ → ℕ → Type 0
-InYear n y d = (y ≤ 9999) × ((daysBeforeYear y + d ≡ n) × (d < cond (leap y) 366 365))
-
 in-year : (n y b : ℕ) → y ≤ 9999 → b ≡ daysBeforeYear y → b ≤ n → n < daysBeforeYear (suc y) → InYear n y (n - b)
 unfolding daysBeforeYear
-in-year n y b h b-is from to = (h, (omega arith, omega arith))
+in-year n y b h b-is from to = record { year = h; sum = omega arith; day = omega arith }
 
 -- a day n, and y the year by the mean length of a year: n is in y or in the year before
 module _ (n y : ℕ) (e : y ≡ (400 * n + 400) / 146097) (h : n < 3652425) where

@@ -3,3 +3,4 @@ pub mod Epochs
 pub mod Shown
 pub mod Promises
 pub mod Examples
+pub mod Bounds

@@ -1,8 +1,9 @@
 // The proleptic Gregorian calendar of the years 0 to 9999.
 ghost use mathlib.Core.Path.{_≡_};
 ghost use mathlib.Core.Bool.{true, cond};
-ghost use Prim.Native.Nat.{suc, _+_, _≤_, _<_};
+ghost use Prim.Native.Nat.{_≤_, _<_};
 ghost use Rattle.epochs.specs.Calendar.{leap, monthDays, daysBeforeMonth, daysBeforeYear, date, isDate, daysBefore, dateOf};
+ghost use Rattle.epochs.specs.Bounds.{InYear, InMonth, DateFits};
 
 // A date: the year, the month from 1 to 12, the day of the month from 1.
 pub struct Date {
@@ -42,7 +43,7 @@ fn before_year(y: u64) -> u64
 // one before.
 fn year_of(n: u64) -> YearDay
     requires { ⌜ n < 3652425 ⌝ }
-    ensures { λ r. ⌜ (r .year ≤ 9999) × ((daysBeforeYear (r .year) + r .day ≡ n) × (r .day < cond (leap (r .year)) 366 365)) ⌝ }
+    ensures { λ r. ⌜ InYear n (r .year) (r .day) ⌝ }
 {
     let y = (400 * n + 400) / 146097;
     let b = before_year(y);
@@ -61,7 +62,7 @@ fn year_of(n: u64) -> YearDay
 
 // The days by which February is shorter than 30.
 fn short(l: bool) -> u64
-    ensures { λ r. ⌜ (r ≡ cond l 1 2) × ((1 ≤ r) × (r ≤ 2)) ⌝ }
+    ensures { λ r. ⌜ (r ≡ cond l 1 2) × (1 ≤ r) × (r ≤ 2) ⌝ }
 {
     if l { 1 } else { 2 }
 }
@@ -94,7 +95,7 @@ fn before_month(l: bool, m: u64) -> u64
 // The month of a day of the year, counted from 0. Behind February what it is short of 30 days is put in.
 fn month_of(l: bool, d: u64) -> u64
     requires { ⌜ d < cond l 366 365 ⌝ }
-    ensures { λ r. ⌜ ((1 ≤ r) × (r ≤ 12)) × ((daysBeforeMonth l r ≤ d) × (d < daysBeforeMonth l (suc r))) ⌝ }
+    ensures { λ r. ⌜ InMonth l d r ⌝ }
 {
     let s = short(l);
     if d < 61 - s {
@@ -107,7 +108,7 @@ fn month_of(l: bool, d: u64) -> u64
 // The date of a day, day 0 being 1 January of year 0.
 pub fn date_of(n: u64) -> Date
     requires { ⌜ n < 3652425 ⌝ }
-    ensures { λ r. ⌜ (r ≡ dateOf n) × ((r .year ≤ 9999) × ((r .month ≤ 12) × (r .day ≤ 31))) ⌝ }
+    ensures { λ r. ⌜ (r ≡ dateOf n) × DateFits r ⌝ }
 {
     let p = year_of(n);
     let y = p.year;
