@@ -1,17 +1,20 @@
 -- What only the code needs: what a step may count on, that the marks are no fewer than the bytes, that its numbers are in their ranges and
 -- that a verdict is one; and a run as the code gives it. Assumes nothing.
-use Prim.Native.Nat.{ℕ, _≤_}
+use Prim.Native.Nat.{ℕ, _≤_, _<_}
+use mathlib.Core.Path.{_≡_}
 use mathlib.Core.List.{List}
 use lib.ListN.{length}
-use mathlib.Core.Bool.{cond}
+use mathlib.Core.Bool.{false, cond}
 use lib.Dec.{eqb}
 use Rattle.walk.specs.Bounds.{Within, SmallLevels}
 use Rattle.walk.specs.declared.positions.Levels.{Levels}
 use Rattle.walk.specs.declared.positions.Walk as W
 use Rattle.faults.specs.Fault.{faultAt}
 use Rattle.faults.specs.declared.fault.Involved.{Involved}
-use Rattle.checker.specs.Step.{conf, Run, walking}
-use Rattle.states.specs.Stages.{done}
+use Rattle.checker.specs.Step.{conf, Run, runOf, walking}
+use Rattle.checker.specs.Grant.{otherFile}
+use Rattle.states.specs.Stages.{done, finished}
+use Rattle.states.specs.Bounds.{Loaded}
 use Rattle.checker.specs.declared.runs.Ran.{Ran}
 use Rattle.states.specs.declared.state.State.{State}
 use Rattle.checker.specs.declared.steps.Went.{Went}
@@ -43,3 +46,18 @@ Ready f m OutOfRange = Unit {0}
 -- a run: the state, the steps made, and the marks beside them
 abbrev pub ranOf : Ran → List ℕ → Run
 ranOf r m = record { at = conf (r .state) m; made = r .made }
+
+-- a check as a load gives it, over the file and the marks that it began with
+pub record GoesOn (f m : List ℕ) (s : State) : Type 0 where
+  pub loaded : Loaded (s .length) (s .stage)
+  pub own : otherFile f m (s .length) ≡ false
+
+-- t and the marks m are where the plain run from s and m₀ stands after k steps, each of them made
+pub record InRun (f : List ℕ) (s : State) (m₀ : List ℕ) (t : State) (m : List ℕ) (k : ℕ) : Type 0 where
+  pub stands : record { at = conf t m; made = k } ≡ runOf f (conf s m₀) k
+
+-- r with the marks m′ is the plain run from s and m after the steps made: n at most, and one or more unless s is finished
+pub record SomeSteps (f : List ℕ) (s : State) (m : List ℕ) (n : ℕ) (r : Ran) (m′ : List ℕ) : Type 0 where
+  pub run : InRun f s m (r .state) m′ (r .made)
+  pub some : finished (s .stage) ≡ false → 0 < r .made
+  pub most : r .made ≤ n

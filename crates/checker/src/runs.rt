@@ -1,15 +1,11 @@
 // Runs of steps, those of one stage after those of the other.
 ghost use mathlib.Core.Path.{_≡_};
-ghost use Prim.Native.Nat.{_≤_, _<_};
-ghost use mathlib.Core.Bool.{false};
+ghost use Prim.Native.Nat.{_<_};
 ghost use Rattle.checker.specs.Step.{conf, runOf};
 ghost use Rattle.states.specs.Stages.{finished};
-ghost use Rattle.checker.specs.Grant.{otherFile};
 ghost use Rattle.records.specs.Opening.{fileEnd};
 ghost use Rattle.walk.specs.Levels.{levelsAfter};
-ghost use Rattle.checker.specs.Bounds.{Lent, wentTo};
-ghost use Rattle.states.specs.Bounds.{Loaded};
-ghost use Rattle.checker.specs.Bounds.{ranOf};
+ghost use Rattle.checker.specs.Bounds.{Lent, GoesOn, SomeSteps, ranOf, wentTo};
 ghost use Rattle.states.specs.declared.state.Stage.the-variants.{Sweep, Walking};
 use crate::steps;
 use crate::steps::Went;
@@ -45,7 +41,7 @@ pub fn is_finished(g: Stage) -> bool
 // Steps of the sweep of a file that ends at e, one or more and up to n.
 fn run_sweep(f: &[u8], e: usize, m: &mut [u8], s: State, from: u32, n: u64) -> Ran
     requires { ⌜ (e ≡ fileEnd (now f)) × Lent (now f) (now m) × (s .stage ≡ Sweep from) × (0 < n) ⌝ }
-    ensures { λ r. ⌜ (ranOf r (now (m .exit)) ≡ runOf (now (f .entry)) (conf s (now (m .entry))) (r .made)) × (0 < r .made) × (r .made ≤ n) ⌝ }
+    ensures { λ r. ⌜ SomeSteps (now (f .entry)) s (now (m .entry)) n r (now (m .exit)) ⌝ }
 {
     let mut t = s;
     let mut at = from;
@@ -77,8 +73,8 @@ fn stopped(length: u32, up: Levels, t: Step, went: Went, made: u64) -> Ran
 
 // Steps of the walk on one level of an index, of a file that ends at e, one or more and up to n; the last may lead to another level.
 fn run_walk(f: &[u8], e: usize, m: &mut [u8], s: State, from: Walk, up: Levels, n: u64) -> Ran
-    requires { ⌜ (e ≡ fileEnd (now f)) × Loaded (s .length) (s .stage) × (otherFile (now f) (now m) (s .length) ≡ false) × (s .stage ≡ Walking from up) × (0 < n) ⌝ }
-    ensures { λ r. ⌜ (ranOf r (now (m .exit)) ≡ runOf (now (f .entry)) (conf s (now (m .entry))) (r .made)) × (0 < r .made) × (r .made ≤ n) ⌝ }
+    requires { ⌜ (e ≡ fileEnd (now f)) × GoesOn (now f) (now m) s × (s .stage ≡ Walking from up) × (0 < n) ⌝ }
+    ensures { λ r. ⌜ SomeSteps (now (f .entry)) s (now (m .entry)) n r (now (m .exit)) ⌝ }
 {
     let b = &f[..e];
     let near = up.a;
@@ -103,8 +99,8 @@ fn run_walk(f: &[u8], e: usize, m: &mut [u8], s: State, from: Walk, up: Levels, 
 
 // Steps of one stage, of a file that ends at e, up to n, and one or more unless the check is finished.
 fn run_stage(f: &[u8], e: usize, m: &mut [u8], s: State, n: u64) -> Ran
-    requires { ⌜ (e ≡ fileEnd (now f)) × Loaded (s .length) (s .stage) × (otherFile (now f) (now m) (s .length) ≡ false) × (0 < n) ⌝ }
-    ensures { λ r. ⌜ (ranOf r (now (m .exit)) ≡ runOf (now (f .entry)) (conf s (now (m .entry))) (r .made)) × (finished (s .stage) ≡ false → 0 < r .made) × (r .made ≤ n) ⌝ }
+    requires { ⌜ (e ≡ fileEnd (now f)) × GoesOn (now f) (now m) s × (0 < n) ⌝ }
+    ensures { λ r. ⌜ SomeSteps (now (f .entry)) s (now (m .entry)) n r (now (m .exit)) ⌝ }
 {
     let stage = s.stage;
     match stage {
@@ -124,7 +120,7 @@ fn run_stage(f: &[u8], e: usize, m: &mut [u8], s: State, n: u64) -> Ran
 
 // Up to n steps.
 pub fn run(f: &[u8], m: &mut [u8], s: State, n: u64) -> Ran
-    requires { ⌜ Loaded (s .length) (s .stage) × (otherFile (now f) (now m) (s .length) ≡ false) ⌝ }
+    requires { ⌜ GoesOn (now f) (now m) s ⌝ }
     ensures { λ r. ⌜ ranOf r (now (m .exit)) ≡ runOf (now (f .entry)) (conf s (now (m .entry))) n ⌝ }
 {
     let e = opening::end(f);

@@ -2,7 +2,8 @@ use mathlib.Core.Path.{_≡_, _∙_, sym, ap, refl}
 use Prim.Native.Nat.{_≤_, _-_, ℕ}
 use lib.ListN.{length}
 use Rattle.checker.specs.Step.{conf, runOf}
-use Rattle.checker.proofs.Loop.{ran, run-on, early, left-loaded, still-own}
+use Rattle.checker.specs.Bounds.{InRun}
+use Rattle.checker.proofs.Loop.{at-first, run-on, early, still-on}
 use borrow.Author.Needs.{needs}
 use native.Mathlib.Omega.{arith}
 use Rattle.checker.proofs.runs.run.Statement.{statement}
@@ -11,7 +12,7 @@ use Rattle.checker.proofs.runs.run.Tie as tie
 -- Idea: the steps of one stage after those of the other. Invariant: at most n steps were made, the marks are as long as at first, and the check
 -- stands where the plain run does after k steps.
 abbrev Inv-loop : tie.InvT-loop
-Inv-loop f m₀ n e t₀ k₀ m t k = (k ≤ n) × (length m ≡ length m₀) × (ran t m k ≡ runOf f (conf t₀ m₀) k)
+Inv-loop f m₀ n e t₀ k₀ m t k = (k ≤ n) × (length m ≡ length m₀) × InRun f t₀ m₀ t m k
 
 abbrev μ-loop : tie.MeasureT-loop
 μ-loop f m₀ n e t₀ k₀ m t k = n - k
@@ -20,8 +21,7 @@ end-requires : tie.Need-end-requires Inv-loop μ-loop
 end-requires c κs = search needs
 
 loop-holds : tie.Need-loop-holds Inv-loop μ-loop
-unfolding runOf
-loop-holds c = (search needs, refl, refl)
+loop-holds c = (search needs, refl, at-first _ _ _)
 
 is-finished-requires : tie.Need-is-finished-requires Inv-loop μ-loop
 is-finished-requires c κs = search needs
@@ -35,7 +35,7 @@ returns c =
     let a = c .before .before .before .before .before .before .before .args in
     let t = c .before .before .loop-test .taken in
     let d = c .before .is-finished in
-    early (a .f .now) (conf (a .s) (a .m .now)) (l .k) (l .t) (l .m) (l .inv .2) (sym (d .ensures) ∙ c .if1 .taken) (a .n) (omega arith)
+    early (l .inv .2) (sym (d .ensures) ∙ c .if1 .taken) (a .n) (omega arith)
 
 sub-run-stage : tie.Need-sub-run-stage Inv-loop μ-loop
 sub-run-stage c = search needs
@@ -44,33 +44,22 @@ run-stage-requires : tie.Need-run-stage-requires Inv-loop μ-loop
 run-stage-requires c κs =
     let l = c .before .before .before .before .loop in
     let a = c .before .before .before .before .before .before .before .before in
-    let f = a .args .f .now in
-    let s = a .args .s in
-    let m = a .args .m .now in (
-      c .before .before .before .before .before .end .ensures .0,
-      left-loaded f s m (a .pre .0) (a .pre .1) (l .k) (l .k) (l .t) (l .m) (l .inv .2),
-      still-own f s m (a .pre .0) (a .pre .1) (l .k) (l .t) (l .m) (l .inv .2),
-      omega (arith, c .before .before .before .loop-test .taken),
-    )
+    (c .before .before .before .before .before .end .ensures .0, still-on (a .pre) (l .inv .2), omega (arith, c .before .before .before .loop-test .taken))
 
 add-k : tie.Need-add-k Inv-loop μ-loop
-add-k c = let l = c .before .before .before .before .before .before .before .before .before .loop in omega (arith, l .inv .0, c .before .before .before .before .run-stage .ensures .2)
+add-k c = let l = c .before .before .before .before .before .before .before .before .before .loop in omega (arith, l .inv .0, c .before .before .before .before .run-stage .ensures .most)
 
 loop-less : tie.Need-loop-less Inv-loop μ-loop
 loop-less c =
     let d = c .before .before .before .before .run-stage in
-    let more = d .ensures .1 (sym (c .before .before .before .before .before .before .before .is-finished .ensures) ∙ c .before .before .before .before .before .before .if1 .left) in
-    omega (arith, more, d .ensures .2, c .before .before .before .before .before .before .before .before .loop-test .taken)
+    let more = d .ensures .some (sym (c .before .before .before .before .before .before .before .is-finished .ensures) ∙ c .before .before .before .before .before .before .if1 .left) in
+    omega (arith, more, d .ensures .most, c .before .before .before .before .before .before .before .before .loop-test .taken)
 
 loop-again : tie.Need-loop-again Inv-loop μ-loop
 loop-again c =
     let l = c .before .before .before .before .before .before .before .before .before .loop in
-    let a = c .before .before .before .before .before .before .before .before .before .before .before .before .before .args in
-    let d = c .before .before .before .before .run-stage in (
-      omega (arith, l .inv .0, d .ensures .2),
-      search needs,
-      run-on (a .f .now) (conf (a .s) (a .m .now)) (l .k) (l .t) (l .m) (l .inv .2) (d .result .made) (d .result .state) _ (d .ensures .0),
-    )
+    let d = c .before .before .before .before .run-stage in
+    (omega (arith, l .inv .0, d .ensures .most), search needs, run-on (l .inv .2) (d .ensures .run))
 
 same-length-2 : tie.Need-same-length-2 Inv-loop μ-loop
 same-length-2 c = search needs
@@ -80,7 +69,7 @@ returns-2 c =
     let l = c .before .loop in
     let a = c .before .before .before .before .before .args in
     let done : l .k ≡ a .n = omega (arith, c .loop-test .left) in
-    l .inv .2 ∙ ap (λ (j : ℕ). runOf (a .f .now) (conf (a .s) (a .m .now)) j) done
+    l .inv .2 .stands ∙ ap (λ (j : ℕ). runOf (a .f .now) (conf (a .s) (a .m .now)) j) done
 
 pub run-spec : {M : Type 1} → statement M
 run-spec =

@@ -1,11 +1,10 @@
 use mathlib.Core.Path.{refl, sym, ap, _∙_}
 use mathlib.Core.Bool.{true≢false}
 use native.Mathlib.Omega.{arith}
-use Rattle.states.specs.declared.state.Stage.the-variants.{Fresh, OutOfRange}
 use Rattle.states.specs.declared.state.State.{State}
 use Rattle.checker.specs.Step.{conf, stepBy}
 use Rattle.states.specs.Stages.{finished}
-use Rattle.checker.proofs.Loop.{at-first, once-of, sweep-lent}
+use Rattle.checker.proofs.Loop.{at-first, once-of, sweep-lent, steps-made}
 use Rattle.faults.specs.declared.fault.Involved.{Involved}
 use Rattle.checker.specs.Step.{doneBy}
 use borrow.Author.Needs.{needs}
@@ -25,7 +24,7 @@ run-sweep-requires : tie.Need-run-sweep-requires
 run-sweep-requires c κs =
     let a = c .before .before .before .before .before .before in
     let e = c .before .before .stage .given .1 in
-    (a .pre .0, sweep-lent (a .args .f .now) (a .args .s) (a .args .m .now) (a .pre .1) (a .pre .2) _ e, e, a .pre .3)
+    (a .pre .0, sweep-lent (a .pre .1) e, e, a .pre .2)
 
 enum-known-stage-2 : tie.Need-enum-known-stage-2
 enum-known-stage-2 c = search needs
@@ -51,13 +50,8 @@ same-length c = search needs
 returns : tie.Need-returns
 returns c =
     let a = c .before .before .before .before .before .before in
-    let f = a .args .f .now in
-    let m = a .args .m .now in
-    let s = a .args .s in (
-      once-of f (conf s m) 0 s m (at-first f s m) Fresh (c .before .before .enum-told .given .1) refl (c .«open» .result) m (c .«open» .ensures),
-      λ e. omega arith,
-      omega (arith, a .pre .3),
-    )
+    let first = at-first (a .args .f .now) (a .args .s) (a .args .m .now) in
+    steps-made (a .pre .2) (once-of first (c .before .before .enum-told .given .1) refl (c .«open» .ensures))
 
 same-length-2 : tie.Need-same-length-2
 same-length-2 c = search needs
@@ -73,24 +67,21 @@ returns-3 c = search needs
 
 returns-4 : tie.Need-returns-4
 returns-4 c =
-    let a = c .before .before .before .before .args in (
-      at-first (a .f .now) (a .s) (a .m .now),
-      λ e. absurd (true≢false (sym (ap finished (c .enum-told2 .given .1)) ∙ e)),
-      omega arith,
-    )
+    let a = c .before .before .before .before .args in
+    record {
+      run = at-first (a .f .now) (a .s) (a .m .now);
+      some = λ e. absurd (true≢false (sym (ap finished (c .enum-told2 .given .1)) ∙ e));
+      most = omega arith;
+    }
 
 returns-5 : tie.Need-returns-5
 unfolding stepBy
 returns-5 c =
     let a = c .before .before .before .before .before .before in
-    let f = a .args .f .now in
     let m = a .args .m .now in
-    let s = a .args .s in (
-      once-of f (conf s m) 0 s m (at-first f s m) OutOfRange (c .before .before .enum-told3 .given .1) refl (c .refused .result) m
-          (ap (λ (r : State). conf r m) (c .refused .ensures ∙ ap (λ (r : Involved). doneBy r 20) (c .before .none-involved .ensures))),
-      λ e. omega arith,
-      omega (arith, a .pre .3),
-    )
+    let first = at-first (a .args .f .now) (a .args .s) m in
+    let over = ap (λ (r : State). conf r m) (c .refused .ensures ∙ ap (λ (r : Involved). doneBy r 20) (c .before .none-involved .ensures)) in
+    steps-made (a .pre .2) (once-of first (c .before .before .enum-told3 .given .1) refl over)
 
 pub run-stage-spec : {M : Type 1} → statement M
 run-stage-spec =

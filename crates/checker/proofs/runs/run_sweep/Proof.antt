@@ -2,9 +2,9 @@ use mathlib.Core.Path.{_≡_, refl}
 use Prim.Native.Nat.{_-_, _<_}
 use lib.ListN.{length}
 use native.Mathlib.Omega.{arith}
-use Rattle.checker.specs.Step.{conf, runOf}
+use Rattle.checker.specs.Bounds.{InRun}
 use Rattle.states.specs.declared.state.Stage.the-variants.{Sweep}
-use Rattle.checker.proofs.Loop.{ran, once-of}
+use Rattle.checker.proofs.Loop.{at-first, once-of, steps-made}
 use borrow.Author.Needs.{needs}
 use Rattle.checker.proofs.runs.run_sweep.Statement.{statement}
 use Rattle.checker.proofs.runs.run_sweep.Tie as tie
@@ -13,14 +13,13 @@ use Rattle.checker.proofs.runs.run_sweep.Tie as tie
 -- sweep stands at `at`, where the plain run does after k steps.
 abbrev Inv-loop : tie.InvT-loop
 Inv-loop f e m₀ from n t₀ at₀ k₀ m t at k =
-    (k < n) × (length m ≡ length m₀) × (t .stage ≡ Sweep at) × (ran t m k ≡ runOf f (conf t₀ m₀) k)
+    (k < n) × (length m ≡ length m₀) × (t .stage ≡ Sweep at) × InRun f t₀ m₀ t m k
 
 abbrev μ-loop : tie.MeasureT-loop
 μ-loop f e m₀ from n t₀ at₀ k₀ m t at k = n - k
 
 loop-holds : tie.Need-loop-holds Inv-loop μ-loop
-unfolding runOf
-loop-holds c = (c .before .before .pre .3, refl, c .before .before .pre .2, refl)
+loop-holds c = (c .before .before .pre .3, refl, c .before .before .pre .2, at-first _ _ _)
 
 sweep-requires : tie.Need-sweep-requires Inv-loop μ-loop
 sweep-requires c κs =
@@ -40,10 +39,8 @@ same-length c = search needs
 returns : tie.Need-returns Inv-loop μ-loop
 returns c =
     let l = c .before .before .before .before .before .loop in
-    let a = c .before .before .before .before .before .before .before .before .args in
     let d = c .before .before .before .sweep in
-    let more = once-of (a .f .now) (conf (a .s) (a .m .now)) (l .k) (l .t) (l .m) (l .inv .3) (Sweep (l .at)) (l .inv .2) refl (d .result) _ (d .ensures) in
-    (more, omega arith, omega (arith, l .inv .0))
+    steps-made (l .inv .0) (once-of (l .inv .3) (l .inv .2) refl (d .ensures))
 
 same-length-2 : tie.Need-same-length-2 Inv-loop μ-loop
 same-length-2 c = search needs
@@ -51,10 +48,8 @@ same-length-2 c = search needs
 returns-2 : tie.Need-returns-2 Inv-loop μ-loop
 returns-2 c =
     let l = c .before .before .before .before .before .before .before .before .loop in
-    let a = c .before .before .before .before .before .before .before .before .before .before .before .args in
     let d = c .before .before .before .before .before .before .sweep in
-    let more = once-of (a .f .now) (conf (a .s) (a .m .now)) (l .k) (l .t) (l .m) (l .inv .3) (Sweep (l .at)) (l .inv .2) refl (d .result) _ (d .ensures) in
-    (more, omega arith, omega (arith, c .if1 .taken))
+    steps-made (l .inv .0) (once-of (l .inv .3) (l .inv .2) refl (d .ensures))
 
 loop-less : tie.Need-loop-less Inv-loop μ-loop
 loop-less c = search needs
@@ -62,10 +57,8 @@ loop-less c = search needs
 loop-again : tie.Need-loop-again Inv-loop μ-loop
 loop-again c =
     let l = c .before .before .before .before .before .before .before .before .loop in
-    let a = c .before .before .before .before .before .before .before .before .before .before .before .args in
     let d = c .before .before .before .before .before .before .sweep in
-    let more = once-of (a .f .now) (conf (a .s) (a .m .now)) (l .k) (l .t) (l .m) (l .inv .3) (Sweep (l .at)) (l .inv .2) refl (d .result) _ (d .ensures) in
-    (omega (arith, l .inv .0, c .if1 .left), search needs, c .before .before .g .given .1, more)
+    (omega (arith, l .inv .0, c .if1 .left), search needs, c .before .before .g .given .1, once-of (l .inv .3) (l .inv .2) refl (d .ensures))
 
 pub run-sweep-spec : {M : Type 1} → statement M
 run-sweep-spec =

@@ -1,4 +1,4 @@
-use mathlib.Core.Path.{_≡_, refl, sym, ap, _∙_}
+use mathlib.Core.Path.{_≡_, refl, sym, _∙_}
 use Prim.Native.Nat.{_+_, _-_, _<_}
 use lib.Dec.{eqb}
 use lib.ListN.{length}
@@ -7,13 +7,13 @@ use Rattle.records.proofs.Bodies.{end-le}
 use native.Mathlib.Omega.{arith}
 use borrow.Author.Tests.{eqb-false}
 use Rattle.walk.specs.Bounds.{Known}
-use Rattle.checker.specs.Step.{conf, walking, runOf}
-use Rattle.states.specs.declared.state.State.{State}
+use Rattle.checker.specs.Step.{walking}
+use Rattle.checker.specs.Bounds.{InRun}
 use Rattle.walk.proofs.Variables.{known-is, next-is}
 use Rattle.checker.proofs.Knowing.{known-step}
 use Rattle.format.proofs.Tests.{neither}
 use Rattle.checker.proofs.Parts.{body-is, lent-body}
-use Rattle.checker.proofs.Loop.{ran, walk-once, same-level, is-walking, walk-ready}
+use Rattle.checker.proofs.Loop.{walk-first, walk-once, same-level, walk-ready, steps-made}
 use borrow.Author.Needs.{needs}
 use Rattle.checker.proofs.runs.run_walk.Statement.{statement}
 use Rattle.checker.proofs.runs.run_walk.Tie as tie
@@ -22,7 +22,7 @@ use Rattle.checker.proofs.runs.run_walk.Tie as tie
 -- the variable whose index is walked at w, and the walk stands where the plain run from s does after k steps.
 abbrev Inv-loop : tie.InvT-loop
 Inv-loop f e m₀ s up n b near room w₀ v₀ k₀ m w v k =
-    (k < n) × (length m ≡ length m₀) × Known b v w × (ran (walking (s .length) w up) m k ≡ runOf f (conf s m₀) k)
+    (k < n) × (length m ≡ length m₀) × Known b v w × InRun f s m₀ (walking (s .length) w up) m k
 
 abbrev μ-loop : tie.MeasureT-loop
 μ-loop f e m₀ s up n b near room w₀ v₀ k₀ m w v k = n - k
@@ -39,11 +39,9 @@ known-requires : tie.Need-known-requires Inv-loop μ-loop
 known-requires c κs = search needs
 
 loop-holds : tie.Need-loop-holds Inv-loop μ-loop
-unfolding runOf
 loop-holds c =
     let a = c .before .before .before .before .before .before in
-    let at = ap (λ (x : State). ran x (a .args .m .now) 0) (is-walking (a .args .s) (a .args .from) (a .args .up) (a .pre .3)) in
-    (a .pre .4, refl, rw (c .known .ensures) (known-is _ (a .args .from)), at)
+    (a .pre .3, refl, rw (c .known .ensures) (known-is _ (a .args .from)), walk-first (a .pre .2))
 
 next-variable-requires : tie.Need-next-variable-requires Inv-loop μ-loop
 next-variable-requires c κs = search needs
@@ -52,21 +50,15 @@ step-requires : tie.Need-step-requires Inv-loop μ-loop
 step-requires c κs =
     let l = c .before .loop in
     let a = c .before .before .before .before .before .before .before .before in
-    let f = a .args .f .now in
-    let s = a .args .s in
-    let now = walking (s .length) (l .w) (a .args .up) in
-    let r = walk-ready f s (a .args .m .now) (a .pre .1) (a .pre .2) (l .made) now (l .m) (l .inv .3) (l .w) (a .args .up) refl in
+    let r = walk-ready (a .pre .1) (l .inv .3) refl in
     (r .1, rw (c .next-variable .ensures) (next-is _ (l .w) (l .v) (l .inv .2)), r .2 .0)
 
 settle-requires : tie.Need-settle-requires Inv-loop μ-loop
 settle-requires c κs =
     let l = c .before .before .before .loop in
     let a = c .before .before .before .before .before .before .before .before .before .before in
-    let f = a .args .f .now in
-    let s = a .args .s in
-    let now = walking (s .length) (l .w) (a .args .up) in
-    let r = walk-ready f s (a .args .m .now) (a .pre .1) (a .pre .2) (l .made) now (l .m) (l .inv .3) (l .w) (a .args .up) refl in
-    lent-body f (l .m) _ (body-is f (a .args .e) (a .pre .0)) (r .0)
+    let r = walk-ready (a .pre .1) (l .inv .3) refl in
+    lent-body (a .args .f .now) (l .m) _ (body-is (a .args .f .now) (a .args .e) (a .pre .0)) (r .0)
 
 add-made : tie.Need-add-made Inv-loop μ-loop
 add-made c = record { fits = omega (arith, c .before .before .before .before .before .before .loop .inv .0, c .before .before .before .before .before .before .before .before .before .before .before .before .before .fits .n .fits) }
@@ -91,8 +83,8 @@ returns c =
     let l = at-loop .loop in
     let a = at-loop .before .before .before .before .before .before .before in
     let found = at-loop .before .before .room-below in
-    let once = walk-once (a .args .f .now) (a .args .e) (a .pre .0) (a .args .s) (a .args .m .now) (l .m) (l .w) (a .args .up) (l .made) (l .inv .3) (found .result) (found .ensures) (at-step .step .result) (at-step .step .ensures) (at-settle .settle .result) _ (at-settle .settle .ensures) in
-    rw (c .stopped .ensures) (once .one-more, omega arith, omega (arith, l .inv .0))
+    let once = walk-once (l .inv .3) (a .pre .0) (found .ensures) (at-step .step .ensures) (at-settle .settle .result) (at-settle .settle .ensures) in
+    rw (c .stopped .ensures) (steps-made (l .inv .0) (once .one-more))
 
 changes-level-requires : tie.Need-changes-level-requires Inv-loop μ-loop
 changes-level-requires c κs = search needs
@@ -111,9 +103,9 @@ returns-2 c =
     let l = at-loop .loop in
     let a = at-loop .before .before .before .before .before .before .before in
     let found = at-loop .before .before .room-below in
-    let once = walk-once (a .args .f .now) (a .args .e) (a .pre .0) (a .args .s) (a .args .m .now) (l .m) (l .w) (a .args .up) (l .made) (l .inv .3) (found .result) (found .ensures) (at-step .step .result) (at-step .step .ensures) (at-settle .settle .result) _ (at-settle .settle .ensures) in
+    let once = walk-once (l .inv .3) (a .pre .0) (found .ensures) (at-step .step .ensures) (at-settle .settle .result) (at-settle .settle .ensures) in
     let on = (rw (c .before .before .before .before .went .given .1) at (once .one-more)) in
-    rw (c .stopped2 .ensures) (on, omega arith, omega (arith, l .inv .0))
+    rw (c .stopped2 .ensures) (steps-made (l .inv .0) on)
 
 loop-less : tie.Need-loop-less Inv-loop μ-loop
 loop-less c = omega (arith, c .before .before .before .before .before .before .before .before .before .before .before .loop .inv .0)
@@ -126,7 +118,7 @@ loop-again c =
     let l = at-loop .loop in
     let a = at-loop .before .before .before .before .before .before .before in
     let found = at-loop .before .before .room-below in
-    let once = walk-once (a .args .f .now) (a .args .e) (a .pre .0) (a .args .s) (a .args .m .now) (l .m) (l .w) (a .args .up) (l .made) (l .inv .3) (found .result) (found .ensures) (at-step .step .result) (at-step .step .ensures) (at-settle .settle .result) _ (at-settle .settle .ensures) in
+    let once = walk-once (l .inv .3) (a .pre .0) (found .ensures) (at-step .step .ensures) (at-settle .settle .result) (at-settle .settle .ensures) in
     let none = neither (eqb (l .made + 1) (a .args .n)) (c .before .changes-level .result) (c .if1 .left) in
     let same = same-level (a .args .up) (at-step .step .result) (sym (c .before .changes-level .ensures) ∙ none .1) in
     let g = c .before .before .before .went .given .1 in
