@@ -8,7 +8,12 @@ SYMBOLS = (("Nat._<_", "<"), ("Nat._≤_", "≤"), ("Path'._≡_", "≡"))
 
 def printed(crate, function):
     """The text that `rt goals` has written for a function, named as in proofs/: FUNCTION or MODULE/FUNCTION."""
-    path = pathlib.Path(f"target/goals/{crate}/Rattle.{crate}.proofs/proofs/{function}/Lts.antt")
+    return read(crate, f"Rattle.{crate}.proofs/proofs/{function}/Lts.antt")
+
+
+def read(crate, name):
+    """The lines of a file below target/goals of a crate."""
+    path = pathlib.Path(f"target/goals/{crate}/{name}")
     if not path.is_file():
         sys.exit(f"{path} is not there: run `rt goals {crate}` at the repository's root, and name the function as in crates/{crate}/proofs")
     return path.read_text().split("\n")
@@ -64,6 +69,16 @@ def facts(found, record):
                 seen.append((f"{path} .{name}", "call" if "·own" in text.split()[0] else ""))
         path, record = path + " .before", before
     return seen
+
+
+def points(found, record):
+    """The points from a record back to the function's entry, each by the name of what it has."""
+    names = []
+    while record in found:
+        fields = dict(found[record])
+        names.append(next(name for name in fields if name != "before") if "before" in fields else "start")
+        record = fields.get("before", "").strip()
+    return names
 
 
 def needs(crate, function):
