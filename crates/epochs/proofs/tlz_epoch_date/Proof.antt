@@ -33,10 +33,11 @@ enum-told c = search needs
 
 returns : tie.Need-returns
 returns c =
-    let a = c .before .before .before .before .before .before .before .before .args in
-    let k = c .before .before .before .before .before .before .before .count-of in
-    let n = c .before .before .before .before .before .n .given in
-    let d = c .before .before .before .date-of in
+    let at-date-of = c .before .before .before in let at-n = at-date-of .before .before in
+    let a = at-n .before .before .before .args in
+    let k = at-n .before .before .count-of in
+    let n = at-n .n .given in
+    let d = at-date-of .date-of in
     date-shown (a .epoch) (k .result) (k .ensures) (n .0 .0) (n .1) (d .result) (d .ensures) (a .year .now) (a .month .now) (a .day .now) (a .milliseconds .now)
 
 returns-2 : tie.Need-returns-2

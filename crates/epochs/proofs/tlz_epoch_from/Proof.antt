@@ -15,10 +15,11 @@ enum-known-n c = search needs
 
 int-to-float-epoch : tie.Need-int-to-float-epoch
 int-to-float-epoch c =
-    let a = c .before .before .before .before .before .args in
-    let f = c .before .before .before .before .before .fits in
-    let k = c .before .before .before .before .count-from in
-    let n = c .before .before .n .given in
+    let at-n = c .before .before in
+    let a = at-n .before .before .before .args in
+    let f = at-n .before .before .before .fits in
+    let k = at-n .before .before .count-from in
+    let n = at-n .n .given in
     let e = passed (f .year) (f .month) (f .day) (f .milliseconds) (k .ensures) in
     may-cast (n .0 .0) (from-small (a .year) (a .month) (a .day) (a .milliseconds) (n .0 .0) (sym e ∙ n .1))
 
@@ -27,10 +28,11 @@ enum-told c = search needs
 
 returns : tie.Need-returns
 returns c =
-    let a = c .before .before .before .before .before .args in
-    let f = c .before .before .before .before .before .fits in
-    let k = c .before .before .before .before .count-from in
-    let n = c .before .before .n .given in
+    let at-n = c .before .before in
+    let a = at-n .before .before .before .args in
+    let f = at-n .before .before .before .fits in
+    let k = at-n .before .before .count-from in
+    let n = at-n .n .given in
     let e = passed (f .year) (f .month) (f .day) (f .milliseconds) (k .ensures) in
     epoch-is-shown (countFrom (a .year) (a .month) (a .day) (a .milliseconds)) (k .result) e (n .0 .0) (n .1) (a .epoch .now)
 

@@ -71,7 +71,9 @@ returns-3 c =
     ∙ sym (l .inv .1)
 
 is-followed-requires : tie.Need-is-followed-requires Inv-loop μ-loop
-is-followed-requires c κs = omega (arith, c .before .before .if2 .left, c .before .before .before .before .before .before .end .ensures .1)
+is-followed-requires c κs =
+    let at-if2 = c .before .before in let at-end = at-if2 .before .before .before .before in
+    omega (arith, at-if2 .if2 .left, at-end .end .ensures .1)
 
 found-at-requires-4 : tie.Need-found-at-requires-4 Inv-loop μ-loop
 found-at-requires-4 c κs = omega arith
@@ -93,7 +95,9 @@ returns-4 c =
     ∙ sym (l .inv .1)
 
 nat-at-requires : tie.Need-nat-at-requires Inv-loop μ-loop
-nat-at-requires c κs = omega (arith, c .before .before .before .before .if2 .left, c .before .before .before .before .before .before .before .before .end .ensures .1)
+nat-at-requires c κs =
+    let at-if2 = c .before .before .before .before in let at-end = at-if2 .before .before .before .before in
+    omega (arith, at-if2 .if2 .left, at-end .end .ensures .1)
 
 cast-o : tie.Need-cast-o Inv-loop μ-loop
 cast-o c = search needs

@@ -43,11 +43,10 @@ loop-less c = search needs
 
 loop-again : tie.Need-loop-again Inv-loop μ-loop
 loop-again c =
-    let at-put = c .before .before in
-    let at-loop = at-put .before .before .before .before .before in
+    let at-put = c .before .before in let at-loop-test = at-put .before .before .before .before in let at-loop = at-loop-test .before in
     let l = at-loop .loop in
     let fields = at-loop .before .before .before .args .fields .now in
-    let onward = one-more (l .f) (l .to) (l .i) fields (at-put .before .before .before .before .loop-test .taken) in
+    let onward = one-more (l .f) (l .to) (l .i) fields (at-loop-test .loop-test .taken) in
     (search needs, search needs, l .inv .2 ∙ onward ∙ rw (at-put .put .ensures))
 
 same-length-2 : tie.Need-same-length-2 Inv-loop μ-loop

@@ -40,7 +40,9 @@ loop-less : tie.Need-loop-less Inv-loop μ-loop
 loop-less c = search needs
 
 loop-again : tie.Need-loop-again Inv-loop μ-loop
-loop-again c = let l = c .before .before .before .loop in let a = c .before .before .before .before .before .args in (search needs, (rw (big-more (a .s .now) (a .at) (l .i) (omega arith)) (omega arith), omega (arith, grow (l .i))))
+loop-again c =
+    let at-loop = c .before .before .before in let l = at-loop .loop in let a = at-loop .before .before .args in
+    (search needs, (rw (big-more (a .s .now) (a .at) (l .i) (omega arith)) (omega arith), omega (arith, grow (l .i))))
 
 returns : tie.Need-returns Inv-loop μ-loop
 returns c = let done : c .before .loop .i ≡ c .before .before .before .args .n = omega arith in rw done at (c .before .loop .inv .1)

@@ -35,13 +35,17 @@ wide-requires : tie.Need-wide-requires Inv-loop μ-loop
 wide-requires c κs = search needs
 
 add-acc : tie.Need-add-acc Inv-loop μ-loop
-add-acc c = let l = c .before .before .before .loop in let k = c .before .before .before .before .before .args .n - l .i in omega (arith, grow k, room k 8 (omega (arith, c .before .before .loop-test .taken)) (lit≤ tt))
+add-acc c =
+    let at-loop = c .before .before .before in let l = at-loop .loop in let k = at-loop .before .before .args .n - l .i in
+    omega (arith, grow k, room k 8 (omega (arith, c .before .before .loop-test .taken)) (lit≤ tt))
 
 loop-less : tie.Need-loop-less Inv-loop μ-loop
 loop-less c = search needs
 
 loop-again : tie.Need-loop-again Inv-loop μ-loop
-loop-again c = let l = c .before .before .before .loop in let a = c .before .before .before .before .before .args in let t = c .before .before .loop-test .taken in (omega arith, (rw (little-more (a .s .now) (a .at) (l .i) (a .n) t (l .inv .0) (omega arith)) (omega arith), rw (more (l .i) (a .n) t (l .inv .0)) (omega (arith, grow (a .n - l .i)))))
+loop-again c =
+    let at-loop = c .before .before .before in let l = at-loop .loop in let a = at-loop .before .before .args in let t = c .before .before .loop-test .taken in
+    (omega arith, (rw (little-more (a .s .now) (a .at) (l .i) (a .n) t (l .inv .0) (omega arith)) (omega arith), rw (more (l .i) (a .n) t (l .inv .0)) (omega (arith, grow (a .n - l .i)))))
 
 returns : tie.Need-returns Inv-loop μ-loop
 returns c = let a = c .before .before .before .args in let i = c .before .loop .i in let p : a .at + i ≡ a .at = omega arith in let q : a .n - i ≡ a .n = omega arith in rw (p, q) at (c .before .loop .inv .1)

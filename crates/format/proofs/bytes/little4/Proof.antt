@@ -60,7 +60,8 @@ cast-result c = search needs
 
 returns : tie.Need-returns
 returns c =
-    let a = c .before .before .before .before .before .before .before .before .before .args in (
+    let at-wide3 = c .before .before in let at-wide = at-wide3 .before .before .before .before in
+    let a = at-wide .before .before .before .args in (
       omega (arith, little-four (a .s .now) (a .at) (omega arith)),
       record { first = omega arith; second = omega arith; third = omega arith; fourth = omega arith },
     )
