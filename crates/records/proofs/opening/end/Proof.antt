@@ -1,6 +1,7 @@
 use mathlib.Core.Path.{_≡_, sym, _∙_, ap}
 use mathlib.Core.Bool.{true≢false}
 use Prim.Native.Nat.{ℕ}
+use mathlib.Core.List.{List}
 use native.Mathlib.Omega.{arith}
 use borrow.Author.Tests.{not-true, not-false}
 use Rattle.records.specs.Opening.{gdrAt, eofOf, eofRight}
@@ -9,6 +10,18 @@ use Rattle.records.proofs.Bodies.{eof-right, ends-at, ends-with}
 use borrow.Author.Needs.{needs}
 use Rattle.records.proofs.opening.end.Statement.{statement}
 use Rattle.records.proofs.opening.end.Tie as tie
+
+-- the file that is lent, the GDR's offset as it was read of it, and eof
+abbrev file : tie.After-link-at → List ℕ
+file c = c .before .before .before .args .f .now
+
+gdr-read : (c : tie.After-link-at) → c .link-at .result ≡ gdrAt (file c)
+unfolding gdrAt
+gdr-read c = c .link-at .ensures .0
+
+eof-read : (c : tie.After-nat-at) → let f = file (c .before .before) in c .nat-at .result ≡ eofOf f (gdrAt f)
+unfolding eofOf
+eof-read c = c .nat-at .ensures .0 ∙ ap (λ (k : ℕ). eofOf (file (c .before .before)) k) (gdr-read (c .before .before))
 
 returns : tie.Need-returns
 returns c = (sym (ends-with (c .before .before .args .f .now) (λ a. omega (arith, a .gdr, a .within, c .if1 .taken))), omega arith)
@@ -23,8 +36,7 @@ add-if2 : tie.Need-add-if2
 add-if2 c = search needs
 
 returns-2 : tie.Need-returns-2
-unfolding gdrAt
-returns-2 c = let g : c .before .link-at .result ≡ gdrAt (c .before .before .before .before .args .f .now) = c .before .link-at .ensures .0 in (sym (ends-with (c .before .before .before .before .args .f .now) (λ a. omega (arith, a .gdr, a .within, g, c .if2 .taken))), omega arith)
+returns-2 c = (sym (ends-with (file (c .before)) (λ a. omega (arith, a .gdr, a .within, gdr-read (c .before), c .if2 .taken))), omega arith)
 
 add-nat-at : tie.Need-add-nat-at
 add-nat-at c = search needs
@@ -39,26 +51,25 @@ add-if3 : tie.Need-add-if3
 add-if3 c = search needs
 
 returns-3 : tie.Need-returns-3
-unfolding gdrAt eofOf
-returns-3 c = let g : c .before .before .before .link-at .result ≡ gdrAt (c .before .before .before .before .before .before .args .f .now) = c .before .before .before .link-at .ensures .0 in
-    let eof : c .before .nat-at .result ≡ eofOf (c .before .before .before .before .before .before .args .f .now) (gdrAt (c .before .before .before .before .before .before .args .f .now)) = c .before .nat-at .ensures .0 ∙ ap (λ (k : ℕ). eofOf (c .before .before .before .before .before .before .args .f .now) k) g in
-    (sym (ends-with (c .before .before .before .before .before .before .args .f .now) (λ a. omega (arith, a .gdr, a .within, g, eof, c .if3 .taken))), omega arith)
+returns-3 c =
+    let at-nat-at = c .before in let at-link-at = at-nat-at .before .before in
+    (sym (ends-with (file at-link-at) (λ a. omega (arith, a .gdr, a .within, gdr-read at-link-at, eof-read at-nat-at, c .if3 .taken))), omega arith)
 
 eof-right-requires : tie.Need-eof-right-requires
 eof-right-requires c κs = search needs
 
 returns-4 : tie.Need-returns-4
-unfolding gdrAt eofOf
-returns-4 c = let g : c .before .before .before .before .before .link-at .result ≡ gdrAt (c .before .before .before .before .before .before .before .before .args .f .now) = c .before .before .before .before .before .link-at .ensures .0 in
-    let eof : c .before .before .before .nat-at .result ≡ eofOf (c .before .before .before .before .before .before .before .before .args .f .now) (gdrAt (c .before .before .before .before .before .before .before .before .args .f .now)) = c .before .before .before .nat-at .ensures .0 ∙ ap (λ (k : ℕ). eofOf (c .before .before .before .before .before .before .before .before .args .f .now) k) g in
-    (sym (ends-with (c .before .before .before .before .before .before .before .before .args .f .now) (λ a. true≢false (sym (eof-right (c .before .before .before .before .before .before .before .before .args .f .now) a) ∙ ap (λ (k : ℕ). eofRight (c .before .before .before .before .before .before .before .before .args .f .now) k) (sym eof) ∙ sym (c .before .eof-right .ensures) ∙ not-true _ (c .if4 .taken)))), omega arith)
+returns-4 c =
+    let at-nat-at = c .before .before .before in let f = file (at-nat-at .before .before) in
+    let wrong = ap (λ (k : ℕ). eofRight f k) (sym (eof-read at-nat-at)) ∙ sym (c .before .eof-right .ensures) ∙ not-true _ (c .if4 .taken) in
+    (sym (ends-with f (λ a. true≢false (sym (eof-right f a) ∙ wrong))), omega arith)
 
 returns-5 : tie.Need-returns-5
-unfolding gdrAt eofOf
-returns-5 c = let g : c .before .before .before .before .before .link-at .result ≡ gdrAt (c .before .before .before .before .before .before .before .before .args .f .now) = c .before .before .before .before .before .link-at .ensures .0 in
-    let eof : c .before .before .before .nat-at .result ≡ eofOf (c .before .before .before .before .before .before .before .before .args .f .now) (gdrAt (c .before .before .before .before .before .before .before .before .args .f .now)) = c .before .before .before .nat-at .ensures .0 ∙ ap (λ (k : ℕ). eofOf (c .before .before .before .before .before .before .before .before .args .f .now) k) g in
-    let w = window (c .before .before .before .before .before .before .before .before .args .f .now) _ (sym (c .before .eof-right .ensures) ∙ not-false _ (c .if4 .left)) in
-    (eof ∙ sym (ends-at (c .before .before .before .before .before .before .before .before .args .f .now) (record { gdr = omega (arith, g, eof, c .before .before .if3 .left); within = omega (arith, w .0, eof); near = omega (arith, w .1, eof) })), w .0)
+returns-5 c =
+    let at-if3 = c .before .before in let at-nat-at = at-if3 .before in let at-link-at = at-nat-at .before .before in let f = file at-link-at in
+    let g = gdr-read at-link-at in let eof = eof-read at-nat-at in
+    let w = window f _ (sym (c .before .eof-right .ensures) ∙ not-false _ (c .if4 .left)) in
+    (eof ∙ sym (ends-at f (record { gdr = omega (arith, g, eof, at-if3 .if3 .left); within = omega (arith, w .0, eof); near = omega (arith, w .1, eof) })), w .0)
 
 pub end-spec : {M : Type 1} → statement M
 end-spec =

@@ -26,9 +26,9 @@ returns-2 c = (simp (lt-ltb _ _ (c .if2 .taken), ← c .before .nat-at .ensures 
 returns-3 : tie.Need-returns-3
 unfolding reachOf
 returns-3 c =
-    let a = c .before .before .before .before .before in
-    let end = c .before .before .before .end in
-    (simp (le-ltb _ _ (c .if2 .left), ← c .before .nat-at .ensures .0, le-ltb _ _ (c .before .before .if1 .left), ← end .ensures .0, lt-ltb (end .result) (a .args .at + a .args .n) (omega (arith, a .pre, end .ensures .0))), λ e. omega arith)
+    let at-if1 = c .before .before in let at-start = at-if1 .before .before .before in
+    let end = at-if1 .before .end in
+    (simp (le-ltb _ _ (c .if2 .left), ← c .before .nat-at .ensures .0, le-ltb _ _ (at-if1 .if1 .left), ← end .ensures .0, lt-ltb (end .result) (at-start .args .at + at-start .args .n) (omega (arith, at-start .pre, end .ensures .0))), λ e. omega arith)
 
 pub cut-short-spec : {M : Type 1} → statement M
 cut-short-spec =
