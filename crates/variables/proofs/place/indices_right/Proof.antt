@@ -50,8 +50,9 @@ loop-less c = search needs
 loop-again : tie.Need-loop-again Inv-loop μ-loop
 unfolding indicesRight
 loop-again c =
-    let s : SFits w64 (getD (c .before .before .before .before .before .before .args .indices .now) (c .before .before .before .before .loop .d) (pos 0)) = record { sfits = c .before .before .index-right-arg .given } in
-    (search needs, rw (add-one, c .index-right .ensures, c .before .nat-at .ensures .0, ← c .before .before .before .before .loop .inv .1, toZ-ofZ {w = w64} s))
+    let at-loop = c .before .before .before .before in
+    let s : SFits w64 (getD (at-loop .before .before .args .indices .now) (at-loop .loop .d) (pos 0)) = record { sfits = c .before .before .index-right-arg .given } in
+    (search needs, rw (add-one, c .index-right .ensures, c .before .nat-at .ensures .0, ← at-loop .loop .inv .1, toZ-ofZ {w = w64} s))
 
 returns : tie.Need-returns Inv-loop μ-loop
 returns c =

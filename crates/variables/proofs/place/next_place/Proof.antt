@@ -28,17 +28,17 @@ nat-of-requires c κs = search needs
 
 add-cap : tie.Need-add-cap
 add-cap c =
-    let a = c .before .before .before .before .before in
-    let h : c .before .nat-at .result ≤ 2147483648 = omega (arith, c .before .nat-at .ensures .1) in
-    omega (arith, within (a .args .place) (c .before .nat-at .result) (a .pre .2) h, c .nat-of .ensures .1)
+    let at-nat-at = c .before in let at-start = at-nat-at .before .before .before .before in
+    let h : at-nat-at .nat-at .result ≤ 2147483648 = omega (arith, at-nat-at .nat-at .ensures .1) in
+    omega (arith, within (at-start .args .place) (at-nat-at .nat-at .result) (at-start .pre .2) h, c .nat-of .ensures .1)
 
 cap-requires : tie.Need-cap-requires
 cap-requires c κs = search needs
 
 returns : tie.Need-returns
 returns c =
-    let a = c .before .before .before .before .before .before in
-    (simp (← c .before .before .before .before .is .ensures, c .before .before .before .if1 .taken, ← c .before .before .nat-at .ensures .0, ← nat-is w64 0 (a .args .i) (a .fits .i) (c .before .nat-of .ensures .0), ← c .cap .ensures .0), c .cap .ensures .1)
+    let at-if1 = c .before .before .before in let at-start = at-if1 .before .before .before in
+    (simp (← at-if1 .before .is .ensures, at-if1 .if1 .taken, ← c .before .before .nat-at .ensures .0, ← nat-is w64 0 (at-start .args .i) (at-start .fits .i) (c .before .nat-of .ensures .0), ← c .cap .ensures .0), c .cap .ensures .1)
 
 returns-2 : tie.Need-returns-2
 returns-2 c =

@@ -56,10 +56,11 @@ loop-less c = search needs
 
 loop-again : tie.Need-loop-again Inv-loop μ-loop
 loop-again c =
-    let a = c .before .before .before .before .before .before .args in
-    let l = c .before .before .before .before .loop in
-    let s : SFits w64 (getD (a .indices .now) (c .before .before .slow .result) (pos 0)) = record { sfits = c .before .next-place-arg .given } in
-    (search needs, c .next-place .ensures .1, rw (c .next-place .ensures .0, toZ-ofZ {w = w64} s) (place-more (a .row) (a .l .count) (sizeOf (a .f .now) (a .l .sizes)) (variesOf (a .f .now) (a .l .variances)) (indexOf (a .indices .now)) (l .j) (c .before .before .slow .result) (l .place) (c .before .before .slow .ensures .0) (l .inv .2)))
+    let at-slow = c .before .before in
+    let a = at-slow .before .before .before .before .args in
+    let l = at-slow .before .before .loop in
+    let s : SFits w64 (getD (a .indices .now) (at-slow .slow .result) (pos 0)) = record { sfits = c .before .next-place-arg .given } in
+    (search needs, c .next-place .ensures .1, rw (c .next-place .ensures .0, toZ-ofZ {w = w64} s) (place-more (a .row) (a .l .count) (sizeOf (a .f .now) (a .l .sizes)) (variesOf (a .f .now) (a .l .variances)) (indexOf (a .indices .now)) (l .j) (at-slow .slow .result) (l .place) (at-slow .slow .ensures .0) (l .inv .2)))
 
 returns : tie.Need-returns Inv-loop μ-loop
 unfolding elementPlace

@@ -32,7 +32,9 @@ indices-right-requires c κs =
 
 returns-4 : tie.Need-returns-4
 unfolding placeOf placed
-returns-4 c = simp (not-true (c .before .indices-right .result) (c .if4 .taken), ← c .before .indices-right .ensures, not-false (c .before .before .before .row-fits2 .result) (c .before .before .if3 .left), ← c .before .before .before .row-fits2 .ensures, not-false (c .before .before .before .before .before .row-fits .result) (c .before .before .before .before .if2 .left), ← c .before .before .before .before .before .row-fits .ensures, eq-eqb _ _ (c .before .before .before .before .before .before .if1 .left))
+returns-4 c =
+    let at-if3 = c .before .before in let at-if2 = at-if3 .before .before in
+    simp (not-true (c .before .indices-right .result) (c .if4 .taken), ← c .before .indices-right .ensures, not-false (at-if3 .before .row-fits2 .result) (at-if3 .if3 .left), ← at-if3 .before .row-fits2 .ensures, not-false (at-if2 .before .row-fits .result) (at-if2 .if2 .left), ← at-if2 .before .row-fits .ensures, eq-eqb _ _ (at-if2 .before .before .if1 .left))
 
 place-in-requires : tie.Need-place-in-requires
 place-in-requires c κs =
@@ -42,7 +44,9 @@ place-in-requires c κs =
 
 returns-5 : tie.Need-returns-5
 unfolding placeOf placed
-returns-5 c = simp (← c .place-in .ensures, not-false (c .before .before .indices-right .result) (c .before .if4 .left), ← c .before .before .indices-right .ensures, not-false (c .before .before .before .before .row-fits2 .result) (c .before .before .before .if3 .left), ← c .before .before .before .before .row-fits2 .ensures, not-false (c .before .before .before .before .before .before .row-fits .result) (c .before .before .before .before .before .if2 .left), ← c .before .before .before .before .before .before .row-fits .ensures, eq-eqb _ _ (c .before .before .before .before .before .before .before .if1 .left))
+returns-5 c =
+    let at-if4 = c .before in let at-if3 = at-if4 .before .before in let at-if2 = at-if3 .before .before in
+    simp (← c .place-in .ensures, not-false (at-if4 .before .indices-right .result) (at-if4 .if4 .left), ← at-if4 .before .indices-right .ensures, not-false (at-if3 .before .row-fits2 .result) (at-if3 .if3 .left), ← at-if3 .before .row-fits2 .ensures, not-false (at-if2 .before .row-fits .result) (at-if2 .if2 .left), ← at-if2 .before .row-fits .ensures, eq-eqb _ _ (at-if2 .before .before .if1 .left))
 
 pub place-of-spec : {M : Type 1} → statement M
 place-of-spec =

@@ -29,11 +29,15 @@ bit-requires c κs = search needs
 
 returns-3 : tie.Need-returns-3
 unfolding carriedOf
-returns-3 c = simp (c .if3 .taken, ← c .before .bit .ensures, le-ltb _ _ (c .before .before .if2 .left), ← c .before .before .before .nat-at .ensures .0, le-ltb _ _ (c .before .before .before .before .if1 .left), ← c .before .before .before .before .before .end .ensures .0)
+returns-3 c =
+    let at-if2 = c .before .before in let at-if1 = at-if2 .before .before in
+    simp (c .if3 .taken, ← c .before .bit .ensures, le-ltb _ _ (at-if2 .if2 .left), ← at-if2 .before .nat-at .ensures .0, le-ltb _ _ (at-if1 .if1 .left), ← at-if1 .before .end .ensures .0)
 
 returns-4 : tie.Need-returns-4
 unfolding carriedOf
-returns-4 c = simp (c .if3 .left, ← c .before .bit .ensures, le-ltb _ _ (c .before .before .if2 .left), ← c .before .before .before .nat-at .ensures .0, le-ltb _ _ (c .before .before .before .before .if1 .left), ← c .before .before .before .before .before .end .ensures .0)
+returns-4 c =
+    let at-if2 = c .before .before in let at-if1 = at-if2 .before .before in
+    simp (c .if3 .left, ← c .before .bit .ensures, le-ltb _ _ (at-if2 .if2 .left), ← at-if2 .before .nat-at .ensures .0, le-ltb _ _ (at-if1 .if1 .left), ← at-if1 .before .end .ensures .0)
 
 pub carried-spec : {M : Type 1} → statement M
 carried-spec =

@@ -29,17 +29,17 @@ cap-requires c κs = search needs
 
 record-bytes-requires : tie.Need-record-bytes-requires
 record-bytes-requires c κs =
-    let a = c .before .before .before .before .before .before in
-    let r = vdr-reads (a .args .f .now) (a .args .kind) (a .args .at) (a .pre) in
-    let l = end-is (a .args .f .now) in
-    rw (c .before .before .before .dimensions-at .ensures .0) (omega (arith, r .sizes), omega (arith, r .variances))
+    let at-dimensions-at = c .before .before .before in let at-start = at-dimensions-at .before .before .before in
+    let r = vdr-reads (at-start .args .f .now) (at-start .args .kind) (at-start .args .at) (at-start .pre) in
+    let l = end-is (at-start .args .f .now) in
+    rw (at-dimensions-at .dimensions-at .ensures .0) (omega (arith, r .sizes), omega (arith, r .variances))
 
 returns : tie.Need-returns
 unfolding recordBytes
 returns c =
-    let a = c .before .before .before .before .before .before .before in
-    let is = vdr-makes (a .args .f .now) (a .args .kind) (a .args .at) (vdr-reads (a .args .f .now) (a .args .kind) (a .args .at) (a .pre)) in
-    rw (is, c .record-bytes .ensures .0, c .before .cap .ensures .0, c .before .before .value-bytes .ensures .0, c .before .before .before .before .dimensions-at .ensures .0)
+    let at-cap = c .before in let at-dimensions-at = at-cap .before .before .before in let at-start = at-dimensions-at .before .before .before in
+    let is = vdr-makes (at-start .args .f .now) (at-start .args .kind) (at-start .args .at) (vdr-reads (at-start .args .f .now) (at-start .args .kind) (at-start .args .at) (at-start .pre)) in
+    rw (is, c .record-bytes .ensures .0, at-cap .cap .ensures .0, at-cap .before .value-bytes .ensures .0, at-dimensions-at .dimensions-at .ensures .0)
 
 pub known-at-spec : {M : Type 1} → statement M
 known-at-spec =

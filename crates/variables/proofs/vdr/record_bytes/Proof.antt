@@ -49,8 +49,9 @@ loop-less c = search needs
 
 loop-again : tie.Need-loop-again Inv-loop μ-loop
 loop-again c =
-    let a = c .before .before .before .before .before .before .args in
-    let l = c .before .before .before .loop in
+    let at-loop = c .before .before .before in
+    let a = at-loop .before .before .before .args in
+    let l = at-loop .loop in
     (omega arith, omega arith, c .cap2 .ensures .1, rw (c .cap2 .ensures .0, c .before .factor .ensures .0) (values-more (a .f .now) (l .left) (l .p) (l .q) (l .acc) (c .before .before .loop-test .taken) ∙ l .inv .3))
 
 returns : tie.Need-returns Inv-loop μ-loop

@@ -47,7 +47,9 @@ at-least-requires-2 c κs = search needs
 
 returns : tie.Need-returns
 unfolding vdrFields
-returns c = simp (← c .at-least2 .ensures, ← c .before .within .ensures, ← c .before .before .big4 .ensures, ← c .before .before .before .at-least .ensures, ← c .before .before .before .before .is3 .ensures, ← c .before .before .before .before .before .is2 .ensures, ← c .before .before .before .before .before .before .is .ensures, ← c .before .before .before .before .before .before .before .before .pre .1)
+returns c =
+    let at-big4 = c .before .before in let at-is3 = at-big4 .before .before in let at-is = at-is3 .before .before in
+    simp (← c .at-least2 .ensures, ← c .before .within .ensures, ← at-big4 .big4 .ensures, ← at-big4 .before .at-least .ensures, ← at-is3 .is3 .ensures, ← at-is3 .before .is2 .ensures, ← at-is .is .ensures, ← at-is .before .before .pre .1)
 
 pub vdr-fields-spec : {M : Type 1} → statement M
 vdr-fields-spec =
