@@ -2,6 +2,8 @@ use borrow.Author.Needs.{needs}
 use native.Mathlib.Omega.{arith}
 use mathlib.Core.Path.{_≡_, sym, _∙_}
 use borrow.Author.Tests.{not-true, not-false}
+use mathlib.Core.Bool.{true}
+use Rattle.records.specs.Index.{indexAt}
 use Rattle.lookup.specs.Indexes.{afterLower, lowered}
 use Rattle.lookup.specs.declared.indexes.Scan.{Scan}
 use Rattle.lookup.specs.declared.indexes.Scan.the-variants.{Covering, Passed, Broken}
@@ -55,31 +57,30 @@ go-down-returns t c =
     let none = sym (i .ensures) ∙ not-true (i .result) (c .if1 .taken) in
     (lowest-here (a .levels) (a .f .now) (a .r) (a .e) (a .left) none, c .before .before .before .pre .1)
 
+-- the entry names an index record
+indexed : (t : ℕ) (c : go-down-lts.Else1 (claims t) (go-down-at t) go-down.Post)
+    → let a = c .before .before .before .args in indexAt (a .f .now) (a .e .link) ≡ true
+indexed t c = sym (c .before .is-index .ensures) ∙ not-false (c .before .is-index .result) (c .if1 .left)
+
 go-down-returns-2 : (t : ℕ) → go-down-lts.Need-returns-2 (claims t) (go-down-at t) go-down.Post
 go-down-returns-2 t c =
     let a = c .before .before .before .before .args in
-    let i = c .before .before .is-index in
-    let found = sym (i .ensures) ∙ not-false (i .result) (c .before .if1 .left) in
-    (too-deep (a .levels) (a .f .now) (a .r) (a .e) (a .left) (c .if2 .taken) found, tt)
+    (too-deep (a .levels) (a .f .now) (a .r) (a .e) (a .left) (c .if2 .taken) (indexed t (c .before)), tt)
 
 go-down-returns-3 : (t : ℕ) → go-down-lts.Need-returns-3 (claims t) (go-down-at t) go-down.Post
 go-down-returns-3 t c =
-    let a = c .before .before .before .before .before .args in
-    let i = c .before .before .before .is-index in
-    let found = sym (i .ensures) ∙ not-false (i .result) (c .before .before .if1 .left) in
-    (none-left (a .levels) (a .f .now) (a .r) (a .e) (a .left) (c .before .if2 .left) found (c .if3 .taken), tt)
+    let at-if1 = c .before .before in let a = at-if1 .before .before .before .args in
+    (none-left (a .levels) (a .f .now) (a .r) (a .e) (a .left) (c .before .if2 .left) (indexed t at-if1) (c .if3 .taken), tt)
 
 go-down-lower-met-requires : (t : ℕ) → go-down-lts.Need-lower-met-requires (claims t) (go-down-at t) go-down.Post
 go-down-lower-met-requires t c κs = search needs
 
 go-down-returns-4 : (t : ℕ) → go-down-lts.Need-returns-4 (claims t) (go-down-at t) go-down.Post
 go-down-returns-4 t c =
-    let a = c .before .before .before .before .before .before .before .args in
-    let i = c .before .before .before .before .before .is-index in
+    let at-if2 = c .before .before .before in let at-if1 = at-if2 .before in let a = at-if1 .before .before .before .args in
     let m = c .before .lower-met in
-    let found = sym (i .ensures) ∙ not-false (i .result) (c .before .before .before .before .if1 .left) in
     let unmet = sym (m .ensures .0) ∙ not-true (m .result) (c .if4 .taken) in
-    (not-met (a .levels) (a .f .now) (a .r) (a .e) (a .left) (c .before .before .before .if2 .left) found unmet, tt)
+    (not-met (a .levels) (a .f .now) (a .r) (a .e) (a .left) (at-if2 .if2 .left) (indexed t at-if1) unmet, tt)
 
 go-down-cast-nat-at : (t : ℕ) → go-down-lts.Need-cast-nat-at (claims t) (go-down-at t) go-down.Post
 go-down-cast-nat-at t c = search needs
@@ -94,7 +95,8 @@ go-down-nat-at-requires t c κs =
 
 go-down-scan-entries-requires : (t : ℕ) → go-down-lts.Need-scan-entries-requires (claims t) (go-down-at t) go-down.Post
 go-down-scan-entries-requires t c κs =
-    let fits = c .before .before .before .before .before .before .before .before .pre .1 in
+    let at-if2 = c .before .before .before .before in
+    let fits = at-if2 .before .before .before .before .pre .1 in
     omega (arith, fits .first, fits .last, fits .small)
 
 go-down-enum-known-s : (t : ℕ) → go-down-lts.Need-enum-known-s (claims t) (go-down-at t) go-down.Post
@@ -108,9 +110,10 @@ go-down-sub-go-down-2 t c = search needs
 
 go-down-go-down-requires : (t : ℕ) → go-down-lts.Need-go-down-requires (claims t) (go-down-at t) go-down.Post
 go-down-go-down-requires t c κs =
-    let start = c .before .before .before .before .before .before .before .before .before .before .before .before in
-    let more = c .before .before .before .before .before .before .before .before .if2 .left in
-    (omega (arith, start .pre .0, more), rw (c .before .s .given .1) at (c .before .before .before .scan-entries .ensures .1))
+    let at-s = c .before in let at-if4 = at-s .before .before .before .before in let at-if2 = at-if4 .before .before .before in
+    let start = at-if2 .before .before .before .before in
+    let more = at-if2 .if2 .left in
+    (omega (arith, start .pre .0, more), rw (at-s .s .given .1) at (at-s .before .before .scan-entries .ensures .1))
 
 go-down-enum-told : (t : ℕ) → go-down-lts.Need-enum-told (claims t) (go-down-at t) go-down.Post
 go-down-enum-told t c = search needs
@@ -120,16 +123,14 @@ go-down-enum-told-2 t c = search needs
 
 -- the lower record is met, and s is what its entries say
 down : (t : ℕ) (c : go-down-lts.After-scan-entries (claims t) (go-down-at t) go-down.Post) (s : Scan) → c .scan-entries .result ≡ s
-    → let a = c .before .before .before .before .before .before .before .before .before .args in
+    → let at-if3 = c .before .before .before .before in let at-if1 = at-if3 .before .before in let a = at-if1 .before .before .before .args in
     lowered (a .levels) (a .f .now) (a .r) (a .e) (a .left) ≡ afterLower s (λ d. lowered (a .levels - 1) (a .f .now) (a .r) d (a .left - 1))
 down t c s is =
-    let a = c .before .before .before .before .before .before .before .before .before .args in
-    let i = c .before .before .before .before .before .before .before .is-index in
-    let m = c .before .before .before .lower-met in
-    let found = sym (i .ensures) ∙ not-false (i .result) (c .before .before .before .before .before .before .if1 .left) in
-    let met = sym (m .ensures .0) ∙ not-false (m .result) (c .before .before .if4 .left) in
-    one-down (a .levels) (a .f .now) (a .r) (a .e) (a .left) (c .before .before .before .before .before .if2 .left) found
-    (c .before .before .before .before .if3 .left) met (c .before .nat-at .result) (c .before .nat-at .ensures .0) s
+    let at-if4 = c .before .before in let at-if3 = at-if4 .before .before in let at-if1 = at-if3 .before .before in
+    let a = at-if1 .before .before .before .args in let m = at-if4 .before .lower-met in
+    let met = sym (m .ensures .0) ∙ not-false (m .result) (at-if4 .if4 .left) in
+    one-down (a .levels) (a .f .now) (a .r) (a .e) (a .left) (at-if3 .before .if2 .left) (indexed t at-if1)
+    (at-if3 .if3 .left) met (c .before .nat-at .result) (c .before .nat-at .ensures .0) s
     (sym is ∙ c .scan-entries .ensures .0)
 
 go-down-returns-5 : (t : ℕ) → go-down-lts.Need-returns-5 (claims t) (go-down-at t) go-down.Post

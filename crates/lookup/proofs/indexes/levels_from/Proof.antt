@@ -13,14 +13,16 @@ enum-known-i c = search needs
 
 sub-t9 : tie.Need-sub-t9
 sub-t9 c =
-    let a = c .before .before .before .before .before .args in
-    let k = levels-known (a .f .now) (a .r) (a .e) _ (a .left) _ (sym (c .before .i .given .1) ∙ c .before .before .before .go-down .ensures .0) in
+    let at-go-down = c .before .before .before in
+    let a = at-go-down .before .before .args in
+    let k = levels-known (a .f .now) (a .r) (a .e) _ (a .left) _ (sym (c .before .i .given .1) ∙ at-go-down .go-down .ensures .0) in
     k .0
 
 add-t10 : tie.Need-add-t10
 add-t10 c =
-    let a = c .before .before .before .before .before .args in
-    let k = levels-known (a .f .now) (a .r) (a .e) _ (a .left) _ (sym (c .before .i .given .1) ∙ c .before .before .before .go-down .ensures .0) in
+    let at-go-down = c .before .before .before in
+    let a = at-go-down .before .before .args in
+    let k = levels-known (a .f .now) (a .r) (a .e) _ (a .left) _ (sym (c .before .i .given .1) ∙ at-go-down .go-down .ensures .0) in
     omega (arith, k .2)
 
 enum-known-i-2 : tie.Need-enum-known-i-2
@@ -28,8 +30,9 @@ enum-known-i-2 c = search needs
 
 returns : tie.Need-returns
 returns c =
-    let a = c .before .before .before .before .before .args in
-    let h = sym (c .before .i .given .1) ∙ c .before .before .before .go-down .ensures .0 in
+    let at-go-down = c .before .before .before in
+    let a = at-go-down .before .before .args in
+    let h = sym (c .before .i .given .1) ∙ at-go-down .go-down .ensures .0 in
     let k = levels-known (a .f .now) (a .r) (a .e) _ (a .left) _ h in
     (rw (← h, k .1), k .2)
 

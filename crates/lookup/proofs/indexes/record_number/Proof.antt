@@ -33,13 +33,15 @@ bit-requires c κs = search needs
 
 returns-3 : tie.Need-returns-3
 returns-3 c =
-    let a = c .before .before .before .before .before .before in
-    number-same (a .args .f .now) (a .args .v) (a .args .r) (rw (toZ-ofZ {w = w64} (a .fits .r)) at (c .before .before .before .before .if1 .left)) (sym (c .before .before .before .at-least .ensures) ∙ not-false (c .before .before .before .at-least .result) (c .before .before .if2 .left)) (sym (c .before .bit .ensures) ∙ not-true (c .before .bit .result) (c .if3 .taken))
+    let at-bit = c .before in let at-least = at-bit .before .before in let at-start = at-least .before .before .before in
+    number-same (at-start .args .f .now) (at-start .args .v) (at-start .args .r) (rw (toZ-ofZ {w = w64} (at-start .fits .r)) at (at-least .before .if1 .left))
+    (sym (at-least .at-least .ensures) ∙ not-false (at-least .at-least .result) (at-bit .before .if2 .left))
+    (sym (at-bit .bit .ensures) ∙ not-true (at-bit .bit .result) (c .if3 .taken))
 
 cast-n : tie.Need-cast-n
 cast-n c =
-    let a = c .before .before .before .before .before .before in
-    cast-nat w64 0 (a .args .r) (a .fits .r) tt (c .before .before .before .before .if1 .left)
+    let at-if1 = c .before .before .before .before in let at-start = at-if1 .before .before in
+    cast-nat w64 0 (at-start .args .r) (at-start .fits .r) tt (at-if1 .if1 .left)
 
 nat-at-requires : tie.Need-nat-at-requires
 nat-at-requires c κs = search needs
@@ -49,18 +51,24 @@ cast-if4 c = search needs
 
 returns-4 : tie.Need-returns-4
 returns-4 c =
-    let a = c .before .before .before .before .before .before .before .before in
-    let e = is-nat w64 0 (a .args .r) (a .fits .r) (c .before .before .before .before .before .before .if1 .left) in
-    number-past (a .args .f .now) (a .args .v) (a .args .r) (sym (c .before .before .before .before .before .at-least .ensures) ∙ not-false (c .before .before .before .before .before .at-least .result) (c .before .before .before .before .if2 .left)) (sym (c .before .before .before .bit .ensures) ∙ not-false (c .before .before .before .bit .result) (c .before .before .if3 .left)) (rw (c .before .nat-at .ensures .0, e) at (c .if4 .taken))
+    let at-if3 = c .before .before in let at-bit = at-if3 .before in let at-least = at-bit .before .before in let at-start = at-least .before .before .before in
+    let e = is-nat w64 0 (at-start .args .r) (at-start .fits .r) (at-least .before .if1 .left) in
+    number-past (at-start .args .f .now) (at-start .args .v) (at-start .args .r)
+    (sym (at-least .at-least .ensures) ∙ not-false (at-least .at-least .result) (at-bit .before .if2 .left))
+    (sym (at-bit .bit .ensures) ∙ not-false (at-bit .bit .result) (at-if3 .if3 .left)) (rw (c .before .nat-at .ensures .0, e) at (c .if4 .taken))
 
 cast-t10 : tie.Need-cast-t10
 cast-t10 c = search needs
 
 returns-5 : tie.Need-returns-5
 returns-5 c =
-    let a = c .before .before .before .before .before .before .before .before in
-    let e = is-nat w64 0 (a .args .r) (a .fits .r) (c .before .before .before .before .before .before .if1 .left) in
-    ap There e ∙ number-there (a .args .f .now) (a .args .v) (a .args .r) (rw (toZ-ofZ {w = w64} (a .fits .r)) at (c .before .before .before .before .before .before .if1 .left)) (sym (c .before .before .before .before .before .at-least .ensures) ∙ not-false (c .before .before .before .before .before .at-least .result) (c .before .before .before .before .if2 .left)) (sym (c .before .before .before .bit .ensures) ∙ not-false (c .before .before .before .bit .result) (c .before .before .if3 .left)) (rw (c .before .nat-at .ensures .0, e) at (c .if4 .left))
+    let at-if3 = c .before .before in let at-bit = at-if3 .before in let at-least = at-bit .before .before in let at-if1 = at-least .before in
+    let at-start = at-if1 .before .before in
+    let e = is-nat w64 0 (at-start .args .r) (at-start .fits .r) (at-if1 .if1 .left) in
+    ap There e ∙ number-there (at-start .args .f .now) (at-start .args .v) (at-start .args .r)
+    (rw (toZ-ofZ {w = w64} (at-start .fits .r)) at (at-if1 .if1 .left))
+    (sym (at-least .at-least .ensures) ∙ not-false (at-least .at-least .result) (at-bit .before .if2 .left))
+    (sym (at-bit .bit .ensures) ∙ not-false (at-bit .bit .result) (at-if3 .if3 .left)) (rw (c .before .nat-at .ensures .0, e) at (c .if4 .left))
 
 pub record-number-spec : {M : Type 1} → statement M
 record-number-spec =

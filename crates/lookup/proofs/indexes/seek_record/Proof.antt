@@ -63,7 +63,7 @@ nat-at-requires : tie.Need-nat-at-requires Inv-loop μ-loop
 nat-at-requires c κs = omega (arith, c .before .index-met .ensures .1 (not-false (c .before .index-met .result) (c .if2 .left)))
 
 scan-entries-requires : tie.Need-scan-entries-requires Inv-loop μ-loop
-scan-entries-requires c κs = c .before .before .before .before .before .before .loop .inv .1
+scan-entries-requires c κs = let at-if1 = c .before .before .before in let at-loop = at-if1 .before .before .before in at-loop .loop .inv .1
 
 enum-known-s : tie.Need-enum-known-s Inv-loop μ-loop
 enum-known-s c = search needs

@@ -24,10 +24,10 @@ enum-told c = search needs
 returns : tie.Need-returns
 unfolding levelsWay
 returns c =
-    let a = c .before .before .before .before .before .before .before in
-    let n = c .before .before .before .before .before .record-number in
-    let e : n .result ≡ recordNumber (a .args .f .now) (a .args .v) (a .args .r) = rw (toZ-ofZ {w = w64} (a .fits .r)) at (n .ensures) in
-    let t = rw (c .before .before .before .n .given .1) at e in
+    let at-n = c .before .before .before in let at-start = at-n .before .before .before .before in
+    let n = at-n .before .before .record-number in
+    let e : n .result ≡ recordNumber (at-start .args .f .now) (at-start .args .v) (at-start .args .r) = rw (toZ-ofZ {w = w64} (at-start .fits .r)) at (n .ensures) in
+    let t = rw (at-n .n .given .1) at e in
     (rw (← t, c .levels-of .ensures .0, c .before .seek-record .ensures .0), c .levels-of .ensures .1)
 
 returns-2 : tie.Need-returns-2

@@ -31,8 +31,9 @@ vvr-requires c κs = search needs
 returns-3 : tie.Need-returns-3
 unfolding valuesMet
 returns-3 c =
-    let h : 1 ≤ c .before .before .before .before .before .before .args .left = omega (arith, c .before .before .before .before .if1 .left) in
-    simp (le-leb 1 _ h, ← c .before .before .before .lands .ensures, not-false (c .before .before .before .lands .result) (c .before .before .if2 .left), ← c .vvr .ensures)
+    let at-if2 = c .before .before in let at-lands = at-if2 .before in let at-if1 = at-lands .before in
+    let h : 1 ≤ at-if1 .before .before .args .left = omega (arith, at-if1 .if1 .left) in
+    simp (le-leb 1 _ h, ← at-lands .lands .ensures, not-false (at-lands .lands .result) (at-if2 .if2 .left), ← c .vvr .ensures)
 
 pub values-met-spec : {M : Type 1} → statement M
 values-met-spec =

@@ -20,15 +20,15 @@ allowed-requires c κs = c .before .opens .ensures .1 (not-false _ (c .if1 .left
 
 to-place-requires : tie.Need-to-place-requires
 to-place-requires c κs =
-    let a = c .before .before .before .before .before in
-    omega (arith, opened-part (a .args .f .now) (a .args .b .now) (a .pre) (c .before .before .opens .ensures .1 (not-false _ (c .before .if1 .left))) .gdr)
+    let at-if1 = c .before in let at-start = at-if1 .before .before .before .before in
+    omega (arith, opened-part (at-start .args .f .now) (at-start .args .b .now) (at-start .pre) (at-if1 .before .opens .ensures .1 (not-false _ (at-if1 .if1 .left))) .gdr)
 
 returns-2 : tie.Need-returns-2
 unfolding attributeWay
 returns-2 c =
-    let a = c .before .before .before .before .before .before in
-    let h = rw (toZ-ofZ {w = w64} (a .fits .number), c .before .allowed .ensures, a .pre) at (c .to-place .ensures) in
-    simp (h, not-false (c .before .before .before .opens .result) (c .before .before .if1 .left), ← c .before .before .before .opens .ensures .0)
+    let at-if1 = c .before .before in let at-opens = at-if1 .before in let at-start = at-opens .before .before .before in
+    let h = rw (toZ-ofZ {w = w64} (at-start .fits .number), c .before .allowed .ensures, at-start .pre) at (c .to-place .ensures) in
+    simp (h, not-false (at-opens .opens .result) (at-if1 .if1 .left), ← at-opens .opens .ensures .0)
 
 pub to-attribute-spec : {M : Type 1} → statement M
 to-attribute-spec = tie.close (tie.spec opens-requires returns allowed-requires to-place-requires returns-2)

@@ -22,25 +22,25 @@ head-of-entries-requires c κs = search needs
 
 seek-requires : tie.Need-seek-requires
 seek-requires c κs =
-    let a = c .before .before .before .before .before .before in
-    let b = a .args .b .now in
-    let e = rw (toZ-ofZ {w = w64} (a .fits .attribute)) at (sym (c .before .before .before .before .to-place .ensures) ∙ c .before .before .way .given .1) in
-    let m = subst (Finds (λ o. meets b 4 o ≡ true)) e (place-finds b 4 (a .args .attribute) (a .args .allowed)) in
-    omega (arith, attribute-inside b (c .before .before .way .given .0 .0) m, c .head-of-entries .ensures .1)
+    let at-way = c .before .before in let at-start = at-way .before .before .before .before in
+    let b = at-start .args .b .now in
+    let e = rw (toZ-ofZ {w = w64} (at-start .fits .attribute)) at (sym (at-way .before .before .to-place .ensures) ∙ at-way .way .given .1) in
+    let m = subst (Finds (λ o. meets b 4 o ≡ true)) e (place-finds b 4 (at-start .args .attribute) (at-start .args .allowed)) in
+    omega (arith, attribute-inside b (at-way .way .given .0 .0) m, c .head-of-entries .ensures .1)
 
 enum-known-way-2 : tie.Need-enum-known-way-2
 enum-known-way-2 c = search needs
 
 returns : tie.Need-returns
 returns c =
-    let a = c .before .before .before .before .before .before .before in
-    let e = rw (toZ-ofZ {w = w64} (a .fits .attribute)) at (sym (c .before .before .before .before .before .to-place .ensures) ∙ c .before .before .before .way .given .1) in
+    let at-way = c .before .before .before in let at-to-place = at-way .before .before in
+    let e = rw (toZ-ofZ {w = w64} (at-to-place .before .before .fits .attribute)) at (sym (at-to-place .to-place .ensures) ∙ at-way .way .given .1) in
     rw e (c .seek .ensures ∙ rw (c .before .head-of-entries .ensures .0))
 
 returns-2 : tie.Need-returns-2
 returns-2 c =
-    let a = c .before .before .before .before .before in
-    let e = rw (toZ-ofZ {w = w64} (a .fits .attribute)) at (sym (c .before .before .before .to-place .ensures) ∙ c .before .way2 .given .1) in
+    let at-to-place = c .before .before .before in
+    let e = rw (toZ-ofZ {w = w64} (at-to-place .before .before .fits .attribute)) at (sym (at-to-place .to-place .ensures) ∙ c .before .way2 .given .1) in
     rw e
 
 pub to-listed-spec : {M : Type 1} → statement M

@@ -21,9 +21,10 @@ variable-at-requires c κs = search needs
 returns-2 : tie.Need-returns-2
 unfolding vdrKept
 returns-2 c =
-    let a = c .before .before .before .before .before .args in
+    let at-if1 = c .before .before in
+    let a = at-if1 .before .before .before .args in
     let v = ap (λ (w : Variable). w .fault) (c .before .variable-at .ensures) in
-    (simp (v, eq-eqb _ _ (c .before .before .if1 .left), ← c .before .before .before .carried .ensures), λ e. vdr-inside (a .f .now) (a .t) (a .o) (sym v ∙ eqb-true _ _ e))
+    (simp (v, eq-eqb _ _ (at-if1 .if1 .left), ← at-if1 .before .carried .ensures), λ e. vdr-inside (a .f .now) (a .t) (a .o) (sym v ∙ eqb-true _ _ e))
 
 pub vdr-kept-spec : {M : Type 1} → statement M
 vdr-kept-spec = tie.close (tie.spec carried-requires returns variable-at-requires returns-2)
