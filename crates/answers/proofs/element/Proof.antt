@@ -35,25 +35,25 @@ cast-size c = search needs
 
 cast-decode-at : tie.Need-cast-decode-at
 cast-decode-at c =
-    let a = c .before .before .before .before .before in
-    let t = c .before .before .before .element-there in
-    let there = not-false (t .result) (c .before .before .if1 .left) in
-    let low = there-not-below (a .args .f .now) (a .args .c) (toZ w64 (ofZ w64 (a .args .x))) (sym (t .ensures .0) ∙ there) in
-    cast-nat w64 0 (a .args .x) (a .fits .x) tt low
+    let at-if1 = c .before .before in let at-start = at-if1 .before .before .before in
+    let t = at-if1 .before .element-there in
+    let there = not-false (t .result) (at-if1 .if1 .left) in
+    let low = there-not-below (at-start .args .f .now) (at-start .args .c) (toZ w64 (ofZ w64 (at-start .args .x))) (sym (t .ensures .0) ∙ there) in
+    cast-nat w64 0 (at-start .args .x) (at-start .fits .x) tt low
 
 mul-decode-at : tie.Need-mul-decode-at
 mul-decode-at c =
-    let a = c .before .before .before .before .before in
-    let t = c .before .before .before .element-there in
-    let there = not-false (t .result) (c .before .before .if1 .left) in
-    record { fits = omega (arith, there-bytes (a .args .f .now) (a .args .c) (a .args .x) (a .fits .x) (t .ensures .0) (t .ensures .1) there (c .size-of .ensures .1)) }
+    let at-if1 = c .before .before in let at-start = at-if1 .before .before .before in
+    let t = at-if1 .before .element-there in
+    let there = not-false (t .result) (at-if1 .if1 .left) in
+    record { fits = omega (arith, there-bytes (at-start .args .f .now) (at-start .args .c) (at-start .args .x) (at-start .fits .x) (t .ensures .0) (t .ensures .1) there (c .size-of .ensures .1)) }
 
 add-decode-at : tie.Need-add-decode-at
 add-decode-at c =
-    let a = c .before .before .before .before .before in
-    let t = c .before .before .before .element-there in
-    let there = not-false (t .result) (c .before .before .if1 .left) in
-    record { fits = omega (arith, there-bytes (a .args .f .now) (a .args .c) (a .args .x) (a .fits .x) (t .ensures .0) (t .ensures .1) there (c .size-of .ensures .1), a .pre .4) }
+    let at-if1 = c .before .before in let at-start = at-if1 .before .before .before in
+    let t = at-if1 .before .element-there in
+    let there = not-false (t .result) (at-if1 .if1 .left) in
+    record { fits = omega (arith, there-bytes (at-start .args .f .now) (at-start .args .c) (at-start .args .x) (at-start .fits .x) (t .ensures .0) (t .ensures .1) there (c .size-of .ensures .1), at-start .pre .4) }
 
 nat-at-requires-2 : tie.Need-nat-at-requires-2
 nat-at-requires-2 c κs = search needs

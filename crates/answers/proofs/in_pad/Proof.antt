@@ -30,10 +30,14 @@ known-at-requires c κs =
     rw (rw (toZ-ofZ {w = w64} (a .fits .kind)) at (c .kind-among .ensures .0)) (a .pre .1)
 
 mul-element : tie.Need-mul-element
-mul-element c = let u = c .before .known-at in record { fits = omega (arith, fitting _ _ _ (c .before .before .before .before .before .before .pre .0) (u .result) (u .ensures) .variances) }
+mul-element c =
+    let at-bit = c .before .before .before .before in let u = c .before .known-at in
+    record { fits = omega (arith, fitting _ _ _ (at-bit .before .before .pre .0) (u .result) (u .ensures) .variances) }
 
 add-element : tie.Need-add-element
-add-element c = let u = c .before .known-at in record { fits = omega (arith, fitting _ _ _ (c .before .before .before .before .before .before .pre .0) (u .result) (u .ensures) .variances) }
+add-element c =
+    let at-bit = c .before .before .before .before in let u = c .before .known-at in
+    record { fits = omega (arith, fitting _ _ _ (at-bit .before .before .pre .0) (u .result) (u .ensures) .variances) }
 
 add-element-2 : tie.Need-add-element-2
 add-element-2 c = search needs
@@ -43,19 +47,19 @@ add-element-3 c = search needs
 
 element-requires : tie.Need-element-requires
 element-requires c κs =
+    let at-if1 = c .before .before .before in
     let u = c .before .known-at in
-    let a = c .before .before .before .before .before .before in
-    let i = a .pre .0 in
+    let i = at-if1 .before .before .before .pre .0 in
     (i .short, omega (arith, i .long), omega (arith, i .bytes), omega (arith, i .bytes), omega (arith, fitting _ _ _ i (u .result) (u .ensures) .variances))
 
 returns-2 : tie.Need-returns-2
 unfolding padIn
 returns-2 c =
-    let b = c .before .before .before .before .before in
-    let a = b .before .before in
-    let k = rw (toZ-ofZ {w = w64} (a .fits .kind)) at (c .before .before .before .kind-among .ensures .0) in
-    let u = c .before .before .known-at .ensures ∙ ap (λ (t : ℕ). variableOf (a .args .f .now) t (a .args .v)) k in
-    rw (← b .bit .ensures, not-false (b .bit .result) (c .before .before .before .before .if1 .left), ← u) (rw (toZ-ofZ {w = w64} (a .fits .x)) at (c .element .ensures))
+    let at-kind-among = c .before .before .before in let at-if1 = at-kind-among .before in let at-bit = at-if1 .before in
+    let at-start = at-bit .before .before in
+    let k = rw (toZ-ofZ {w = w64} (at-start .fits .kind)) at (at-kind-among .kind-among .ensures .0) in
+    let u = c .before .before .known-at .ensures ∙ ap (λ (t : ℕ). variableOf (at-start .args .f .now) t (at-start .args .v)) k in
+    rw (← at-bit .bit .ensures, not-false (at-bit .bit .result) (at-if1 .if1 .left), ← u) (rw (toZ-ofZ {w = w64} (at-start .fits .x)) at (c .element .ensures))
 
 pub in-pad-spec : {M : Type 1} → statement M
 in-pad-spec =

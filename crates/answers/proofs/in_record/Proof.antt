@@ -19,19 +19,19 @@ enum-known-p c = search needs
 
 mul-element : tie.Need-mul-element
 mul-element c =
-    let a = c .before .before .before .before .before .before .before in
-    let t = rw (c .before .before .p .given .1) at (c .before .before .before .before .place-of .ensures) in
+    let at-p = c .before .before in let at-place-of = at-p .before .before in let at-start = at-place-of .before .before .before in
+    let t = rw (at-p .p .given .1) at (at-place-of .place-of .ensures) in
     let h = place-small _ _ _ _ _ t in
-    let w = within _ (a .args .u .value) h (a .pre .1 .value) in
+    let w = within _ (at-start .args .u .value) h (at-start .pre .1 .value) in
     record { fits = omega (arith, w) }
 
 add-element : tie.Need-add-element
 add-element c =
-    let a = c .before .before .before .before .before .before .before in
-    let t = rw (c .before .before .p .given .1) at (c .before .before .before .before .place-of .ensures) in
+    let at-p = c .before .before in let at-place-of = at-p .before .before in let at-start = at-place-of .before .before .before in
+    let t = rw (at-p .p .given .1) at (at-place-of .place-of .ensures) in
     let h = place-small _ _ _ _ _ t in
-    let w = within _ (a .args .u .value) h (a .pre .1 .value) in
-    record { fits = omega (arith, w, a .pre .2) }
+    let w = within _ (at-start .args .u .value) h (at-start .pre .1 .value) in
+    record { fits = omega (arith, w, at-start .pre .2) }
 
 add-element-2 : tie.Need-add-element-2
 add-element-2 c = search needs
@@ -41,26 +41,28 @@ add-element-3 c = search needs
 
 element-requires : tie.Need-element-requires
 element-requires c κs =
-    let a = c .before .before .before .before .before .before .before in
-    let t = rw (c .before .before .p .given .1) at (c .before .before .before .before .place-of .ensures) in
+    let at-p = c .before .before in let at-place-of = at-p .before .before in let at-start = at-place-of .before .before .before in
+    let t = rw (at-p .p .given .1) at (at-place-of .place-of .ensures) in
     let h = place-small _ _ _ _ _ t in
-    let w = within _ (a .args .u .value) h (a .pre .1 .value) in
-    (search needs, search needs, search needs, search needs, omega (arith, w, a .pre .2))
+    let w = within _ (at-start .args .u .value) h (at-start .pre .1 .value) in
+    (search needs, search needs, search needs, search needs, omega (arith, w, at-start .pre .2))
 
 enum-told : tie.Need-enum-told
 enum-told c = search needs
 
 returns : tie.Need-returns
 returns c =
-    let a = c .before .before .before .before .before .before .before .before in
-    let t = rw (c .before .before .before .p .given .1) at (c .before .before .before .before .before .place-of .ensures) in
-    (rw (toZ-ofZ {w = w64} (a .fits .x)) at (c .element .ensures)) ∙ place-read (a .args .f .now) (a .args .v) (a .args .u) (a .args .at) (a .args .indices .now) (a .args .x) (c .before .before .before .before .before .before .bit .ensures) t
+    let at-p = c .before .before .before in let at-bit = at-p .before .before .before in let at-start = at-bit .before .before in
+    let t = rw (at-p .p .given .1) at (at-p .before .before .place-of .ensures) in
+    (rw (toZ-ofZ {w = w64} (at-start .fits .x)) at (c .element .ensures)) ∙ place-read (at-start .args .f .now) (at-start .args .v) (at-start .args .u)
+    (at-start .args .at) (at-start .args .indices .now) (at-start .args .x) (at-bit .bit .ensures) t
 
 returns-2 : tie.Need-returns-2
 returns-2 c =
-    let a = c .before .before .before .before .before in
+    let at-bit = c .before .before .before in let at-start = at-bit .before .before in
     let t = rw (c .enum-told .given .1) at (c .before .before .place-of .ensures) in
-    place-read (a .args .f .now) (a .args .v) (a .args .u) (a .args .at) (a .args .indices .now) (a .args .x) (c .before .before .before .bit .ensures) t
+    place-read (at-start .args .f .now) (at-start .args .v) (at-start .args .u) (at-start .args .at) (at-start .args .indices .now) (at-start .args .x)
+    (at-bit .bit .ensures) t
 
 pub in-record-spec : {M : Type 1} → statement M
 in-record-spec =

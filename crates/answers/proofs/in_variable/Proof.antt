@@ -16,8 +16,8 @@ enum-known-values c = search needs
 
 in-record-requires : tie.Need-in-record-requires
 in-record-requires c κs =
-    let a = c .before .before .before .before .before .before in
-    (a .pre .0, a .pre .1, rw (c .before .values .given .1) at (c .before .before .before .to-record .ensures .1))
+    let at-to-record = c .before .before .before in let at-start = at-to-record .before .before .before in
+    (at-start .pre .0, at-start .pre .1, rw (c .before .values .given .1) at (at-to-record .to-record .ensures .1))
 
 enum-known-values-2 : tie.Need-enum-known-values-2
 enum-known-values-2 c = search needs
@@ -25,15 +25,15 @@ enum-known-values-2 c = search needs
 returns : tie.Need-returns
 unfolding inVariable
 returns c =
-    let a = c .before .before .before .before .before .before .before in
-    let t = rw (c .before .before .values .given .1) at (rw (toZ-ofZ {w = w64} (a .fits .r)) at (c .before .before .before .before .to-record .ensures .0)) in
-    rw (← t) (rw (toZ-ofZ {w = w64} (a .fits .x)) at (c .in-record .ensures))
+    let at-to-record = c .before .before .before .before in let at-start = at-to-record .before .before .before in
+    let t = rw (c .before .before .values .given .1) at (rw (toZ-ofZ {w = w64} (at-start .fits .r)) at (at-to-record .to-record .ensures .0)) in
+    rw (← t) (rw (toZ-ofZ {w = w64} (at-start .fits .x)) at (c .in-record .ensures))
 
 returns-2 : tie.Need-returns-2
 unfolding inVariable
 returns-2 c =
-    let a = c .before .before .before .before .before .before in
-    let t = rw (c .before .values2 .given .1) at (rw (toZ-ofZ {w = w64} (a .fits .r)) at (c .before .before .before .to-record .ensures .0)) in
+    let at-to-record = c .before .before .before in
+    let t = rw (c .before .values2 .given .1) at (rw (toZ-ofZ {w = w64} (at-to-record .before .before .before .fits .r)) at (at-to-record .to-record .ensures .0)) in
     rw (← t)
 
 pub in-variable-spec : {M : Type 1} → statement M

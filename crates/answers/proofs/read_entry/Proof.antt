@@ -33,9 +33,9 @@ add-element-3 c = search needs
 
 element-requires : tie.Need-element-requires
 element-requires c κs =
-    let a = c .before .before .before .before .before .before in
-    let b = c .before .before .before .before .body in
-    let i = in-entry (a .args .f .now) (b .result .now) (b .ensures) _ _ _ _ _ (sym (c .before .before .before .to-entry .ensures) ∙ c .before .way .given .1) in
+    let at-to-entry = c .before .before .before in
+    let b = at-to-entry .before .body in
+    let i = in-entry (at-to-entry .before .before .before .args .f .now) (b .result .now) (b .ensures) _ _ _ _ _ (sym (at-to-entry .to-entry .ensures) ∙ c .before .way .given .1) in
     (i .short, omega (arith, i .long), omega (arith, i .bytes), omega (arith, i .bytes), omega (arith, i .short, i .bytes))
 
 enum-known-way-2 : tie.Need-enum-known-way-2
@@ -43,16 +43,16 @@ enum-known-way-2 c = search needs
 
 returns : tie.Need-returns
 returns c =
-    let a = c .before .before .before .before .before .before .before in
-    let b = c .before .before .before .before .before .body in
-    let e = rw (toZ-ofZ {w = w64} (a .fits .attribute), toZ-ofZ {w = w64} (a .fits .kind)) at (sym (c .before .before .before .before .to-entry .ensures) ∙ c .before .before .way .given .1) in
-    c .element .ensures ∙ rw (toZ-ofZ {w = w64} (a .fits .x)) (sym (entry-found (a .args .f .now) (b .result .now) (b .ensures) (a .args .attribute) (a .args .kind) (a .args .w) (a .args .x) _ _ e))
+    let at-way = c .before .before in let at-to-entry = at-way .before .before in let at-start = at-to-entry .before .before .before in
+    let b = at-to-entry .before .body in
+    let e = rw (toZ-ofZ {w = w64} (at-start .fits .attribute), toZ-ofZ {w = w64} (at-start .fits .kind)) at (sym (at-to-entry .to-entry .ensures) ∙ at-way .way .given .1) in
+    c .element .ensures ∙ rw (toZ-ofZ {w = w64} (at-start .fits .x)) (sym (entry-found (at-start .args .f .now) (b .result .now) (b .ensures) (at-start .args .attribute) (at-start .args .kind) (at-start .args .w) (at-start .args .x) _ _ e))
 
 returns-2 : tie.Need-returns-2
 returns-2 c =
-    let a = c .before .before .before .before .before .before in
-    let e = rw (toZ-ofZ {w = w64} (a .fits .attribute), toZ-ofZ {w = w64} (a .fits .kind)) at (sym (c .before .before .before .to-entry .ensures) ∙ c .before .way2 .given .1) in
-    sym (entry-stopped (a .args .f .now) (a .args .attribute) (a .args .kind) (a .args .w) (a .args .x) _ e)
+    let at-to-entry = c .before .before .before in let at-start = at-to-entry .before .before .before in
+    let e = rw (toZ-ofZ {w = w64} (at-start .fits .attribute), toZ-ofZ {w = w64} (at-start .fits .kind)) at (sym (at-to-entry .to-entry .ensures) ∙ c .before .way2 .given .1) in
+    sym (entry-stopped (at-start .args .f .now) (at-start .args .attribute) (at-start .args .kind) (at-start .args .w) (at-start .args .x) _ e)
 
 pub read-entry-spec : {M : Type 1} → statement M
 read-entry-spec =

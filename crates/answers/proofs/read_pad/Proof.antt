@@ -37,9 +37,9 @@ returns c =
 
 returns-2 : tie.Need-returns-2
 returns-2 c =
-    let a = c .before .before .before .before .before .before in
-    let e = rw (toZ-ofZ {w = w64} (a .fits .kind), toZ-ofZ {w = w64} (a .fits .number)) at (sym (c .before .before .before .to-variable .ensures) ∙ c .before .way2 .given .1) in
-    sym (pad-stopped (a .args .f .now) (a .args .kind) (a .args .number) (a .args .x) _ e)
+    let at-to-variable = c .before .before .before in let at-start = at-to-variable .before .before .before in
+    let e = rw (toZ-ofZ {w = w64} (at-start .fits .kind), toZ-ofZ {w = w64} (at-start .fits .number)) at (sym (at-to-variable .to-variable .ensures) ∙ c .before .way2 .given .1) in
+    sym (pad-stopped (at-start .args .f .now) (at-start .args .kind) (at-start .args .number) (at-start .args .x) _ e)
 
 pub read-pad-spec : {M : Type 1} → statement M
 read-pad-spec =

@@ -23,15 +23,15 @@ kind-among-requires c κs = search needs
 
 known-at-requires : tie.Need-known-at-requires
 known-at-requires c κs =
-    let a = c .before .before .before .before .before .before .before in
-    let b = c .before .before .before .before .before .body in
-    rw (c .kind-among .ensures .0) (found-right (a .args .f .now) (b .result .now) (b .ensures) _ _ _ _ (sym (c .before .before .before .before .to-variable .ensures) ∙ c .before .before .way .given .1))
+    let at-way = c .before .before in let at-body = at-way .before .before .before in
+    let b = at-body .body in
+    rw (c .kind-among .ensures .0) (found-right (at-body .before .before .args .f .now) (b .result .now) (b .ensures) _ _ _ _ (sym (at-way .before .before .to-variable .ensures) ∙ at-way .way .given .1))
 
 in-variable-requires : tie.Need-in-variable-requires
 in-variable-requires c κs =
-    let a = c .before .before .before .before .before .before .before .before in
-    let b = c .before .before .before .before .before .before .body in
-    let i = in-variable (a .args .f .now) (b .result .now) (b .ensures) _ _ _ _ (sym (c .before .before .before .before .before .to-variable .ensures) ∙ c .before .before .before .way .given .1) in
+    let at-way = c .before .before .before in let at-body = at-way .before .before .before in
+    let b = at-body .body in
+    let i = in-variable (at-body .before .before .args .f .now) (b .result .now) (b .ensures) _ _ _ _ (sym (at-way .before .before .to-variable .ensures) ∙ at-way .way .given .1) in
     (i, subst Fits (sym (c .known-at .ensures)) (variable-fits (b .result .now) _ _ (i .short)))
 
 enum-known-way-2 : tie.Need-enum-known-way-2
@@ -39,17 +39,17 @@ enum-known-way-2 c = search needs
 
 returns : tie.Need-returns
 returns c =
-    let a = c .before .before .before .before .before .before .before .before .before in
-    let b = c .before .before .before .before .before .before .before .body in
-    let e = rw (toZ-ofZ {w = w64} (a .fits .kind), toZ-ofZ {w = w64} (a .fits .number)) at (sym (c .before .before .before .before .before .before .to-variable .ensures) ∙ c .before .before .before .before .way .given .1) in
-    let k = rw (toZ-ofZ {w = w64} (a .fits .kind)) at (c .before .before .kind-among .ensures .0) in
-    c .in-variable .ensures ∙ rw (c .before .known-at .ensures, k, toZ-ofZ {w = w64} (a .fits .r), toZ-ofZ {w = w64} (a .fits .x)) (sym (value-found (a .args .f .now) (b .result .now) (b .ensures) (a .args .kind) (a .args .number) (a .args .r) (a .args .indices .now) (a .args .x) _ _ e))
+    let at-way = c .before .before .before .before in let at-body = at-way .before .before .before in let at-start = at-body .before .before in
+    let b = at-body .body in
+    let e = rw (toZ-ofZ {w = w64} (at-start .fits .kind), toZ-ofZ {w = w64} (at-start .fits .number)) at (sym (at-way .before .before .to-variable .ensures) ∙ at-way .way .given .1) in
+    let k = rw (toZ-ofZ {w = w64} (at-start .fits .kind)) at (c .before .before .kind-among .ensures .0) in
+    c .in-variable .ensures ∙ rw (c .before .known-at .ensures, k, toZ-ofZ {w = w64} (at-start .fits .r), toZ-ofZ {w = w64} (at-start .fits .x)) (sym (value-found (at-start .args .f .now) (b .result .now) (b .ensures) (at-start .args .kind) (at-start .args .number) (at-start .args .r) (at-start .args .indices .now) (at-start .args .x) _ _ e))
 
 returns-2 : tie.Need-returns-2
 returns-2 c =
-    let a = c .before .before .before .before .before .before in
-    let e = rw (toZ-ofZ {w = w64} (a .fits .kind), toZ-ofZ {w = w64} (a .fits .number)) at (sym (c .before .before .before .to-variable .ensures) ∙ c .before .way2 .given .1) in
-    sym (value-stopped (a .args .f .now) (a .args .kind) (a .args .number) (a .args .r) (a .args .indices .now) (a .args .x) _ e)
+    let at-to-variable = c .before .before .before in let at-start = at-to-variable .before .before .before in
+    let e = rw (toZ-ofZ {w = w64} (at-start .fits .kind), toZ-ofZ {w = w64} (at-start .fits .number)) at (sym (at-to-variable .to-variable .ensures) ∙ c .before .way2 .given .1) in
+    sym (value-stopped (at-start .args .f .now) (at-start .args .kind) (at-start .args .number) (at-start .args .r) (at-start .args .indices .now) (at-start .args .x) _ e)
 
 pub read-value-spec : {M : Type 1} → statement M
 read-value-spec =

@@ -36,18 +36,23 @@ add-nat-at c = search needs
 nat-at-requires : tie.Need-nat-at-requires
 unfolding gdrAt
 nat-at-requires c κs =
-    let o = opened-part (c .before .before .before .before .before .args .f .now) (c .before .body .result .now) (c .before .body .ensures) (c .before .before .before .opens .ensures .1 (not-false _ (c .before .before .if1 .left))) in
+    let at-if1 = c .before .before in
+    let o = opened-part (at-if1 .before .before .before .args .f .now) (c .before .body .result .now) (c .before .body .ensures) (at-if1 .before .opens .ensures .1 (not-false _ (at-if1 .if1 .left))) in
     omega (arith, o .gdr, c .link-at .ensures .0)
 
 row-field-requires : tie.Need-row-field-requires
 unfolding gdrAt
 row-field-requires c κs =
-    let o = opened-part (c .before .before .before .before .before .before .args .f .now) (c .before .before .body .result .now) (c .before .before .body .ensures) (c .before .before .before .before .opens .ensures .1 (not-false _ (c .before .before .before .if1 .left))) in
+    let at-body = c .before .before in let at-opens = at-body .before .before in
+    let o = opened-part (at-opens .before .before .args .f .now) (at-body .body .result .now) (at-body .body .ensures) (at-opens .opens .ensures .1 (not-false _ (at-body .before .if1 .left))) in
     omega (arith, o .gdr, c .before .link-at .ensures .0, rw (c .before .link-at .ensures .0) at (c .nat-at .ensures .0))
 
 returns-2 : tie.Need-returns-2
 unfolding dimensionSize gdrAt
-returns-2 c = simp (c .row-field .ensures, c .before .nat-at .ensures .0, c .before .before .link-at .ensures .0, c .before .before .before .body .ensures, not-false (c .before .before .before .before .before .opens .result) (c .before .before .before .before .if1 .left), ← c .before .before .before .before .before .opens .ensures .0) (rw (toZ-ofZ {w = w64} (c .before .before .before .before .before .before .before .fits .d)))
+returns-2 c =
+    let at-body = c .before .before .before in let at-opens = at-body .before .before in
+    simp (c .row-field .ensures, c .before .nat-at .ensures .0, c .before .before .link-at .ensures .0, at-body .body .ensures, not-false (at-opens .opens .result) (at-body .before .if1 .left), ← at-opens .opens .ensures .0)
+    (rw (toZ-ofZ {w = w64} (at-opens .before .before .fits .d)))
 
 pub dimension-size-spec : {M : Type 1} → statement M
 dimension-size-spec =

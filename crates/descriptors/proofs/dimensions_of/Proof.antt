@@ -18,24 +18,25 @@ kind-among-requires c κs = search needs
 
 known-at-requires : tie.Need-known-at-requires
 known-at-requires c κs =
-    let a = c .before .before .before .before .before .before .before in
-    rw (c .kind-among .ensures .0) (found-right (a .args .f .now) (a .args .b .now) (a .pre) _ _ _ _ (sym (c .before .before .before .before .to-variable .ensures) ∙ c .before .before .way .given .1))
+    let at-way = c .before .before in let at-to-variable = at-way .before .before in let at-start = at-to-variable .before .before .before in
+    rw (c .kind-among .ensures .0)
+    (found-right (at-start .args .f .now) (at-start .args .b .now) (at-start .pre) _ _ _ _ (sym (at-to-variable .to-variable .ensures) ∙ at-way .way .given .1))
 
 enum-known-way-2 : tie.Need-enum-known-way-2
 enum-known-way-2 c = search needs
 
 returns : tie.Need-returns
 returns c =
-    let a = c .before .before .before .before .before .before .before .before .before in
-    let e = rw (toZ-ofZ {w = w64} (a .fits .kind), toZ-ofZ {w = w64} (a .fits .number)) at (sym (c .before .before .before .before .before .before .to-variable .ensures) ∙ c .before .before .before .before .way .given .1) in
-    let k = rw (toZ-ofZ {w = w64} (a .fits .kind)) at (c .before .before .kind-among .ensures .0) in
-    rw (rw k at (c .before .known-at .ensures)) (dimensions-are (a .args .f .now) (a .args .b .now) (a .pre) (a .args .kind) (a .args .number) _ _ e, dimensions-lie (a .args .f .now) (a .args .b .now) (a .pre) (a .args .kind) (a .args .number) _ _ e)
+    let at-way = c .before .before .before .before in let at-to-variable = at-way .before .before in let at-start = at-to-variable .before .before .before in
+    let e = rw (toZ-ofZ {w = w64} (at-start .fits .kind), toZ-ofZ {w = w64} (at-start .fits .number)) at (sym (at-to-variable .to-variable .ensures) ∙ at-way .way .given .1) in
+    let k = rw (toZ-ofZ {w = w64} (at-start .fits .kind)) at (c .before .before .kind-among .ensures .0) in
+    rw (rw k at (c .before .known-at .ensures)) (dimensions-are (at-start .args .f .now) (at-start .args .b .now) (at-start .pre) (at-start .args .kind) (at-start .args .number) _ _ e, dimensions-lie (at-start .args .f .now) (at-start .args .b .now) (at-start .pre) (at-start .args .kind) (at-start .args .number) _ _ e)
 
 returns-2 : tie.Need-returns-2
 returns-2 c =
-    let a = c .before .before .before .before .before .before in
-    let e = rw (toZ-ofZ {w = w64} (a .fits .kind), toZ-ofZ {w = w64} (a .fits .number)) at (sym (c .before .before .before .to-variable .ensures) ∙ c .before .way2 .given .1) in
-    (dimensions-unknown (a .args .f .now) (a .args .b .now) (a .pre) (a .args .kind) (a .args .number) _ e, tt)
+    let at-to-variable = c .before .before .before in let at-start = at-to-variable .before .before .before in
+    let e = rw (toZ-ofZ {w = w64} (at-start .fits .kind), toZ-ofZ {w = w64} (at-start .fits .number)) at (sym (at-to-variable .to-variable .ensures) ∙ c .before .way2 .given .1) in
+    (dimensions-unknown (at-start .args .f .now) (at-start .args .b .now) (at-start .pre) (at-start .args .kind) (at-start .args .number) _ e, tt)
 
 pub dimensions-of-spec : {M : Type 1} → statement M
 dimensions-of-spec =

@@ -21,7 +21,9 @@ field-on-requires c κs = rw (c .before .kind-among .ensures .0, c .to-entry .en
 
 returns : tie.Need-returns
 unfolding entryField
-returns c = c .field-on .ensures ∙ rw (c .before .before .before .body .ensures, c .before .before .kind-among .ensures .0, c .before .to-entry .ensures, toZ-ofZ {w = w64} (c .before .before .before .before .before .fits .attribute), toZ-ofZ {w = w64} (c .before .before .before .before .before .fits .kind))
+returns c =
+    let at-body = c .before .before .before in let at-start = at-body .before .before in
+    c .field-on .ensures ∙ rw (at-body .body .ensures, c .before .before .kind-among .ensures .0, c .before .to-entry .ensures, toZ-ofZ {w = w64} (at-start .fits .attribute), toZ-ofZ {w = w64} (at-start .fits .kind))
 
 pub entry-field-spec : {M : Type 1} → statement M
 entry-field-spec =

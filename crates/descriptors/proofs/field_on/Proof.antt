@@ -18,15 +18,15 @@ cast-field c = search needs
 
 add-field : tie.Need-add-field
 add-field c =
-    let a = c .before .before .before .before .before .before in
-    let h = rw (c .before .before .before .way .given .1) at (a .pre) in
-    omega (arith, h, shown-within (a .args .t) (a .args .field) (sym (c .before .shows .ensures) ∙ c .if1 .taken))
+    let at-way = c .before .before .before in let at-start = at-way .before .before .before in
+    let h = rw (at-way .way .given .1) at (at-start .pre) in
+    omega (arith, h, shown-within (at-start .args .t) (at-start .args .field) (sym (c .before .shows .ensures) ∙ c .if1 .taken))
 
 field-requires : tie.Need-field-requires
 field-requires c κs =
-    let a = c .before .before .before .before .before .before in
-    let h = rw (c .before .before .before .way .given .1) at (a .pre) in
-    omega (arith, h, shown-within (a .args .t) (a .args .field) (sym (c .before .shows .ensures) ∙ c .if1 .taken))
+    let at-way = c .before .before .before in let at-start = at-way .before .before .before in
+    let h = rw (at-way .way .given .1) at (at-start .pre) in
+    omega (arith, h, shown-within (at-start .args .t) (at-start .args .field) (sym (c .before .shows .ensures) ∙ c .if1 .taken))
 
 enum-known-way-2 : tie.Need-enum-known-way-2
 enum-known-way-2 c = search needs

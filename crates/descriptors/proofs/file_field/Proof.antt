@@ -25,27 +25,31 @@ body-requires c κs = search needs
 
 sub-t8 : tie.Need-sub-t8
 sub-t8 c =
-    let o = opened-part (c .before .before .before .before .before .args .f .now) (c .before .body .result .now) (c .before .body .ensures) (c .before .before .before .opens .ensures .1 (not-false _ (c .before .before .if1 .left))) in
+    let at-if1 = c .before .before in
+    let o = opened-part (at-if1 .before .before .before .args .f .now) (c .before .body .result .now) (c .before .body .ensures) (at-if1 .before .opens .ensures .1 (not-false _ (at-if1 .if1 .left))) in
     omega (arith, o .part)
 
 cast-t9 : tie.Need-cast-t9
 cast-t9 c =
-    let o = opened-part (c .before .before .before .before .before .args .f .now) (c .before .body .result .now) (c .before .body .ensures) (c .before .before .before .opens .ensures .1 (not-false _ (c .before .before .if1 .left))) in
+    let at-if1 = c .before .before in
+    let o = opened-part (at-if1 .before .before .before .args .f .now) (c .before .body .result .now) (c .before .body .ensures) (at-if1 .before .opens .ensures .1 (not-false _ (at-if1 .if1 .left))) in
     omega (arith, o .part, o .short)
 
 returns-2 : tie.Need-returns-2
 unfolding fileField
 returns-2 c =
-    let f = c .before .before .before .before .before .args .f .now in
-    let b = c .before .body .result .now in
-    let o = opened-part (c .before .before .before .before .before .args .f .now) (c .before .body .result .now) (c .before .body .ensures) (c .before .before .before .opens .ensures .1 (not-false _ (c .before .before .if1 .left))) in
-    let e : length b ≡ fileEnd f = ap length (c .before .body .ensures) ∙ body-length f in
+    let at-body = c .before in let at-if1 = at-body .before in let at-opens = at-if1 .before in let at-start = at-opens .before .before in
+    let f = at-start .args .f .now in
+    let b = at-body .body .result .now in
+    let o = opened-part (at-start .args .f .now) (at-body .body .result .now) (at-body .body .ensures) (at-opens .opens .ensures .1 (not-false _ (at-if1 .if1 .left))) in
+    let e : length b ≡ fileEnd f = ap length (at-body .body .ensures) ∙ body-length f in
     let small : length f - length b < 2147483648 = omega (arith, o .short, o .part) in
-    rw (← c .before .before .before .opens .ensures .0, not-false (c .before .before .before .opens .result) (c .before .before .if1 .left), eq-eqb _ _ (c .if2 .taken), toZ-pos w32 small, e)
+    rw (← at-opens .opens .ensures .0, not-false (at-opens .opens .result) (at-if1 .if1 .left), eq-eqb _ _ (c .if2 .taken), toZ-pos w32 small, e)
 
 file-field-in-requires : tie.Need-file-field-in-requires
 file-field-in-requires c κs =
-    let o = opened-part (c .before .before .before .before .before .args .f .now) (c .before .body .result .now) (c .before .body .ensures) (c .before .before .before .opens .ensures .1 (not-false _ (c .before .before .if1 .left))) in
+    let at-if1 = c .before .before in
+    let o = opened-part (at-if1 .before .before .before .args .f .now) (c .before .body .result .now) (c .before .body .ensures) (at-if1 .before .opens .ensures .1 (not-false _ (at-if1 .if1 .left))) in
     omega (arith, o .gdr)
 
 returns-3 : tie.Need-returns-3

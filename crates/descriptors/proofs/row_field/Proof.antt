@@ -49,10 +49,10 @@ field-requires c κs =
 returns-2 : tie.Need-returns-2
 unfolding rowField
 returns-2 c =
-    let a = c .before .before .before .before .before in
+    let at-if1 = c .before .before in let at-start = at-if1 .before .before .before in
     let s : SFits w32 (c .field .result) = record { sfits = c .field .ok } in
-    let i : indexRight (a .args .d) (a .args .n) ≡ true = rw (toZ-ofZ {w = w64} (a .fits .d)) at (sym (c .before .before .before .index-right .ensures) ∙ not-false (c .before .before .before .index-right .result) (c .before .before .if1 .left)) in
-    let n = rw (toZ-ofZ {w = w64} (a .fits .d)) at (c .before .nat-of .ensures .0) in
+    let i : indexRight (at-start .args .d) (at-start .args .n) ≡ true = rw (toZ-ofZ {w = w64} (at-start .fits .d)) at (sym (at-if1 .before .index-right .ensures) ∙ not-false (at-if1 .before .index-right .result) (at-if1 .if1 .left)) in
+    let n = rw (toZ-ofZ {w = w64} (at-start .fits .d)) at (c .before .nat-of .ensures .0) in
     rw (i, toZ-ofZ {w = w32} s, c .field .ensures, n)
 
 pub row-field-spec : {M : Type 1} → statement M

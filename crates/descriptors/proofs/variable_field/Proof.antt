@@ -21,7 +21,9 @@ field-on-requires c κs = rw (c .before .kind-among .ensures .0, c .to-variable 
 
 returns : tie.Need-returns
 unfolding variableField
-returns c = c .field-on .ensures ∙ rw (c .before .before .before .body .ensures, c .before .before .kind-among .ensures .0, c .before .to-variable .ensures, toZ-ofZ {w = w64} (c .before .before .before .before .before .fits .number), toZ-ofZ {w = w64} (c .before .before .before .before .before .fits .kind))
+returns c =
+    let at-body = c .before .before .before in let at-start = at-body .before .before in
+    c .field-on .ensures ∙ rw (at-body .body .ensures, c .before .before .kind-among .ensures .0, c .before .to-variable .ensures, toZ-ofZ {w = w64} (at-start .fits .number), toZ-ofZ {w = w64} (at-start .fits .kind))
 
 pub variable-field-spec : {M : Type 1} → statement M
 variable-field-spec =

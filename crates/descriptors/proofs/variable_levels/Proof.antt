@@ -19,8 +19,9 @@ enum-known-way c = search needs
 
 to-levels-requires : tie.Need-to-levels-requires
 to-levels-requires c κs =
-    let e = sym (c .before .before .before .to-variable .ensures) ∙ c .before .way .given .1 in
-    omega (arith, found-inside (c .before .before .before .before .before .before .args .f .now) (c .before .before .before .before .body .result .now) (c .before .before .before .before .body .ensures) _ _ _ _ e)
+    let at-way = c .before in let at-body = at-way .before .before .before in
+    let e = sym (at-way .before .before .to-variable .ensures) ∙ at-way .way .given .1 in
+    omega (arith, found-inside (at-body .before .before .args .f .now) (at-body .body .result .now) (at-body .body .ensures) _ _ _ _ e)
 
 levels-field-requires : tie.Need-levels-field-requires
 levels-field-requires c κs = c .to-levels .ensures .1
@@ -31,15 +32,17 @@ enum-known-way-2 c = search needs
 returns : tie.Need-returns
 unfolding variableLevels
 returns c =
-    let a = c .before .before .before .before .before .before .before .before .fits in
-    let e = sym (c .before .before .before .before .before .to-variable .ensures) ∙ c .before .before .before .way .given .1 in
-    rw (c .levels-field .ensures, c .before .to-levels .ensures .0, c .before .before .before .before .before .before .body .ensures, ← toZ-ofZ {w = w64} (a .kind), ← toZ-ofZ {w = w64} (a .number), e, toZ-ofZ {w = w64} (a .r))
+    let at-way = c .before .before .before in let at-body = at-way .before .before .before in
+    let a = at-body .before .before .fits in
+    let e = sym (at-way .before .before .to-variable .ensures) ∙ at-way .way .given .1 in
+    rw (c .levels-field .ensures, c .before .to-levels .ensures .0, at-body .body .ensures, ← toZ-ofZ {w = w64} (a .kind), ← toZ-ofZ {w = w64} (a .number), e, toZ-ofZ {w = w64} (a .r))
 
 returns-2 : tie.Need-returns-2
 unfolding variableLevels
 returns-2 c =
-    let a = c .before .before .before .before .before .before .fits in
-    let e = sym (c .before .before .before .to-variable .ensures) ∙ c .before .way2 .given .1 in
+    let at-to-variable = c .before .before .before in
+    let a = at-to-variable .before .before .before .fits in
+    let e = sym (at-to-variable .to-variable .ensures) ∙ c .before .way2 .given .1 in
     rw (← toZ-ofZ {w = w64} (a .kind), ← toZ-ofZ {w = w64} (a .number), e)
 
 pub variable-levels-spec : {M : Type 1} → statement M

@@ -18,10 +18,15 @@ enum-known-dimensions : tie.Need-enum-known-dimensions
 enum-known-dimensions c = search needs
 
 cast-row-field : tie.Need-cast-row-field
-cast-row-field c = let h = subst (Lie (c .before .before .before .before .before .body .result .now)) (c .before .before .dimensions .given .1) (c .before .before .before .before .dimensions-of .ensures .1) in omega (arith, h .1, h .2)
+cast-row-field c =
+    let at-dimensions-of = c .before .before .before .before in
+    let h = subst (Lie (at-dimensions-of .before .body .result .now)) (c .before .before .dimensions .given .1) (at-dimensions-of .dimensions-of .ensures .1) in
+    omega (arith, h .1, h .2)
 
 row-field-requires : tie.Need-row-field-requires
-row-field-requires c κs = subst (Lie (c .before .before .before .before .before .body .result .now)) (c .before .before .dimensions .given .1) (c .before .before .before .before .dimensions-of .ensures .1) .1
+row-field-requires c κs =
+    let at-dimensions-of = c .before .before .before .before in
+    subst (Lie (at-dimensions-of .before .body .result .now)) (c .before .before .dimensions .given .1) (at-dimensions-of .dimensions-of .ensures .1) .1
 
 enum-known-dimensions-2 : tie.Need-enum-known-dimensions-2
 enum-known-dimensions-2 c = search needs
@@ -29,15 +34,15 @@ enum-known-dimensions-2 c = search needs
 returns : tie.Need-returns
 unfolding variableVariance
 returns c =
-    let a = c .before .before .before .before .before .before .before .before in
-    let e = rw (toZ-ofZ {w = w64} (a .fits .kind), toZ-ofZ {w = w64} (a .fits .number)) at (sym (c .before .before .before .before .before .dimensions-of .ensures .0) ∙ c .before .before .before .dimensions .given .1) in
-    c .row-field .ensures ∙ rw (c .before .before .before .before .before .before .body .ensures, e, toZ-ofZ {w = w64} (a .fits .d))
+    let at-dimensions = c .before .before .before in let at-body = at-dimensions .before .before .before in let at-start = at-body .before .before in
+    let e = rw (toZ-ofZ {w = w64} (at-start .fits .kind), toZ-ofZ {w = w64} (at-start .fits .number)) at (sym (at-dimensions .before .before .dimensions-of .ensures .0) ∙ at-dimensions .dimensions .given .1) in
+    c .row-field .ensures ∙ rw (at-body .body .ensures, e, toZ-ofZ {w = w64} (at-start .fits .d))
 
 returns-2 : tie.Need-returns-2
 unfolding variableVariance
 returns-2 c =
-    let a = c .before .before .before .before .before .before in
-    let e = rw (toZ-ofZ {w = w64} (a .fits .kind), toZ-ofZ {w = w64} (a .fits .number)) at (sym (c .before .before .before .dimensions-of .ensures .0) ∙ c .before .dimensions2 .given .1) in
+    let at-match = c .before .before in let at-start = at-match .before .before .before .before in
+    let e = rw (toZ-ofZ {w = w64} (at-start .fits .kind), toZ-ofZ {w = w64} (at-start .fits .number)) at (sym (at-match .before .dimensions-of .ensures .0) ∙ c .before .dimensions2 .given .1) in
     rw e
 
 pub variable-variance-spec : {M : Type 1} → statement M

@@ -14,8 +14,10 @@ show-name-requires c κs = search needs
 
 returns : tie.Need-returns
 returns c =
+    let at-attribute-name = c .before .before .before in
     let s : SFits w32 (c .show-name .result) = record { sfits = c .show-name .ok } in
-    rw (toZ-ofZ {w = w32} s) (c .show-name .ensures ∙ rw (c .before .before .before .attribute-name .ensures, toZ-ofZ {w = w64} (c .before .before .before .before .before .fits .number)))
+    rw (toZ-ofZ {w = w32} s)
+    (c .show-name .ensures ∙ rw (at-attribute-name .attribute-name .ensures, toZ-ofZ {w = w64} (at-attribute-name .before .before .fits .number)))
 
 pub tlz-read-attribute-name-spec : {M : Type 1} → statement M
 tlz-read-attribute-name-spec =

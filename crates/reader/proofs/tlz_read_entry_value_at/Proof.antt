@@ -14,8 +14,9 @@ show-value-requires c κs = search needs
 
 returns : tie.Need-returns
 returns c =
+    let at-read-entry = c .before .before .before .before in let at-start = at-read-entry .before .before in
     let s : SFits w32 (c .show-value .result) = record { sfits = c .show-value .ok } in
-    rw (toZ-ofZ {w = w32} s) (c .show-value .ensures ∙ rw (c .before .before .before .before .read-entry .ensures, toZ-ofZ {w = w64} (c .before .before .before .before .before .before .fits .attribute), toZ-ofZ {w = w64} (c .before .before .before .before .before .before .fits .kind), toZ-ofZ {w = w64} (c .before .before .before .before .before .before .fits .element)))
+    rw (toZ-ofZ {w = w32} s) (c .show-value .ensures ∙ rw (at-read-entry .read-entry .ensures, toZ-ofZ {w = w64} (at-start .fits .attribute), toZ-ofZ {w = w64} (at-start .fits .kind), toZ-ofZ {w = w64} (at-start .fits .element)))
 
 pub tlz-read-entry-value-at-spec : {M : Type 1} → statement M
 tlz-read-entry-value-at-spec = tie.close (tie.spec read-entry-requires show-value-requires returns)

@@ -14,9 +14,9 @@ show-value-requires c κs = search needs
 
 returns : tie.Need-returns
 returns c =
-    let a = c .before .before .before .before .before .before in
+    let at-read-value = c .before .before .before .before in let at-start = at-read-value .before .before in
     let s : SFits w32 (c .show-value .result) = record { sfits = c .show-value .ok } in
-    rw (toZ-ofZ {w = w32} s) (c .show-value .ensures ∙ rw (c .before .before .before .before .read-value .ensures, toZ-ofZ {w = w64} (a .fits .kind), toZ-ofZ {w = w64} (a .fits .number), toZ-ofZ {w = w64} (a .fits .rec), toZ-ofZ {w = w64} (a .fits .element)))
+    rw (toZ-ofZ {w = w32} s) (c .show-value .ensures ∙ rw (at-read-value .read-value .ensures, toZ-ofZ {w = w64} (at-start .fits .kind), toZ-ofZ {w = w64} (at-start .fits .number), toZ-ofZ {w = w64} (at-start .fits .rec), toZ-ofZ {w = w64} (at-start .fits .element)))
 
 pub tlz-read-value-spec : {M : Type 1} → statement M
 tlz-read-value-spec = tie.close (tie.spec read-value-requires show-value-requires returns)

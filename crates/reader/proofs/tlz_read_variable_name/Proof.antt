@@ -14,8 +14,9 @@ show-name-requires c κs = search needs
 
 returns : tie.Need-returns
 returns c =
+    let at-variable-name = c .before .before .before in let at-start = at-variable-name .before .before in
     let s : SFits w32 (c .show-name .result) = record { sfits = c .show-name .ok } in
-    rw (toZ-ofZ {w = w32} s) (c .show-name .ensures ∙ rw (c .before .before .before .variable-name .ensures, toZ-ofZ {w = w64} (c .before .before .before .before .before .fits .kind), toZ-ofZ {w = w64} (c .before .before .before .before .before .fits .number)))
+    rw (toZ-ofZ {w = w32} s) (c .show-name .ensures ∙ rw (at-variable-name .variable-name .ensures, toZ-ofZ {w = w64} (at-start .fits .kind), toZ-ofZ {w = w64} (at-start .fits .number)))
 
 pub tlz-read-variable-name-spec : {M : Type 1} → statement M
 tlz-read-variable-name-spec =
