@@ -15,7 +15,6 @@ use Rattle.format.proofs.Tests.{both}
 use Rattle.records.proofs.Opens.{opening-passes}
 use Rattle.records.proofs.Bodies.{body-le}
 use Rattle.marks.specs.Marks.{marked}
-use Rattle.walk.specs.Ranges.{rangesOf}
 use Rattle.walk.specs.Bounds.{Within}
 use Rattle.walk.specs.Levels.{noLevels, roomBelow}
 use Rattle.walk.specs.Walk.{walkStep}
@@ -24,7 +23,7 @@ use Rattle.walk.specs.declared.positions.Walk as W
 use Rattle.walk.specs.declared.positions.Walk.the-variants.{Start}
 use Rattle.walk.specs.declared.positions.Step as T
 use Rattle.walk.specs.declared.positions.Step.the-variants.{Over, End, Take, Down, Up}
-use Rattle.walk.proofs.Closed.{all-in, in-all, NextWithin, step-within}
+use Rattle.walk.proofs.Closed.{start-within, within-in, in-within, NextWithin, step-within}
 use Rattle.states.specs.declared.state.Stage.{Stage}
 use Rattle.states.specs.declared.state.Stage.the-variants.{Fresh, Sweep, Walking, Done, OutOfRange}
 use Rattle.states.specs.declared.state.State.{State}
@@ -99,7 +98,7 @@ module _ (Odd : ℕ → List ℕ → Type 0) (f : List ℕ) where
 
       swept : (m : List ℕ) (o : ℕ) → Noted f n m → 8 ≤ o → o ≤ 2147483647 → (b : Bool)
           → SoundBy Odd f n m (cond b (Walking Start noLevels) (Sweep o))
-      swept m o a b d true = (a, record { all = tt }, top-above)
+      swept m o a b d true = (a, start-within, top-above)
       swept m o a b d false = (a, b, d)
 
       goes : (s : Stage) → SoundBy Odd f n m s → Goes (Sound Odd f) f m n s
@@ -120,7 +119,7 @@ module _ (Odd : ℕ → List ℕ → Type 0) (f : List ℕ) where
           let room = roomBelow up in
           let there = g .2 .there in
           step up (walkStep b up w) (g .0) there
-          (step-within b near room w (levels-small up there .0) (g .1) .next-within) (step-placed b near room w (g .2 .placed) .next-placed)
+          (step-within b near room w (levels-small up there .0) (g .1) .next-within) (step-placed b near room w (g .2 .placed) .next-keeps)
       goes (Done v p) g = tt
       goes OutOfRange g = tt
 
@@ -134,7 +133,7 @@ module _ (Odd : ℕ → List ℕ → Type 0) (f : List ℕ) where
   sound-stage : (n : ℕ) (m : List ℕ) (s : Stage) → SoundBy Odd f n m s → Loaded n s
   sound-stage n m Fresh h = rw h
   sound-stage n m (Sweep o) h = rw (in-length n m (h .0), le-leb 8 o (h .1), le-leb o 2147483647 (h .2))
-  sound-stage n m (Walking w up) h = rw (in-length n m (h .0), all-in (rangesOf w) (h .1 .all)) (above-range up w (h .2))
+  sound-stage n m (Walking w up) h = rw (in-length n m (h .0), within-in w (h .1)) (above-range up w (h .2))
   sound-stage n m (Done v p) h = h
   sound-stage n m OutOfRange h = tt
 
@@ -172,7 +171,7 @@ module _ (f : List ℕ) where
   loaded-by n m (Walking w up) h e =
       let p = both (lengthRange n && walkRange w) (levelsRange up w) h in
       let q = both (lengthRange n) (walkRange w) (p .0) in
-      (noted-lent n m (q .0) e, record { all = in-all (rangesOf w) (q .1) }, range-above up w (p .1))
+      (noted-lent n m (q .0) e, in-within w (q .1), range-above up w (p .1))
   loaded-by n m (Done v p) h e = h
   loaded-by n m OutOfRange h e = e
 

@@ -33,18 +33,25 @@ use Rattle.demands.proofs.Bound.{Pays, Paid, weightOf}
 use Rattle.records.proofs.Fielded.{adr-law, aedr-law, vxr-law, uir-law, adr-size, aedr-size, vxr-size}
 use Rattle.variables.proofs.Rule.{vdr-reads}
 
--- of two lists one after the other: 3 for the list of kind z, which comes last, and else 4
+-- of two lists one after the other, the links that are left besides one: 2 for the list of kind z, which comes last, and else 3
+abbrev besides : ℕ → ℕ → ℕ
+besides z k = cond (eqb k z) 2 3
+
 abbrev ofTwo : ℕ → ℕ → ℕ
-ofTwo z k = cond (eqb k z) 3 4
+ofTwo z k = suc (besides z k)
+
+-- the links that are still to come from the record on the way to a position and those before it, besides the next
+abbrev left : List ℕ → W.Walk → ℕ
+left f Start = 0
+left f (Vars k p n g) = besides 8 k
+left f (Chain u p x l c) = ofTwo 8 (u .kind)
+left f (AtEntry u x i l c) = usedAt f x - suc i + suc (ofTwo 8 (u .kind))
+left f (Attrs p n) = 1
+left f (Entries k a n p e g) = besides 9 k
+left f (Unused p b) = 0
 
 abbrev own : List ℕ → W.Walk → ℕ
-own f Start = 1
-own f (Vars k p n g) = ofTwo 8 k
-own f (Chain u p x l c) = suc (ofTwo 8 (u .kind))
-own f (AtEntry u x i l c) = suc (usedAt f x - suc i) + suc (ofTwo 8 (u .kind))
-own f (Attrs p n) = 2
-own f (Entries k a n p e g) = ofTwo 9 k
-own f (Unused p b) = 1
+own f w = suc (left f w)
 
 -- what a record above still owes: its entries that are left, and its next
 abbrev owedBy : List ℕ → Level → ℕ
@@ -59,13 +66,6 @@ cost f p = own f (p .walk) + owed f (p .up)
 pub start-cost : (f : List ℕ) → cost f (top Start) ≡ 1
 unfolding isNone
 start-cost f = refl
-
-of-two : (z k : ℕ) → (3 ≤ ofTwo z k) × (ofTwo z k ≤ 4)
-of-two z k = go (eqb k z)
-  where
-    go : (b : Bool) → (3 ≤ cond b 3 4) × (cond b 3 4 ≤ 4)
-    go true = (omega arith, omega arith)
-    go false = (omega arith, omega arith)
 
 pub head-least : (k : ℕ) → 128 ≤ headOf k
 head-least k = go (eqb k 8)
@@ -103,15 +103,6 @@ module _ (f : List ℕ) where
   unfolding unusedNumber
   uir-heavy b o e = omega (arith, uir-law f o .0 (zeros (uirRule f o ∷ unless 11 (isAt f (o + 12) (pos b)) ∷ []) e 0) .reach .holds)
 
-  some-own : (w : W.Walk) → 1 ≤ own f w
-  some-own Start = omega arith
-  some-own (Vars k p n g) = omega (arith, of-two 8 k)
-  some-own (Chain u p x l c) = omega arith
-  some-own (AtEntry u x i l c) = omega arith
-  some-own (Attrs p n) = omega arith
-  some-own (Entries k a n p e g) = omega (arith, of-two 9 k)
-  some-own (Unused p b) = omega arith
-
   entered-cost : (u : Var) (x i l : ℕ) (c : Bool) → own f (entered f u x i l c) ≤ usedAt f x - i + suc (ofTwo 8 (u .kind))
   entered-cost u x i l c = go (ltb i (usedAt f x)) refl
     where
@@ -138,14 +129,14 @@ module _ (f : List ℕ) where
   after-vars : (k : ℕ) → own f (afterVars f k) < ofTwo 8 k
   after-vars k = go (eqb k 8)
     where
-      go : (b : Bool) → own f (cond b (Attrs (gdrAt f + 16) 0) (Vars 8 (gdrAt f + 12) 0 0)) < cond b 3 4
+      go : (b : Bool) → own f (cond b (Attrs (gdrAt f + 16) 0) (Vars 8 (gdrAt f + 12) 0 0)) < suc (cond b 2 3)
       go true = omega arith
       go false = omega arith
 
   after-entries : (k a n : ℕ) → own f (afterEntries k a n) < ofTwo 9 k
   after-entries k a n = go (eqb k 9)
     where
-      go : (b : Bool) → own f (cond b (Attrs (a + 8) (n + 1)) (Entries 9 a n (a + 36) 0 0)) < cond b 3 4
+      go : (b : Bool) → own f (cond b (Attrs (a + 8) (n + 1)) (Entries 9 a n (a + 36) 0 0)) < suc (cond b 2 3)
       go true = omega arith
       go false = omega arith
 
@@ -186,7 +177,7 @@ module _ (f : List ℕ) where
     -- an entry that names values, or an index record: that record pays for its entries and its next, the rest stays owed above
     module _ (u : Var) (x i : ℕ) (c : Bool) (e : Entry) where
       abbrev here : ℕ
-      here = suc (usedAt f x - suc i) + suc (ofTwo 8 (u .kind))
+      here = suc (usedAt f x - suc i + suc (ofTwo 8 (u .kind)))
 
       pay-values : Pay here (valuesStep f u x i c e)
       pay-values =
@@ -235,4 +226,4 @@ module _ (f : List ℕ) where
     pays up (Unused p b) = pay-list up 1 p (unusedList f b) tt (λ o z. omega (arith, uir-heavy b o z))
 
     pub paid : Paid f (cost f)
-    paid = record { some-cost = λ p. omega (arith, some-own (p .walk)); pays = λ p. pays (p .up) (p .walk) }
+    paid = record { some-cost = λ p. omega arith; pays = λ p. pays (p .up) (p .walk) }

@@ -104,13 +104,7 @@ module _ (n : ℕ) where
   length-stage : (g : Stage) → length (saveStage n g) ≡ 12
   length-stage Fresh = refl
   length-stage (Sweep o) = refl
-  length-stage (Walking Start up) = refl
-  length-stage (Walking (Vars k p i g) up) = refl
-  length-stage (Walking (Chain u p x floor c) up) = refl
-  length-stage (Walking (Entry u x i floor c) up) = refl
-  length-stage (Walking (Attrs p i) up) = refl
-  length-stage (Walking (Entries k a i p e g) up) = refl
-  length-stage (Walking (Unused p b) up) = refl
+  length-stage (Walking w up) = refl
   length-stage (Done v p) = refl
   length-stage OutOfRange = refl
 

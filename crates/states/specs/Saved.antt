@@ -5,7 +5,7 @@ use mathlib.Core.List.{List, [], _∷_, _++_}
 use lib.ListN.{length, getD}
 use lib.Dec.{leb, eqb}
 use mathlib.Core.Option.{Option, none, some}
-use Rattle.walk.specs.Ranges.{inRange, offset, rangesOf, levelRanges, allIn}
+use Rattle.walk.specs.Ranges.{offset, Row, rowOf, rangesOf, levelRanges, numberOf, inRange, allIn}
 use Rattle.walk.specs.Levels.{noLevels, indexed}
 use Rattle.walk.specs.declared.positions.Level.{Level}
 use Rattle.walk.specs.declared.positions.Levels.{Levels}
@@ -26,20 +26,16 @@ abbrev pub bit : Bool → ℕ
 bit b = cond b 1 0
 
 -- 10.2: verdict + 1 or 0, length, phase, then "kind, link, count, greatest, owner, before, entry, floor, covered"
-abbrev pub saveWalk : ℕ → W.Walk → List ℕ
-saveWalk l Start = 0 ∷ l ∷ 2 ∷ 0 ∷ 0 ∷ 0 ∷ 0 ∷ 0 ∷ 0 ∷ 0 ∷ 0 ∷ 0 ∷ []
-saveWalk l (Vars k p n g) = 0 ∷ l ∷ 3 ∷ k ∷ p ∷ n ∷ g ∷ 0 ∷ 0 ∷ 0 ∷ 0 ∷ 0 ∷ []
-saveWalk l (Chain u p x floor c) = 0 ∷ l ∷ 4 ∷ u .kind ∷ p ∷ u .place ∷ u .greatest ∷ u .vdr ∷ x ∷ 0 ∷ floor ∷ bit c ∷ []
-saveWalk l (Entry u x i floor c) = 0 ∷ l ∷ 5 ∷ u .kind ∷ 0 ∷ u .place ∷ u .greatest ∷ u .vdr ∷ x ∷ i ∷ floor ∷ bit c ∷ []
-saveWalk l (Attrs p n) = 0 ∷ l ∷ 6 ∷ 0 ∷ p ∷ n ∷ 0 ∷ 0 ∷ 0 ∷ 0 ∷ 0 ∷ 0 ∷ []
-saveWalk l (Entries k a n p e g) = 0 ∷ l ∷ 7 ∷ k ∷ p ∷ n ∷ 0 ∷ a ∷ 0 ∷ e ∷ g ∷ 0 ∷ []
-saveWalk l (Unused p b) = 0 ∷ l ∷ 8 ∷ 0 ∷ p ∷ 0 ∷ 0 ∷ 0 ∷ b ∷ 0 ∷ 0 ∷ 0 ∷ []
+abbrev pub saveRow : ℕ → Row → List ℕ
+saveRow l r =
+    0 ∷ l ∷ r .phase ∷ numberOf (r .kind) ∷ numberOf (r .link) ∷ numberOf (r .count) ∷ numberOf (r .greatest) ∷ numberOf (r .owner)
+    ∷ numberOf (r .before) ∷ numberOf (r .entry) ∷ numberOf (r .floor) ∷ bit (r .covered) ∷ []
 
 -- the first twelve numbers
 abbrev pub saveStage : ℕ → Stage → List ℕ
 saveStage l Fresh = 0 ∷ l ∷ 0 ∷ 0 ∷ 0 ∷ 0 ∷ 0 ∷ 0 ∷ 0 ∷ 0 ∷ 0 ∷ 0 ∷ []
 saveStage l (Sweep o) = 0 ∷ l ∷ 1 ∷ 0 ∷ o ∷ 0 ∷ 0 ∷ 0 ∷ 0 ∷ 0 ∷ 0 ∷ 0 ∷ []
-saveStage l (Walking w up) = saveWalk l w
+saveStage l (Walking w up) = saveRow l (rowOf w)
 saveStage l (Done v p) = suc v ∷ l ∷ 0 ∷ 0 ∷ 0 ∷ 0 ∷ 0 ∷ 0 ∷ 0 ∷ 0 ∷ 0 ∷ 0 ∷ []
 saveStage l OutOfRange = 0 ∷ l ∷ 9 ∷ 0 ∷ 0 ∷ 0 ∷ 0 ∷ 0 ∷ 0 ∷ 0 ∷ 0 ∷ 0 ∷ []
 
@@ -72,7 +68,7 @@ abbrev pub lengthRange : ℕ → Bool
 lengthRange n = leb 372 n && leb n 2147483647
 
 abbrev pub walkRange : W.Walk → Bool
-walkRange w = allIn (rangesOf w)
+walkRange w = allIn (rangesOf (rowOf w))
 
 -- a level that is there; one that is not
 abbrev pub levelThere : Level → Bool
@@ -103,7 +99,7 @@ levelsRange up w = levelsBelong up (indexed w)
 
 abbrev pub stageRange : ℕ → Stage → Bool
 stageRange l Fresh = eqb l 0
-stageRange l (Sweep o) = lengthRange l && leb 8 o && inRange (offset o)
+stageRange l (Sweep o) = inRange (lengthRange l && leb 8 o) (offset o)
 stageRange l (Walking w up) = lengthRange l && walkRange w && levelsRange up w
 stageRange l (Done v p) = false
 stageRange l OutOfRange = false

@@ -5,8 +5,8 @@ ghost use Prim.Native.Nat.{_+_, _≤_};
 ghost use lib.ListN.{length, take};
 ghost use Rattle.states.specs.Bounds.{VerdictFits};
 ghost use Rattle.states.specs.Stages.{done, answerOf, locationIn};
-ghost use Rattle.walk.specs.Ranges.{varRanges, allIn};
-ghost use Rattle.states.specs.Saved.{stateLength, bit, saveWalk, saveStage, levelsIn, saveLevels, save, walkRange, levelThere, noneThere, levelList, noneOf, levelsStand, levelsRange, stageRange, varBy, levelBy, levelsBy, walkingBy, laterBy, listBy, stageBy, sameNumbers, checked, load};
+ghost use Rattle.walk.specs.Ranges.{rowOf};
+ghost use Rattle.states.specs.Saved.{stateLength, bit, saveRow, saveStage, levelsIn, saveLevels, save, walkRange, levelThere, noneThere, levelList, noneOf, levelsStand, levelsRange, stageRange, varBy, levelBy, levelsBy, walkingBy, laterBy, listBy, stageBy, sameNumbers, checked, load};
 use crate::state;
 use crate::state::Stage;
 use crate::state::State;
@@ -36,7 +36,7 @@ fn bit_of(b: bool) -> u32
 
 // The numbers of a position of the walk.
 fn walk_numbers(l: u32, w: Walk) -> [u32; 12]
-    ensures { λ r. ⌜ r ≡ saveWalk l w ⌝ }
+    ensures { λ r. ⌜ r ≡ saveRow l (rowOf w) ⌝ }
 {
     match w {
         Walk::Start => [0, l, 2, 0, 0, 0, 0, 0, 0, 0, 0, 0],
@@ -162,16 +162,6 @@ pub fn answer(g: Stage) -> i32
     }
 }
 
-// The numbers of a variable are in their ranges.
-fn var_range(u: Var) -> bool
-    ensures { λ r. ⌜ r ≡ allIn (varRanges u) ⌝ }
-{
-    ((u.kind == 3) | (u.kind == 8))
-        & (u.vdr <= 2147483647)
-        & (u.place <= 2147483647)
-        & (u.greatest <= 2147483648)
-}
-
 // The numbers of a position of the walk are in their ranges.
 fn walk_range(w: Walk) -> bool
     ensures { λ r. ⌜ r ≡ walkRange w ⌝ }
@@ -196,7 +186,13 @@ fn walk_range(w: Walk) -> bool
             floor,
             covered: _,
         } => {
-            var_range(var) & (link <= 2147483711) & (before <= 2147483647) & (floor <= 2147483648)
+            ((var.kind == 3) | (var.kind == 8))
+                & (link <= 2147483711)
+                & (var.place <= 2147483647)
+                & (var.greatest <= 2147483648)
+                & (var.vdr <= 2147483647)
+                & (before <= 2147483647)
+                & (floor <= 2147483648)
         }
         Walk::Entry {
             var,
@@ -205,7 +201,13 @@ fn walk_range(w: Walk) -> bool
             floor,
             covered: _,
         } => {
-            var_range(var) & (vxr <= 2147483647) & (entry <= 2147483647) & (floor <= 2147483648)
+            ((var.kind == 3) | (var.kind == 8))
+                & (var.place <= 2147483647)
+                & (var.greatest <= 2147483648)
+                & (var.vdr <= 2147483647)
+                & (vxr <= 2147483647)
+                & (entry <= 2147483647)
+                & (floor <= 2147483648)
         }
         Walk::Attrs { link, count } => (link <= 2147483711) & (count <= 2147483648),
         Walk::Entries {
@@ -217,9 +219,9 @@ fn walk_range(w: Walk) -> bool
             greatest,
         } => {
             ((kind == 5) | (kind == 9))
-                & (adr <= 2147483647)
-                & (place <= 2147483647)
                 & (link <= 2147483711)
+                & (place <= 2147483647)
+                & (adr <= 2147483647)
                 & (count <= 2147483648)
                 & (greatest <= 2147483648)
         }

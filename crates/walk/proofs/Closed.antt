@@ -3,12 +3,12 @@ use mathlib.Core.Path.{_≡_, refl}
 use mathlib.Core.Logic.{_⊎_, inl, inr}
 use mathlib.Core.Bool.{Bool, true, false, cond, or-true, _&&_, _||_}
 use mathlib.Core.List.{List, [], _∷_}
-use Prim.Native.Nat.{ℕ, _+_, _≤_}
+use Prim.Native.Nat.{ℕ, _+_, _≤_, max}
 use native.Mathlib.Omega.{arith}
-use lib.Dec.{ltb, eqb}
+use lib.Dec.{ltb, leb, eqb}
 use borrow.Author.Tests.{ltb-true, leb-true, le-leb, eqb-true, eq-eqb}
 use lib.IntN.{pos}
-use Rattle.format.specs.Fields.{endOf, isAt}
+use Rattle.format.specs.Fields.{endOf, isAt, afterAt}
 use Rattle.records.specs.Opening.{gdrAt}
 use Rattle.records.specs.Index.{usedAt, entryOf, indexAt}
 use Rattle.records.specs.Attributes.{adrRule}
@@ -19,8 +19,8 @@ use Rattle.format.specs.Numbers.{unless}
 use Rattle.format.proofs.Tests.{both, either, cond-keeps}
 use Rattle.format.proofs.Numbers.{unless-zero, zeros}
 use Rattle.format.proofs.FieldRanges.{nat-small, after-small, num-small}
-use Rattle.walk.specs.Walk.{typeNumber, valuesNumber, gdrNamed, fieldNumber, overBy, takes, varsTally, afterVars, varNumber, varsList, entered, lowerOver, lowerNext, chainList, covers, lowerNumber, lowerStep, attrNumber, attrsList, afterEntries, oneMore, entriesList, unusedList, Listing, listStep, walkStepBy}
-use Rattle.walk.specs.Ranges.{Range, upTo, oneOf, varRanges, inRange, allAfter, allIn}
+use Rattle.walk.specs.Walk.{typeNumber, valuesNumber, gdrNamed, fieldNumber, overBy, takes, varsTally, afterVars, varNumber, intoIndex, varsList, entered, lowerOver, lowerNext, chainList, covers, lowerNumber, lowerStep, attrNumber, attrsList, afterEntries, oneMore, entriesList, unusedList, Listing, listStep, walkStepBy}
+use Rattle.walk.specs.Ranges.{Range, upTo, oneOf, absent, varKind, rowOf, rangesOf, inRange, allAfter, allIn}
 use Rattle.walk.specs.Bounds.{InRange, AllIn, SmallLevel, Within}
 use Rattle.walk.specs.declared.positions.Var.{Var}
 use Rattle.walk.specs.declared.positions.Level.{Level}
@@ -32,37 +32,76 @@ use Rattle.walk.proofs.Small.{gdr-small, EntrySmall, entry-small}
 use Rattle.walk.proofs.Leads.{record-small, link-keeps, list-keeps}
 
 -- ---- ranges
+-- the numbers of a position in the order of its row
+within : (w : W.Walk)
+    → InRange (rowOf w .kind)
+    → InRange (rowOf w .link)
+    → InRange (rowOf w .count)
+    → InRange (rowOf w .greatest)
+    → InRange (rowOf w .owner)
+    → InRange (rowOf w .before)
+    → InRange (rowOf w .entry)
+    → InRange (rowOf w .floor)
+    → Within w
+within w kind link count greatest owner before entry floor = record {
+  kind = kind;
+  link = link;
+  count = count;
+  greatest = greatest;
+  owner = owner;
+  before = before;
+  entry = entry;
+  floor = floor;
+}
+
+pub start-within : Within Start
+start-within = within Start tt tt tt tt tt tt tt tt
+
+in-one : (r : Range) → InRange r → inRange true r ≡ true
+in-one (upTo n m) h = le-leb n m h
+in-one (oneOf n a b) (inl e) = rw (eq-eqb n a e)
+in-one (oneOf n a b) (inr e) = rw (eq-eqb n b e) (or-true (eqb n a))
+in-one absent h = refl
+
+one-in : (b : Bool) (r : Range) → inRange b r ≡ true → (b ≡ true) × InRange r
+one-in b (upTo n m) e = let p = both b (leb n m) e in (p .0, leb-true n m (p .1))
+one-in b (oneOf n x y) e = let p = both b (eqb n x || eqb n y) e in (p .0, go (either (eqb n x) (eqb n y) (p .1)))
+  where
+    go : ((eqb n x ≡ true) ⊎ (eqb n y ≡ true)) → (n ≡ x) ⊎ (n ≡ y)
+    go (inl h) = inl (eqb-true n x h)
+    go (inr h) = inr (eqb-true n y h)
+one-in b absent e = (e, tt)
+
 pub all-in : (rs : List Range) → AllIn rs → allIn rs ≡ true
 all-in [] h = refl
-all-in (r ∷ rs) h = after (inRange r) (in-range r (h .0)) rs (h .1)
-  where
-    in-range : (r : Range) → InRange r → inRange r ≡ true
-    in-range (upTo n m) h = le-leb n m h
-    in-range (oneOf n a b) (inl e) = rw (eq-eqb n a e)
-    in-range (oneOf n a b) (inr e) = rw (eq-eqb n b e) (or-true (eqb n a))
-
-    after : (b : Bool) → b ≡ true → (rs : List Range) → AllIn rs → allAfter b rs ≡ true
-    after b e [] h = e
-    after b e (r ∷ rs) h = after (b && inRange r) (rw (e, in-range r (h .0))) rs (h .1)
+all-in (r ∷ rs) h = rw (in-one r (h .0)) (all-in rs (h .1))
 
 pub in-all : (rs : List Range) → allIn rs ≡ true → AllIn rs
-in-all [] e = tt
-in-all (r ∷ rs) e = let p = after (inRange r) rs e in (range-in r (p .0), p .1)
+in-all rs e = after true rs e .1
   where
-    range-in : (r : Range) → inRange r ≡ true → InRange r
-    range-in (upTo n m) e = leb-true n m e
-    range-in (oneOf n a b) e = go (either (eqb n a) (eqb n b) e)
-      where
-        go : ((eqb n a ≡ true) ⊎ (eqb n b ≡ true)) → (n ≡ a) ⊎ (n ≡ b)
-        go (inl h) = inl (eqb-true n a h)
-        go (inr h) = inr (eqb-true n b h)
-
     after : (b : Bool) (rs : List Range) → allAfter b rs ≡ true → (b ≡ true) × AllIn rs
     after b [] e = (e, tt)
     after b (r ∷ rs) e =
-        let p = after (b && inRange r) rs e in
-        let q = both b (inRange r) (p .0) in
-        (q .0, (range-in r (q .1), p .1))
+        let p = after (inRange b r) rs e in
+        let q = one-in b r (p .0) in
+        (q .0, (q .1, p .1))
+
+pub within-in : (w : W.Walk) → Within w → allIn (rangesOf (rowOf w)) ≡ true
+within-in w h =
+    all-in (rangesOf (rowOf w)) (h .kind, (h .link, (h .count, (h .greatest, (h .owner, (h .before, (h .entry, (h .floor, tt))))))))
+
+pub in-within : (w : W.Walk) → allIn (rangesOf (rowOf w)) ≡ true → Within w
+in-within w e =
+    let a = in-all (rangesOf (rowOf w)) e in
+    let b = a .1 .1 .1 .1 in
+    within w (a .0) (a .1 .0) (a .1 .1 .0) (a .1 .1 .1 .0) (b .0) (b .1 .0) (b .1 .1 .0) (b .1 .1 .1 .0)
+
+-- those of the variable whose index is walked
+record VarWithin (u : Var) : Type 0 where
+  kind : InRange (varKind (u .kind))
+  vdr : u .vdr ≤ 2147483647
+  place : u .place ≤ 2147483647
+  greatest : u .greatest ≤ 2147483648
 
 -- ---- a step
 abbrev pub NextWithin : T.Step → Type 0
@@ -87,30 +126,30 @@ module _ (f : List ℕ) where
     where
       go : (a b : Bool) → eqb late 0 ≡ b → Within (cond (a && b) w Start)
       go true true e = h (eqb-true late 0 e)
-      go true false e = record { all = tt }
-      go false b e = record { all = tt }
+      go true false e = start-within
+      go false b e = start-within
 
   after-vars : (t : ℕ) → Within (afterVars f t)
   after-vars t =
       cond-keeps Within (eqb t 8)
-      (record { all = (omega (arith, gdr-small f), (omega arith, tt)) })
-      (record { all = (inr refl, (omega (arith, gdr-small f), (omega arith, (omega arith, tt)))) })
+      (within (Attrs (gdrAt f + 16) 0) tt (omega (arith, gdr-small f)) (omega arith) tt tt tt tt tt)
+      (within (Vars 8 (gdrAt f + 12) 0 0) (inr refl) (omega (arith, gdr-small f)) (omega arith) (omega arith) tt tt tt tt)
 
-  entered-within : (u : Var) (x i floor : ℕ) (c : Bool) → AllIn (varRanges u) → x ≤ 2147483647 → floor ≤ 2147483648 → Within (entered f u x i floor c)
+  entered-within : (u : Var) (x i floor : ℕ) (c : Bool) → VarWithin u → x ≤ 2147483647 → floor ≤ 2147483648 → Within (entered f u x i floor c)
   entered-within u x i floor c v a d = go (ltb i (usedAt f x)) refl
     where
       go : (b : Bool) → ltb i (usedAt f x) ≡ b → Within (cond b (Entry u x i floor c) (Chain u (x + 8) x floor c))
       go true e =
           let less : i ≤ 2147483647 = omega (arith, ltb-true i (usedAt f x) e, nat-small f (x + 16)) in
-          record { all = (v .0, (v .1 .0, (v .1 .1 .0, (v .1 .1 .1 .0, (a, (less, (d, tt))))))) }
+          within (Entry u x i floor c) (v .kind) tt (v .place) (v .greatest) (v .vdr) a less d
       go false e =
           let less : x + 8 ≤ 2147483711 = omega arith in
-          record { all = (v .0, (v .1 .0, (v .1 .1 .0, (v .1 .1 .1 .0, (less, (a, (d, tt))))))) }
+          within (Chain u (x + 8) x floor c) (v .kind) less (v .place) (v .greatest) (v .vdr) a tt d
 
   after-entries : (t a n : ℕ) → a ≤ 2147483647 → n ≤ 2147483647 → Within (afterEntries t a n)
   after-entries t a n h e =
-      cond-keeps Within (eqb t 9) (record { all = (omega arith, (omega arith, tt)) })
-      (record { all = (inr refl, (h, (e, (omega arith, (omega arith, (omega arith, tt)))))) })
+      cond-keeps Within (eqb t 9) (within (Attrs (a + 8) (n + 1)) tt (omega arith) (omega arith) tt tt tt tt tt)
+      (within (Entries 9 a n (a + 36) 0 0) (inr refl) (omega arith) e tt h tt (omega arith) (omega arith))
 
   one-more : (n : ℕ) → oneMore n ≤ 2147483648
   unfolding oneMore
@@ -131,13 +170,13 @@ module _ (f : List ℕ) where
 
 module _ (f : List ℕ) where
   -- an entry that names values, and one that names an index record
-  values-within : (u : Var) (x i floor : ℕ) (c : Bool) (typed late : ℕ) (e : E.Entry) → EntrySmall f e → AllIn (varRanges u) → x ≤ 2147483647
+  values-within : (u : Var) (x i floor : ℕ) (c : Bool) (typed late : ℕ) (e : E.Entry) → EntrySmall f e → VarWithin u → x ≤ 2147483647
       → StepWithin (takes (e .fault) (e .link) typed late (entered f u x (i + 1) (e .last + 1) c))
   values-within u x i floor c typed late e s v h =
       takes-within f (e .fault) (e .link) typed late (entered f u x (i + 1) (e .last + 1) c)
       (λ z. entered-within f u x (i + 1) (e .last + 1) c v h (omega (arith, s .last-small)))
 
-  lower-within : (u : Var) (x i : ℕ) (c room : Bool) (e : E.Entry) → EntrySmall f e → AllIn (varRanges u) → x ≤ 2147483647 → i ≤ 2147483647
+  lower-within : (u : Var) (x i : ℕ) (c room : Bool) (e : E.Entry) → EntrySmall f e → VarWithin u → x ≤ 2147483647 → i ≤ 2147483647
       → StepWithin (lowerStep f u x i c room e)
   lower-within u x i c room e s v h g =
       cond-keeps StepWithin (eqb (e .fault) 0 && eqb (lowerNumber f (e .link)) 0)
@@ -148,7 +187,7 @@ module _ (f : List ℕ) where
           omega arith,
         );
       })
-      (record { next-within = record { all = tt } })
+      (record { next-within = start-within })
 
   -- a link of a list
   within-list : (p : ℕ) (l : Listing) → StepWithin (l .over) → ((o : ℕ) → o ≤ 2147483647 → l .number o ≡ 0 → Within (l .next o)) → StepWithin (listStep f p l)
@@ -160,7 +199,7 @@ module _ (f : List ℕ) where
   over-gdr v w h = cond-keeps StepWithin (gdrNamed f) {x = Over w v} {y = End 20} (over-within f w h) (end-within f)
 
   -- a zero link of an index record
-  lower-over : (u : Var) (near : Level) (c : Bool) → SmallLevel near → AllIn (varRanges u) → StepWithin (lowerOver f u near c)
+  lower-over : (u : Var) (near : Level) (c : Bool) → SmallLevel near → VarWithin u → StepWithin (lowerOver f u near c)
   lower-over u near c l v =
       cond-keeps StepWithin (ltb (endOf f) (near .vxr + 20)) {x = End 20} (end-within f)
       (record { next-within = entered-within f u (near .vxr) (near .next) (near .last + 1) c v (l .0) (let m = l .1 .1 .0 in omega arith) })
@@ -171,37 +210,32 @@ module _ (f : List ℕ) where
   step-within near room Start l h =
       cond-keeps StepWithin (gdrNamed f)
       (takes-within f 0 (gdrAt f) (typeNumber f (gdrAt f) (pos 2)) 0 (Vars 3 (gdrAt f + 8) 0 0)
-      (λ z. record { all = (inl refl, (omega (arith, gdr-small f), (omega arith, (omega arith, tt)))) })) (end-within f)
+      (λ z. within (Vars 3 (gdrAt f + 8) 0 0) (inl refl) (omega (arith, gdr-small f)) (omega arith) (omega arith) tt tt tt tt)) (end-within f)
   step-within near room (Vars k p n greatest) l h =
-      let g = h .all .1 .1 .1 .0 in
       within-list p (varsList f k n greatest) (over-gdr (varsTally f k n greatest) (afterVars f k) (after-vars f k)) (λ o s z.
-      record { all = (h .all .0, (s, (var-place f k n o z, (omega (arith, after-small f (o + 16)), (omega arith, (omega arith, (omega arith, tt))))))) })
+      within (intoIndex f k n greatest o) (h .kind) (omega arith) (var-place f k n o z) (omega (arith, after-small f (o + 16), h .greatest)) s (omega arith) tt (omega arith))
   step-within near room (Chain u p last floor c) l h =
-      let v : AllIn (varRanges u) = (h .all .0, (h .all .1 .0, (h .all .1 .1 .0, (h .all .1 .1 .1 .0, tt)))) in
-      let d = h .all .1 .1 .1 .1 .1 .1 .0 in
+      let v : VarWithin u = record { kind = h .kind; vdr = h .owner; place = h .count; greatest = h .greatest } in
       cond-keeps StepWithin (isNone near)
       (within-list p (chainList f u last floor c)
       (over-within f (Vars (u .kind) (u .vdr + 8) (u .place + 1) (u .greatest))
-      (let a = v .1 .0 in let b = v .1 .1 .0 in record { all = (v .0, (omega arith, (omega arith, (v .1 .1 .1 .0, tt)))) }))
-      (λ o s z. entered-within f u o 0 floor c v s d))
+      (within (Vars (u .kind) (u .vdr + 8) (u .place + 1) (u .greatest)) (h .kind) (omega (arith, h .owner)) (omega (arith, h .count)) (h .greatest) tt tt tt tt))
+      (λ o s z. entered-within f u o 0 floor c v s (h .floor)))
       (link-keeps f p StepWithin {over = lowerOver f u near c} {taken = λ o. End 11} (end-within f) (lower-over u near c l v) (λ o s. end-within f))
   step-within near room (Entry u x i floor c) l h =
-      let v : AllIn (varRanges u) = (h .all .0, (h .all .1 .0, (h .all .1 .1 .0, (h .all .1 .1 .1 .0, tt)))) in
+      let v : VarWithin u = record { kind = h .kind; vdr = h .owner; place = h .count; greatest = h .greatest } in
       let e = entryOf f x i floor (mostOf near) in
       let small = entry-small f x i floor (mostOf near) in
-      let a = h .all .1 .1 .1 .1 .0 in
-      cond-keeps StepWithin (indexAt f (e .link))
-      (lower-within u x i c room e small v a (h .all .1 .1 .1 .1 .1 .0))
-      (values-within u x i floor (c || covers f (u .vdr) e) (typeNumber f (e .link) (pos 7)) (valuesNumber f (variableOf f (u .kind) (u .vdr)) e) e small v a)
+      cond-keeps StepWithin (indexAt f (e .link)) (lower-within u x i c room e small v (h .before) (h .entry))
+      (values-within u x i floor (c || covers f (u .vdr) e) (typeNumber f (e .link) (pos 7)) (valuesNumber f (variableOf f (u .kind) (u .vdr)) e) e small v (h .before))
   step-within near room (Attrs p n) l h =
       within-list p (attrsList f n)
-      (over-gdr (fieldNumber f (gdrAt f + 28) (pos n)) (Unused (gdrAt f + 44) 0) (record { all = (omega (arith, gdr-small f), (omega arith, tt)) }))
-      (λ o s z. record { all = (inl refl, (s, (attr-place f n o z, (omega arith, (omega arith, (omega arith, tt)))))) })
+      (over-gdr (fieldNumber f (gdrAt f + 28) (pos n)) (Unused (gdrAt f + 44) 0)
+      (within (Unused (gdrAt f + 44) 0) tt (omega (arith, gdr-small f)) tt tt tt (omega arith) tt tt))
+      (λ o s z. within (Entries 5 o n (o + 12) 0 0) (inl refl) (omega arith) (attr-place f n o z) tt s tt (omega arith) (omega arith))
   step-within near room (Entries k a n p e greatest) l h =
-      let s = h .all .1 .0 in
-      let t = h .all .1 .1 .0 in
-      let g = h .all .1 .1 .1 .1 .1 .0 in
-      within-list p (entriesList f k a n e greatest) (over-within f (afterEntries k a n) (after-entries f k a n s t)) (λ o r z.
-      record { all = (h .all .0, (s, (t, (omega arith, (one-more f e, (omega (arith, after-small f (o + 20)), tt)))))) })
+      within-list p (entriesList f k a n e greatest) (over-within f (afterEntries k a n) (after-entries f k a n (h .owner) (h .count))) (λ o r z.
+      let most = max (afterAt f (o + 20)) greatest in
+      within (Entries k a n (o + 8) (oneMore e) most) (h .kind) (omega arith) (h .count) tt (h .owner) tt (one-more f e) (omega (arith, after-small f (o + 20), h .floor)))
   step-within near room (Unused p b) l h =
-      within-list p (unusedList f b) (end-within f) (λ o s z. record { all = (omega arith, (s, tt)) })
+      within-list p (unusedList f b) (end-within f) (λ o s z. within (Unused (o + 8) o) tt (omega arith) tt tt tt s tt tt)

@@ -10,18 +10,18 @@ use lib.Dec.{ltb}
 use Rattle.format.specs.Fields.{endOf, linkAt}
 use Rattle.variables.specs.Vdr.{vdrFault, variableOf}
 use Rattle.variables.specs.declared.vdr.Variable.{Variable}
-use Rattle.walk.specs.Ranges.{Range, upTo, oneOf, rangesOf, levelRanges}
-use Rattle.walk.specs.Levels.{indexed}
+use Rattle.walk.specs.Ranges.{Range, upTo, oneOf, absent, rowOf, levelRanges}
+use Rattle.walk.specs.Levels.{OfVariable, noVariable, leadingTo, walking, ofVariable, indexed}
 use Rattle.walk.specs.declared.positions.Var.{Var}
 use Rattle.walk.specs.declared.positions.Level.{Level}
 use Rattle.walk.specs.declared.positions.Levels.{Levels}
 use Rattle.walk.specs.declared.positions.Walk as W
-use Rattle.walk.specs.declared.positions.Walk.the-variants.{Start, Vars, Chain, Entry, Attrs, Entries, Unused}
 
 -- ---- the numbers
 abbrev pub InRange : Range → Type 0
 InRange (upTo n most) = n ≤ most
 InRange (oneOf n a b) = (n ≡ a) ⊎ (n ≡ b)
+InRange absent = Unit {0}
 
 abbrev pub AllIn : List Range → Type 0
 AllIn [] = Unit {0}
@@ -29,7 +29,14 @@ AllIn (r ∷ rs) = InRange r × AllIn rs
 
 -- the numbers of a position are in their ranges (10.4)
 pub record Within (w : W.Walk) : Type 0 where
-  pub all : AllIn (rangesOf w)
+  pub kind : InRange (rowOf w .kind)
+  pub link : InRange (rowOf w .link)
+  pub count : InRange (rowOf w .count)
+  pub greatest : InRange (rowOf w .greatest)
+  pub owner : InRange (rowOf w .owner)
+  pub before : InRange (rowOf w .before)
+  pub entry : InRange (rowOf w .entry)
+  pub floor : InRange (rowOf w .floor)
 
 abbrev pub SmallLevel : Level → Type 0
 SmallLevel l = AllIn (levelRanges l)
@@ -60,16 +67,15 @@ abbrev pub linkedVariable : List ℕ → ℕ → ℕ → Variable → Variable
 linkedVariable f k p v = cond (ltb (endOf f) (p + 4)) v (variableOf f k (linkAt f p))
 
 -- the variable that the next link leads to; elsewhere still v
+abbrev pub nextBy : List ℕ → OfVariable → Variable → Variable
+nextBy f noVariable v = v
+nextBy f (leadingTo k p) v = linkedVariable f k p v
+nextBy f (walking u) v = v
+
 abbrev pub nextVariable : List ℕ → W.Walk → Variable → Variable
-nextVariable f Start v = v
-nextVariable f (Vars k p n g) v = linkedVariable f k p v
-nextVariable f (Chain u p x floor c) v = v
-nextVariable f (Entry u x i floor c) v = v
-nextVariable f (Attrs p n) v = v
-nextVariable f (Entries k a n p e g) v = v
-nextVariable f (Unused p b) v = v
+nextVariable f w v = nextBy f (ofVariable w) v
 
 -- v is the variable that the next link leads to, or whose index is walked
 pub record NextVariable (f : List ℕ) (v : Variable) (w : W.Walk) : Type 0 where
   pub known : Known f v w
-  pub linked : (k p n g : ℕ) → w ≡ Vars k p n g → p + 4 ≤ endOf f → v ≡ variableOf f k (linkAt f p)
+  pub linked : (k p : ℕ) → ofVariable w ≡ leadingTo k p → p + 4 ≤ endOf f → v ≡ variableOf f k (linkAt f p)

@@ -55,12 +55,27 @@ changesLevel (Down w o typed l) = true
 changesLevel (Up w) = true
 
 -- ---- where they stand
+-- the variable of a position: none; the one that its link leads to, if any, of a kind and from where the link stands; the one whose index
+-- is walked
+pub data OfVariable : Type 0 where
+  noVariable : OfVariable
+  leadingTo : ℕ → ℕ → OfVariable
+  walking : Var → OfVariable
+
+abbrev pub ofVariable : W.Walk → OfVariable
+ofVariable Start = noVariable
+ofVariable (Vars k p n g) = leadingTo k p
+ofVariable (Chain u p x floor c) = walking u
+ofVariable (Entry u x i floor c) = walking u
+ofVariable (Attrs p n) = noVariable
+ofVariable (Entries k a n p e g) = noVariable
+ofVariable (Unused p b) = noVariable
+
+abbrev pub walked : OfVariable → Option Var
+walked noVariable = none
+walked (leadingTo k p) = none
+walked (walking u) = some u
+
 -- the variable whose index is walked
 abbrev pub indexed : W.Walk → Option Var
-indexed Start = none
-indexed (Vars k p n g) = none
-indexed (Chain u p x floor c) = some u
-indexed (Entry u x i floor c) = some u
-indexed (Attrs p n) = none
-indexed (Entries k a n p e g) = none
-indexed (Unused p b) = none
+indexed w = walked (ofVariable w)

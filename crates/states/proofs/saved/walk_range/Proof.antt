@@ -11,14 +11,8 @@ enum-known-w c = search needs
 enum-known-w-2 : tie.Need-enum-known-w-2
 enum-known-w-2 c = search needs
 
-var-range-requires : tie.Need-var-range-requires
-var-range-requires c κs = search needs
-
 enum-known-w-3 : tie.Need-enum-known-w-3
 enum-known-w-3 c = search needs
-
-var-range-requires-2 : tie.Need-var-range-requires-2
-var-range-requires-2 c κs = search needs
 
 enum-known-w-4 : tie.Need-enum-known-w-4
 enum-known-w-4 c = search needs
@@ -36,10 +30,10 @@ returns-2 : tie.Need-returns-2
 returns-2 c = rw (c .before .w .given .1)
 
 returns-3 : tie.Need-returns-3
-returns-3 c = rw (c .before .before .w2 .given .1, c .var-range .ensures)
+returns-3 c = let at-kind = c .before .before .before .before in rw (at-kind .before .before .w2 .given .1)
 
 returns-4 : tie.Need-returns-4
-returns-4 c = rw (c .before .before .w3 .given .1, c .var-range2 .ensures)
+returns-4 c = let at-kind = c .before .before .before .before in rw (at-kind .before .before .w3 .given .1)
 
 returns-5 : tie.Need-returns-5
 returns-5 c = rw (c .before .w4 .given .1)
@@ -57,9 +51,7 @@ walk-range-spec =
     enum-told
     enum-known-w
     enum-known-w-2
-    var-range-requires
     enum-known-w-3
-    var-range-requires-2
     enum-known-w-4
     enum-known-w-5
     enum-known-w-6

@@ -1,6 +1,7 @@
 use native.Mathlib.Omega.{arith}
 use mathlib.Core.Path.{_∙_, ap, sym}
 use Rattle.walk.specs.Walk.{walkStepBy}
+use Rattle.walk.specs.Levels.{ofVariable}
 use borrow.Author.Needs.{needs}
 use Rattle.walk.proofs.steps.step.Statement.{statement}
 use Rattle.walk.proofs.steps.step.Tie as tie
@@ -15,13 +16,13 @@ enum-known-w : tie.Need-enum-known-w
 enum-known-w c = search needs
 
 vars-step-requires : tie.Need-vars-step-requires
-vars-step-requires c κs = c .before .before .before .before .pre .1 .linked _ _ _ _ (c .before .w .given .1)
+vars-step-requires c κs = let at-start = c .before .before .before .before in at-start .pre .1 .linked _ _ (ap ofVariable (c .before .w .given .1))
 
 enum-known-w-2 : tie.Need-enum-known-w-2
 enum-known-w-2 c = search needs
 
 chain-step-requires : tie.Need-chain-step-requires
-chain-step-requires c κs = let s = (rw (c .before .w2 .given .1) at (c .before .before .before .before .pre .0)) .all .1 in omega arith
+chain-step-requires c κs = let s = rw (c .before .w2 .given .1) at (c .before .before .before .before .pre .0) in (omega (arith, s .owner), omega (arith, s .count), c .before .before .before .before .pre .2)
 
 enum-known-w-3 : tie.Need-enum-known-w-3
 enum-known-w-3 c = search needs
@@ -29,9 +30,9 @@ enum-known-w-3 c = search needs
 entry-step-requires : tie.Need-entry-step-requires
 entry-step-requires c κs =
     let p = c .before .before .before .before .pre in
-    let s = (rw (c .before .w3 .given .1) at (p .0)) .all .1 in
+    let s = rw (c .before .w3 .given .1) at (p .0) in
     let known = rw (c .before .w3 .given .1) at (p .1 .known) in
-    (known, omega arith, omega arith)
+    (known, omega (arith, s .before), omega (arith, s .entry))
 
 enum-known-w-4 : tie.Need-enum-known-w-4
 enum-known-w-4 c = search needs
@@ -43,7 +44,7 @@ enum-known-w-5 : tie.Need-enum-known-w-5
 enum-known-w-5 c = search needs
 
 entries-step-requires : tie.Need-entries-step-requires
-entries-step-requires c κs = let s = (rw (c .before .w5 .given .1) at (c .before .before .before .before .pre .0)) .all .1 in omega arith
+entries-step-requires c κs = let s = rw (c .before .w5 .given .1) at (c .before .before .before .before .pre .0) in (omega (arith, s .owner), omega (arith, s .count))
 
 enum-known-w-6 : tie.Need-enum-known-w-6
 enum-known-w-6 c = search needs
