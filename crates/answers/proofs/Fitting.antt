@@ -12,7 +12,7 @@ use Rattle.answers.specs.Bounds.{Fits, Inside}
 pub variable-fits : (f : List ℕ) (k o : ℕ) → length f < 2147483648 → Fits (variableOf f k o)
 variable-fits f k o h =
     let d = of-variable f k o in
-    record { value = d .value; bytes = d .bytes; variances = omega (arith, d .variances) }
+    record { value = d .value; bytes = d .bytes; variances = omega (arith, d .rows .variances) }
 
 -- so has what the code read of a record of its
 pub fitting : (f : List ℕ) (k o : ℕ) → Inside f o 128 → (u : Variable) → u ≡ variableOf f k o → Fits u

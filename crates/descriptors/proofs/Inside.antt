@@ -76,7 +76,7 @@ module _ (f b : List ℕ) (part : b ≡ bodyOf f) where
     dimensions-are o left e = rw (e, part)
 
     pub dimensions-lie : (o left : ℕ) → variableWay f k n ≡ Found o left → Lie b (Are (variableOf b (kindAmong 3 8 k) o .dimensions))
-    dimensions-lie o left e = let d = of-variable b (kindAmong 3 8 k) o in (d .sizes, d .variances, found-short k n o left e)
+    dimensions-lie o left e = (of-variable b (kindAmong 3 8 k) o .rows, found-short k n o left e)
 
     pub dimensions-unknown : (v : ℕ) → variableWay f k n ≡ Stopped v → Unknown v ≡ variableDimensions f k n
     unfolding variableDimensions

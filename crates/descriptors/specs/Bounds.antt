@@ -1,9 +1,10 @@
 -- The bounds with which the code reads a record that a way has found. Assumes nothing.
-use Prim.Native.Nat.{ℕ, _+_, _*_, _≤_, _<_}
+use Prim.Native.Nat.{ℕ, _+_, _≤_, _<_}
 use mathlib.Core.Bool.{cond}
 use mathlib.Core.List.{List}
 use lib.ListN.{length}
 use lib.Dec.{eqb}
+use Rattle.variables.specs.Bounds.{LayoutInside}
 use Rattle.lookup.specs.Lists.{isEntryKind}
 use Rattle.lookup.specs.declared.lists.Way.{Way}
 use Rattle.lookup.specs.declared.lists.Way.the-variants.{Found, Stopped}
@@ -21,5 +22,5 @@ Holds f n (Stopped v) = Unit {0}
 
 -- the sizes and variances of dimensions lie in the bytes f, which are no more than an offset can say
 abbrev pub Lie : List ℕ → Dimensions → Type 0
-Lie f (Are l) = (l .sizes + 4 * l .count ≤ length f) × (l .variances + 4 * l .count ≤ length f) × (length f < 2147483648)
+Lie f (Are l) = LayoutInside f l × (length f < 2147483648)
 Lie f (Unknown v) = Unit {0}

@@ -21,6 +21,7 @@ use Rattle.records.proofs.Judged.{Reach, reach-cases, reach-reads, reach-makes}
 use Rattle.variables.specs.declared.vdr.Layout.{Layout}
 use Rattle.variables.specs.declared.vdr.Variable.{Variable}
 use Rattle.variables.specs.Limit.{capped}
+use Rattle.variables.specs.Bounds.{LayoutInside}
 use Rattle.variables.specs.Vdr.{carriedOf, vdrFields, headOf, numDimsAt, countRight, layoutOf, valueBytes, sizeExact, dimensionsRight, valuesPerRecord, recordBytes, vdrFault, dimensioned, variableOf}
 use Rattle.variables.specs.Place.{elementPlace, indicesRight}
 use Rattle.variables.proofs.Bound.{place-exact}
@@ -158,21 +159,20 @@ module _ (f : List ℕ) (k o : ℕ) where
 
 -- ---- what is known of every VDR that is looked at: its rows of dimensions lie in the file, and its bytes are told up to a limit
 pub record Dimensions (f : List ℕ) (u : Variable) : Type 0 where
-  pub sizes : u .dimensions .sizes + 4 * u .dimensions .count ≤ length f
-  pub variances : u .dimensions .variances + 4 * u .dimensions .count ≤ length f
+  pub rows : LayoutInside f (u .dimensions)
   pub value : u .value ≤ 2147483648
   pub bytes : u .bytes ≤ 2147483648
 
 module _ (f : List ℕ) (k o : ℕ) where
   of-fault : (v : ℕ) → Dimensions f (vdrFault v)
-  of-fault v = record { sizes = omega arith; variances = omega arith; value = omega arith; bytes = omega arith }
+  of-fault v = record { rows = record { sizes = omega arith; variances = omega arith }; value = omega arith; bytes = omega arith }
 
   pub of-variable : Dimensions f (variableOf f k o)
   unfolding capped
   of-variable =
       vdr-cases f k o (Dimensions f) (of-fault 10) (of-fault 20) (λ p.
       let l = end-is f in
-      record { sizes = omega (arith, p .sizes); variances = omega (arith, p .variances); value = omega arith; bytes = omega arith })
+      record { rows = record { sizes = omega (arith, p .sizes); variances = omega (arith, p .variances) }; value = omega arith; bytes = omega arith })
 
   -- the bytes of a record are told up to 2,147,483,648
   pub bytes-small : variableOf f k o .bytes ≤ 2147483648

@@ -4,6 +4,7 @@ ghost use Prim.Native.Nat.{_+_, _*_, _≤_, _<_};
 ghost use lib.ListN.{length};
 ghost use lib.IntN.{negsuc};
 ghost use Rattle.format.specs.Fields.{isAt, natAt, natOr};
+ghost use Rattle.variables.specs.Bounds.{LayoutInside};
 ghost use Rattle.variables.specs.Limit.{capped};
 ghost use Rattle.variables.specs.Place.{slower, moved, elementPlace, indexRight, indicesRight, rowFits, placeOf};
 use crate::limit;
@@ -67,7 +68,7 @@ fn next_place(f: &[u8], p: usize, q: usize, i: i64, place: u64) -> u64
 
 // The place that indices give among the dimensions of a variable, and 2,147,483,648 for every larger number.
 fn place_in(f: &[u8], l: Layout, row: bool, indices: &[i64]) -> u64
-    requires { ⌜ (l .sizes + 4 * l .count ≤ length (now f)) × (l .variances + 4 * l .count ≤ length (now f)) × (l .count ≤ length (now indices)) ⌝ }
+    requires { ⌜ LayoutInside (now f) l × (l .count ≤ length (now indices)) ⌝ }
     ensures { λ r. ⌜ r ≡ capped (elementPlace (now (f .entry)) l row (now (indices .entry))) ⌝ }
 {
     let n = l.count;

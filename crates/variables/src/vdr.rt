@@ -3,7 +3,7 @@ ghost use mathlib.Core.Path.{_≡_};
 ghost use Prim.Native.Nat.{_+_, _*_, _≤_, _<_};
 ghost use lib.ListN.{length};
 ghost use Rattle.records.specs.Attributes.{elementSize};
-ghost use Rattle.variables.specs.Bounds.{layoutFits};
+ghost use Rattle.variables.specs.Bounds.{LayoutFits, LayoutInside};
 ghost use Rattle.variables.specs.Limit.{capped};
 ghost use Rattle.variables.specs.Vdr.{carriedOf, vdrFields, headOf, numDimsAt, countRight, rSizesAt, layoutOf, valueBytes, factorOf, sizeExact, dimensionsRight, valuesPerRecord, vdrFault, dimensioned, variableOf};
 use crate::limit;
@@ -103,7 +103,7 @@ fn r_sizes_at(o: usize, p: usize, n: usize) -> usize
 // The dimensions that are counted at p.
 fn dimensions_at(f: &[u8], kind: u32, o: usize, p: usize) -> Layout
     requires { ⌜ (o < 4294967296) × (p < 8589934592) × (p + 4 ≤ length (now f)) × (p ≡ numDimsAt (now f) kind o) ⌝ }
-    ensures { λ r. ⌜ (r ≡ layoutOf (now (f .entry)) kind o) × layoutFits r ⌝ }
+    ensures { λ r. ⌜ (r ≡ layoutOf (now (f .entry)) kind o) × LayoutFits r ⌝ }
 {
     let n = fields::nat_at(f, p) as usize;
     if kind == 8 {
@@ -132,7 +132,7 @@ fn value_bytes(f: &[u8], o: usize, element: u32) -> u64
 
 // The size of a VDR is that of its fields, dimensions and pad value.
 fn size_exact(f: &[u8], o: usize, l: Layout, value: u64) -> bool
-    requires { ⌜ (o + 128 ≤ length (now f)) × (o < 4294967296) × layoutFits l × (value ≡ valueBytes (now f) o) × (value ≤ 17179869184) ⌝ }
+    requires { ⌜ (o + 128 ≤ length (now f)) × (o < 4294967296) × LayoutFits l × (value ≡ valueBytes (now f) o) × (value ≤ 17179869184) ⌝ }
     ensures { λ r. ⌜ r ≡ sizeExact (now (f .entry)) o l ⌝ }
 {
     let dimensions = l.variances as u64 + 4 * (l.count as u64);
@@ -145,7 +145,7 @@ fn size_exact(f: &[u8], o: usize, l: Layout, value: u64) -> bool
 
 // The sizes and variances of the dimensions.
 fn dimensions_right(f: &[u8], l: Layout) -> bool
-    requires { ⌜ (l .sizes + 4 * l .count ≤ length (now f)) × (l .variances + 4 * l .count ≤ length (now f)) ⌝ }
+    requires { ⌜ LayoutInside (now f) l ⌝ }
     ensures { λ r. ⌜ r ≡ dimensionsRight (now (f .entry)) l ⌝ }
 {
     let n = l.count;
@@ -167,7 +167,7 @@ fn factor(f: &[u8], p: usize, q: usize) -> u64
 
 // The bytes of a record, and 2,147,483,648 for every larger number.
 fn record_bytes(f: &[u8], l: Layout, value: u64) -> u64
-    requires { ⌜ (l .sizes + 4 * l .count ≤ length (now f)) × (l .variances + 4 * l .count ≤ length (now f)) ⌝ }
+    requires { ⌜ LayoutInside (now f) l ⌝ }
     ensures { λ r. ⌜ (r ≡ capped (value * valuesPerRecord (now (f .entry)) (l .count) (l .sizes) (l .variances))) × (r ≤ 2147483648) ⌝ }
 {
     let mut acc = limit::cap(value);
@@ -201,7 +201,7 @@ pub fn faulty(v: u32) -> Variable
 
 // A VDR whose fields are right, with its dimensions. Its elements have element bytes.
 fn dimensioned_vdr(f: &[u8], o: usize, l: Layout, element: u32) -> Variable
-    requires { ⌜ (o + 128 ≤ length (now f)) × (o < 4294967296) × layoutFits l × (element ≡ elementSize (now f) (o + 12)) × (element ≤ 8) ⌝ }
+    requires { ⌜ (o + 128 ≤ length (now f)) × (o < 4294967296) × LayoutFits l × (element ≡ elementSize (now f) (o + 12)) × (element ≤ 8) ⌝ }
     ensures { λ r. ⌜ r ≡ dimensioned (now (f .entry)) o l ⌝ }
 {
     let end = fields::end(f);

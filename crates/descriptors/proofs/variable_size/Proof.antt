@@ -25,12 +25,12 @@ cast-row-field : tie.Need-cast-row-field
 cast-row-field c =
     let at-dimensions = c .before .before .before .before in let at-dimensions-of = at-dimensions .before .before in
     let h = subst (Lie (at-dimensions-of .before .body .result .now)) (at-dimensions .dimensions .given .1) (at-dimensions-of .dimensions-of .ensures .1) in
-    omega (arith, h .0, h .2)
+    omega (arith, h .0 .sizes, h .1)
 
 row-field-requires : tie.Need-row-field-requires
 row-field-requires c κs =
     let at-dimensions = c .before .before .before .before in let at-dimensions-of = at-dimensions .before .before in
-    subst (Lie (at-dimensions-of .before .body .result .now)) (at-dimensions .dimensions .given .1) (at-dimensions-of .dimensions-of .ensures .1) .0
+    subst (Lie (at-dimensions-of .before .body .result .now)) (at-dimensions .dimensions .given .1) (at-dimensions-of .dimensions-of .ensures .1) .0 .sizes
 
 enum-known-dimensions-2 : tie.Need-enum-known-dimensions-2
 enum-known-dimensions-2 c = search needs

@@ -40,7 +40,9 @@ place-in-requires : tie.Need-place-in-requires
 place-in-requires c κs =
     let d = c .before .before in
     let e = d .before .before in
-    (row-in _ _ _ (sym (e .before .row-fits .ensures) ∙ not-false (e .before .row-fits .result) (e .if2 .left)), row-in _ _ _ (sym (d .before .row-fits2 .ensures) ∙ not-false (d .before .row-fits2 .result) (d .if3 .left)), omega (arith, e .before .before .if1 .left))
+    let sizes = row-in _ _ _ (sym (e .before .row-fits .ensures) ∙ not-false (e .before .row-fits .result) (e .if2 .left)) in
+    let variances = row-in _ _ _ (sym (d .before .row-fits2 .ensures) ∙ not-false (d .before .row-fits2 .result) (d .if3 .left)) in
+    (record { sizes = sizes; variances = variances }, omega (arith, e .before .before .if1 .left))
 
 returns-5 : tie.Need-returns-5
 unfolding placeOf placed

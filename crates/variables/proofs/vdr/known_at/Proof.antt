@@ -32,7 +32,7 @@ record-bytes-requires c κs =
     let at-dimensions-at = c .before .before .before in let at-start = at-dimensions-at .before .before .before in
     let r = vdr-reads (at-start .args .f .now) (at-start .args .kind) (at-start .args .at) (at-start .pre) in
     let l = end-is (at-start .args .f .now) in
-    rw (at-dimensions-at .dimensions-at .ensures .0) (omega (arith, r .sizes), omega (arith, r .variances))
+    rw (at-dimensions-at .dimensions-at .ensures .0) (record { sizes = omega (arith, r .sizes); variances = omega (arith, r .variances) })
 
 returns : tie.Need-returns
 unfolding recordBytes
