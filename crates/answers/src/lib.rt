@@ -8,7 +8,7 @@ ghost use Rattle.values.specs.Values.{decodedOf};
 ghost use Rattle.variables.specs.Vdr.{variableOf};
 ghost use Rattle.lookup.specs.Lists.{kindAmong};
 ghost use Rattle.answers.specs.Answers.{answered, elementThere, elementRead, inRecord, inVariable, valueRead, entryValue, padIn, padRead};
-ghost use Rattle.answers.specs.Bounds.{Inside, Fits};
+ghost use Rattle.answers.specs.Bounds.{ElementFields, Inside, Fits};
 use format::fields;
 use format::types;
 use lookup::indexes;
@@ -68,7 +68,7 @@ fn element_there(f: &[u8], at: usize, x: i64) -> bool
 
 // Element x of the values from an offset on, by the offsets of their data type and count.
 fn element(f: &[u8], at: u64, t: usize, c: usize, x: i64) -> Read
-    requires { ⌜ (length (now f) < 2147483648) × (32 ≤ length (now f)) × (t + 4 ≤ length (now f)) × (c + 4 ≤ length (now f)) × (at < 13835058055282163712) ⌝ }
+    requires { ⌜ ElementFields (now f) t c × (at < 13835058055282163712) ⌝ }
     ensures { λ r. ⌜ r ≡ elementRead (now (f .entry)) at t c x ⌝ }
 {
     if !element_there(f, c, x) {

@@ -53,7 +53,7 @@ add-decode-at c =
     let at-if1 = c .before .before in let at-start = at-if1 .before .before .before in
     let t = at-if1 .before .element-there in
     let there = not-false (t .result) (at-if1 .if1 .left) in
-    record { fits = omega (arith, there-bytes (at-start .args .f .now) (at-start .args .c) (at-start .args .x) (at-start .fits .x) (t .ensures .0) (t .ensures .1) there (c .size-of .ensures .1), at-start .pre .4) }
+    record { fits = omega (arith, there-bytes (at-start .args .f .now) (at-start .args .c) (at-start .args .x) (at-start .fits .x) (t .ensures .0) (t .ensures .1) there (c .size-of .ensures .1), at-start .pre .1) }
 
 nat-at-requires-2 : tie.Need-nat-at-requires-2
 nat-at-requires-2 c κs = search needs

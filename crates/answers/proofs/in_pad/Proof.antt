@@ -50,7 +50,7 @@ element-requires c κs =
     let at-if1 = c .before .before .before in
     let u = c .before .known-at in
     let i = at-if1 .before .before .before .pre .0 in
-    (i .short, omega (arith, i .long), omega (arith, i .bytes), omega (arith, i .bytes), omega (arith, fitting _ _ _ i (u .result) (u .ensures) .variances))
+    (search (needs, i), omega (arith, fitting _ _ _ i (u .result) (u .ensures) .variances))
 
 returns-2 : tie.Need-returns-2
 unfolding padIn

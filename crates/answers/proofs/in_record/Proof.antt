@@ -45,7 +45,7 @@ element-requires c κs =
     let t = rw (at-p .p .given .1) at (at-place-of .place-of .ensures) in
     let h = place-small _ _ _ _ _ t in
     let w = within _ (at-start .args .u .value) h (at-start .pre .1 .value) in
-    (search needs, search needs, search needs, search needs, omega (arith, w, at-start .pre .2))
+    (search needs, omega (arith, w, at-start .pre .2))
 
 enum-told : tie.Need-enum-told
 enum-told c = search needs

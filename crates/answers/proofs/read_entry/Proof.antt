@@ -36,7 +36,7 @@ element-requires c κs =
     let at-to-entry = c .before .before .before in
     let b = at-to-entry .before .body in
     let i = in-entry (at-to-entry .before .before .before .args .f .now) (b .result .now) (b .ensures) _ _ _ _ _ (sym (at-to-entry .to-entry .ensures) ∙ c .before .way .given .1) in
-    (i .short, omega (arith, i .long), omega (arith, i .bytes), omega (arith, i .bytes), omega (arith, i .short, i .bytes))
+    (search (needs, i), omega (arith, i .short, i .bytes))
 
 enum-known-way-2 : tie.Need-enum-known-way-2
 enum-known-way-2 c = search needs
