@@ -8,6 +8,7 @@ use lib.Pow.{pow-pos, pow-mono, pow-lt, shl-lt}
 use mathlib.Core.Bool.{cond}
 use lib.Dec.{leb, eqb}
 use borrow.Author.Tests.{le-leb, lt-leb, eq-eqb, ne-eqb}
+use Rattle.vax.specs.Bounds.{DigitsFit}
 use Rattle.vax.specs.Rounding.{keptOf, sizeOf, withSign, vaxOf}
 use Rattle.vax.specs.Words.{vaxIn}
 use Rattle.vax.specs.declared.Vax.the-variants.{Given, Reserved}
@@ -48,11 +49,12 @@ under-63 w n l h = lt-of-lt-of-le h (pow-mono (more w l))
     more : (w : ℕ) → w ≤ 62 → w + 1 ≤ 63
     more w l = omega arith
 
-pub kept-53 : (w p n : ℕ) → p ≤ 53 → n < 2 ^ (w + 1) → keptOf w p n ≤ 2 ^ 53
-kept-53 w p n l h = le-trans (kept-le w p n h) (pow-mono l)
+module _ {w p n : ℕ} (d : DigitsFit w p 53 n) where
+  pub kept-53 : keptOf w p n ≤ 2 ^ 53
+  kept-53 = le-trans (kept-le w p n (d .digits)) (pow-mono (d .places))
 
-pub product-fits : (w p n r : ℕ) → w < p → p ≤ 53 → n < 2 ^ (w + 1) → r ≡ 2 ^ (p - (w + 1)) → n * r ≤ 2 ^ 53
-product-fits w p n r l t h e = subst (λ (z : ℕ). n * z ≤ 2 ^ 53) (sym e) (le-trans (le-of-lt (shifted-fits w p n l h)) (pow-mono t))
+  pub product-fits : w < p → {r : ℕ} → r ≡ 2 ^ (p - (w + 1)) → n * r ≤ 2 ^ 53
+  product-fits l e = subst (λ (z : ℕ). n * z ≤ 2 ^ 53) (sym e) (le-trans (le-of-lt (shifted-fits w p n l (d .digits))) (pow-mono (d .places)))
 
 -- ---- the fields of one number: an exponent of x bits, and a mantissa of w bits below the leading digit
 pub exponent-in : (raw u v w x : ℕ) → u ≡ 2 ^ w → v ≡ 2 ^ x → raw / u % v ≡ raw / 2 ^ w % 2 ^ x

@@ -5,7 +5,7 @@ ghost use lib.ListN.{length};
 ghost use Rattle.vax.specs.Layouts.{ffloat, dfloat, gfloat};
 ghost use Rattle.vax.specs.Rounding.{nearestOf, keptOf, sizeOf, vaxAt};
 ghost use Rattle.vax.specs.Words.{vaxIn, wordAt, pairAt, fourAt};
-ghost use Rattle.vax.specs.Bounds.{Bounds};
+ghost use Rattle.vax.specs.Bounds.{Bounds, DigitsFit};
 
 // A VAX float: the bits of the nearest double, or the reserved operand.
 pub enum Vax {
@@ -34,7 +34,7 @@ fn nearest(n: u64, k: u32) -> u64
 
 // The first places of the width + 1 digits of n, rounded; zeros behind n where it has fewer.
 fn kept(width: u32, places: u32, n: u64) -> u64
-    requires { ⌜ (width ≤ 62) × (places ≤ 53) × (n < 2 ^ (width + 1)) ⌝ }
+    requires { ⌜ DigitsFit width places 53 n ⌝ }
     ensures { λ r. ⌜ (r ≡ keptOf width places n) × (r ≤ 2 ^ 53) ⌝ }
 {
     if width < places {
@@ -46,7 +46,7 @@ fn kept(width: u32, places: u32, n: u64) -> u64
 // The bits below the sign of the double for n, which has that many digits before the point in units
 // of the smallest double.
 fn size(width: u32, places: u32, n: u64) -> u64
-    requires { ⌜ (width ≤ 62) × (places ≤ 2097) × (n < 2 ^ (width + 1)) ⌝ }
+    requires { ⌜ DigitsFit width places 2097 n ⌝ }
     ensures { λ r. ⌜ (r ≡ sizeOf width places n) × (r < 2047 * 2 ^ 52) ⌝ }
 {
     if places < 53 {

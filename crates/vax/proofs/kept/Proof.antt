@@ -18,19 +18,13 @@ power-requires : tie.Need-power-requires
 power-requires c κs = search needs
 
 mul-result : tie.Need-mul-result
-mul-result c =
-    let a = c .before .before .args in
-    let p = c .before .before .pre in
-    omega (arith, product-fits (a .width) (a .places) (a .n) (c .power .result) (c .before .if1 .taken) (p .1) (p .2) (c .power .ensures .0))
+mul-result c = omega (arith, product-fits (c .before .before .pre) (c .before .if1 .taken) (c .power .ensures .0))
 
 returns : tie.Need-returns
 unfolding keptOf
 returns c =
-    let a = c .before .before .args in
-    let p = c .before .before .pre in (
-      rw (lt-ltb _ _ (c .before .if1 .taken), c .power .ensures .0),
-      product-fits (a .width) (a .places) (a .n) (c .power .result) (c .before .if1 .taken) (p .1) (p .2) (c .power .ensures .0),
-    )
+    let small = product-fits (c .before .before .pre) (c .before .if1 .taken) (c .power .ensures .0) in
+    (rw (lt-ltb _ _ (c .before .if1 .taken), c .power .ensures .0), small)
 
 add-nearest : tie.Need-add-nearest
 add-nearest c = search needs
@@ -41,14 +35,13 @@ sub-nearest c = search needs
 nearest-requires : tie.Need-nearest-requires
 nearest-requires c κs =
     let p = c .before .pre in
-    (omega arith, omega arith, under-63 (c .before .args .width) (c .before .args .n) (p .0) (p .2))
+    (omega arith, omega arith, under-63 _ _ (p .width) (p .digits))
 
 returns-2 : tie.Need-returns-2
 returns-2 c =
     let a = c .before .before .args in
-    let p = c .before .before .pre in
     let e : c .nearest .result ≡ keptOf (a .width) (a .places) (a .n) = unfold keptOf in rw (le-ltb _ _ (c .before .if1 .left)) (c .nearest .ensures) in
-    (e, le-trans (le-of-eq e) (kept-53 (a .width) (a .places) (a .n) (p .1) (p .2)))
+    (e, le-trans (le-of-eq e) (kept-53 (c .before .before .pre)))
 
 pub kept-spec : {M : Type 1} → statement M
 kept-spec =

@@ -61,7 +61,8 @@ size-requires c κs =
     let a = d .before .before .args in
     let p = d .before .before .pre in
     let l = exponent-lt (a .raw / d .before .power .result) (d .power2 .result) (a .offset) (a .range) (d .power2 .ensures .0) (p .greatest) in
-    (p .width, omega arith, omega (arith, leading-fits (a .raw) (d .before .power .result) (a .width) (d .before .power .ensures .0) (p .width) .0))
+    let fits = leading-fits (a .raw) (d .before .power .result) (a .width) (d .before .power .ensures .0) (p .width) in
+    record { width = p .width; places = omega arith; digits = omega (arith, fits .0) }
 
 add-t16 : tie.Need-add-t16
 add-t16 c = search needs
