@@ -31,8 +31,9 @@ same-length c = search needs
 
 returns : tie.Need-returns Inv-loop μ-loop
 returns c =
-    let l = c .before .before .before .loop in
-    let a = c .before .before .before .before .before .before .before .args in
+    let at-loop = c .before .before .before in
+    let l = at-loop .loop in
+    let a = at-loop .before .before .before .before .args in
     let t = c .before .before .loop-test .taken in
     let d = c .before .is-finished in
     early (l .inv .2) (sym (d .ensures) ∙ c .if1 .taken) (a .n) (omega arith)
@@ -42,23 +43,27 @@ sub-run-stage c = search needs
 
 run-stage-requires : tie.Need-run-stage-requires Inv-loop μ-loop
 run-stage-requires c κs =
-    let l = c .before .before .before .before .loop in
-    let a = c .before .before .before .before .before .before .before .before in
-    (c .before .before .before .before .before .end .ensures .0, still-on (a .pre) (l .inv .2), omega (arith, c .before .before .before .loop-test .taken))
+    let at-loop-test = c .before .before .before in let at-end = at-loop-test .before .before in
+    let l = at-loop-test .before .loop in
+    (at-end .end .ensures .0, still-on (at-end .before .before .before .pre) (l .inv .2), omega (arith, at-loop-test .loop-test .taken))
 
 add-k : tie.Need-add-k Inv-loop μ-loop
-add-k c = let l = c .before .before .before .before .before .before .before .before .before .loop in omega (arith, l .inv .0, c .before .before .before .before .run-stage .ensures .most)
+add-k c =
+    let at-run-stage = c .before .before .before .before in let at-if1 = at-run-stage .before .before in let at-loop = at-if1 .before .before .before in
+    omega (arith, at-loop .loop .inv .0, at-run-stage .run-stage .ensures .most, at-loop .before .before .before .before .fits .n)
 
 loop-less : tie.Need-loop-less Inv-loop μ-loop
 loop-less c =
-    let d = c .before .before .before .before .run-stage in
-    let more = d .ensures .some (sym (c .before .before .before .before .before .before .before .is-finished .ensures) ∙ c .before .before .before .before .before .before .if1 .left) in
-    omega (arith, more, d .ensures .most, c .before .before .before .before .before .before .before .before .loop-test .taken)
+    let at-m = c .before .before .before in let at-if1 = at-m .before .before .before in
+    let d = at-m .before .run-stage in
+    let more = d .ensures .some (sym (at-if1 .before .is-finished .ensures) ∙ at-if1 .if1 .left) in
+    omega (arith, more, d .ensures .most, at-if1 .before .before .loop-test .taken)
 
 loop-again : tie.Need-loop-again Inv-loop μ-loop
 loop-again c =
-    let l = c .before .before .before .before .before .before .before .before .before .loop in
-    let d = c .before .before .before .before .run-stage in
+    let at-m = c .before .before .before in let at-if1 = at-m .before .before .before in
+    let l = at-if1 .before .before .before .loop in
+    let d = at-m .before .run-stage in
     (omega (arith, l .inv .0, d .ensures .most), search needs, run-on (l .inv .2) (d .ensures .run))
 
 same-length-2 : tie.Need-same-length-2 Inv-loop μ-loop
@@ -66,8 +71,9 @@ same-length-2 c = search needs
 
 returns-2 : tie.Need-returns-2 Inv-loop μ-loop
 returns-2 c =
-    let l = c .before .loop in
-    let a = c .before .before .before .before .before .args in
+    let at-loop = c .before in
+    let l = at-loop .loop in
+    let a = at-loop .before .before .before .before .args in
     let done : l .k ≡ a .n = omega (arith, c .loop-test .left) in
     l .inv .2 .stands ∙ ap (λ (j : ℕ). runOf (a .f .now) (conf (a .s) (a .m .now)) j) done
 

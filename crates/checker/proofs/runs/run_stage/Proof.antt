@@ -22,9 +22,9 @@ enum-known-stage c = search needs
 
 run-sweep-requires : tie.Need-run-sweep-requires
 run-sweep-requires c κs =
-    let a = c .before .before .before .before .before .before in
-    let e = c .before .before .stage .given .1 in
-    (a .pre .0, sweep-lent (a .pre .1) e, e, a .pre .2)
+    let at-stage = c .before .before in let at-start = at-stage .before .before .before .before in
+    let e = at-stage .stage .given .1 in
+    (at-start .pre .0, sweep-lent (at-start .pre .1) e, e, at-start .pre .2)
 
 enum-known-stage-2 : tie.Need-enum-known-stage-2
 enum-known-stage-2 c = search needs
@@ -49,9 +49,9 @@ same-length c = search needs
 
 returns : tie.Need-returns
 returns c =
-    let a = c .before .before .before .before .before .before in
-    let first = at-first (a .args .f .now) (a .args .s) (a .args .m .now) in
-    steps-made (a .pre .2) (once-of first (c .before .before .enum-told .given .1) refl (c .«open» .ensures))
+    let at-enum-told = c .before .before in let at-start = at-enum-told .before .before .before .before in
+    let first = at-first (at-start .args .f .now) (at-start .args .s) (at-start .args .m .now) in
+    steps-made (at-start .pre .2) (once-of first (at-enum-told .enum-told .given .1) refl (c .«open» .ensures))
 
 same-length-2 : tie.Need-same-length-2
 same-length-2 c = search needs
@@ -77,11 +77,11 @@ returns-4 c =
 returns-5 : tie.Need-returns-5
 unfolding stepBy
 returns-5 c =
-    let a = c .before .before .before .before .before .before in
-    let m = a .args .m .now in
-    let first = at-first (a .args .f .now) (a .args .s) m in
+    let at-enum-told3 = c .before .before in let at-start = at-enum-told3 .before .before .before .before in
+    let m = at-start .args .m .now in
+    let first = at-first (at-start .args .f .now) (at-start .args .s) m in
     let over = ap (λ (r : State). conf r m) (c .refused .ensures ∙ ap (λ (r : Involved). doneBy r 20) (c .before .none-involved .ensures)) in
-    steps-made (a .pre .2) (once-of first (c .before .before .enum-told3 .given .1) refl over)
+    steps-made (at-start .pre .2) (once-of first (at-enum-told3 .enum-told3 .given .1) refl over)
 
 pub run-stage-spec : {M : Type 1} → statement M
 run-stage-spec =

@@ -38,8 +38,9 @@ same-length c = search needs
 
 returns : tie.Need-returns Inv-loop μ-loop
 returns c =
-    let l = c .before .before .before .before .before .loop in
-    let d = c .before .before .before .sweep in
+    let at-sweep = c .before .before .before in
+    let l = at-sweep .before .before .loop in
+    let d = at-sweep .sweep in
     steps-made (l .inv .0) (once-of (l .inv .3) (l .inv .2) refl (d .ensures))
 
 same-length-2 : tie.Need-same-length-2 Inv-loop μ-loop
@@ -47,8 +48,9 @@ same-length-2 c = search needs
 
 returns-2 : tie.Need-returns-2 Inv-loop μ-loop
 returns-2 c =
-    let l = c .before .before .before .before .before .before .before .before .loop in
-    let d = c .before .before .before .before .before .before .sweep in
+    let at-g = c .before .before in let at-sweep = at-g .before .before .before .before in
+    let l = at-sweep .before .before .loop in
+    let d = at-sweep .sweep in
     steps-made (l .inv .0) (once-of (l .inv .3) (l .inv .2) refl (d .ensures))
 
 loop-less : tie.Need-loop-less Inv-loop μ-loop
@@ -56,9 +58,10 @@ loop-less c = search needs
 
 loop-again : tie.Need-loop-again Inv-loop μ-loop
 loop-again c =
-    let l = c .before .before .before .before .before .before .before .before .loop in
-    let d = c .before .before .before .before .before .before .sweep in
-    (omega (arith, l .inv .0, c .if1 .left), search needs, c .before .before .g .given .1, once-of (l .inv .3) (l .inv .2) refl (d .ensures))
+    let at-g = c .before .before in let at-sweep = at-g .before .before .before .before in
+    let l = at-sweep .before .before .loop in
+    let d = at-sweep .sweep in
+    (omega (arith, l .inv .0, c .if1 .left), search needs, at-g .g .given .1, once-of (l .inv .3) (l .inv .2) refl (d .ensures))
 
 pub run-sweep-spec : {M : Type 1} → statement M
 run-sweep-spec =

@@ -28,19 +28,19 @@ cast-size c = search needs
 
 mark-requires : tie.Need-mark-requires
 mark-requires c κs =
-    let a = c .before .before .before .before .before .before in
-    let t = tiled (a .args .b .now) (a .args .at) (sym (c .before .before .before .tile-at .ensures) ∙ c .before .before .if1 .left) in
+    let at-if1 = c .before .before in let at-start = at-if1 .before .before .before .before in
+    let t = tiled (at-start .args .b .now) (at-start .args .at) (sym (at-if1 .before .tile-at .ensures) ∙ at-if1 .if1 .left) in
     let n = c .before .nat-at .ensures .0 in
-    (omega (arith, t, n, a .pre .marks), omega (arith, t, n))
+    (omega (arith, t, n, at-start .pre .marks), omega (arith, t, n))
 
 add-swept-to : tie.Need-add-swept-to
 add-swept-to c = search needs
 
 cast-swept-to : tie.Need-cast-swept-to
 cast-swept-to c =
-    let a = c .before .before .before .before .before .before .before .before .before in
-    let t = tiled (a .args .b .now) (a .args .at) (sym (c .before .before .before .before .before .before .tile-at .ensures) ∙ c .before .before .before .before .before .if1 .left) in
-    omega (arith, t, c .before .before .before .before .nat-at .ensures .0, a .pre .short)
+    let at-nat-at = c .before .before .before .before in let at-if1 = at-nat-at .before in let at-start = at-if1 .before .before .before .before in
+    let t = tiled (at-start .args .b .now) (at-start .args .at) (sym (at-if1 .before .tile-at .ensures) ∙ at-if1 .if1 .left) in
+    omega (arith, t, at-nat-at .nat-at .ensures .0, at-start .pre .short)
 
 swept-to-requires : tie.Need-swept-to-requires
 swept-to-requires c κs = search needs
@@ -50,7 +50,9 @@ same-length c = search needs
 
 returns-2 : tie.Need-returns-2
 unfolding swept
-returns-2 c = simp (c .swept-to .ensures, ← c .before .before .before .mark .ensures, ← c .before .before .before .before .before .nat-at .ensures .0, eq-eqb _ _ (c .before .before .before .before .before .before .if1 .left), ← c .before .before .before .before .before .before .before .tile-at .ensures)
+returns-2 c =
+    let at-mark = c .before .before .before in let at-nat-at = at-mark .before .before in let at-if1 = at-nat-at .before in
+    simp (c .swept-to .ensures, ← at-mark .mark .ensures, ← at-nat-at .nat-at .ensures .0, eq-eqb _ _ (at-if1 .if1 .left), ← at-if1 .before .tile-at .ensures)
 
 pub sweep-over-spec : {M : Type 1} → statement M
 sweep-over-spec =
