@@ -14,10 +14,14 @@ sub-result : tie.Need-sub-result
 sub-result c = search needs
 
 returns-3 : tie.Need-returns-3
-returns-3 c = let l = c .before .before .before in first-before _ _ (l .before .before .before .before .before .if1 .left) (l .before .before .before .if2 .left) (l .if3 .taken)
+returns-3 c =
+    let at-if3 = c .before .before .before in let at-if2 = at-if3 .before .before .before in
+    first-before _ _ (at-if2 .before .before .if1 .left) (at-if2 .if2 .left) (at-if3 .if3 .taken)
 
 returns-4 : tie.Need-returns-4
-returns-4 c = let l = c .before .before .before in first-after _ _ (l .before .before .before .before .before .if1 .left) (l .before .before .before .if2 .left) (l .if3 .left)
+returns-4 c =
+    let at-if3 = c .before .before .before in let at-if2 = at-if3 .before .before .before in
+    first-after _ _ (at-if2 .before .before .if1 .left) (at-if2 .if2 .left) (at-if3 .if3 .left)
 
 pub do-overlap-spec : {M : Type 1} → statement M
 do-overlap-spec = tie.close (tie.spec returns returns-2 sub-result returns-3 returns-4)

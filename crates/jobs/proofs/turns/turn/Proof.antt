@@ -41,9 +41,9 @@ same-length c = search needs
 
 returns : tie.Need-returns
 returns c =
-    let at-grant = c .before .before .before in
+    let at-grant = c .before .before .before in let at-s2 = at-grant .before .before .before in let at-struct-known2 = at-s2 .before .before .before .before in
     let g = at-grant .grant in
-    let a = at-grant .before .before .before .before .before .before .before .before .before .before .before .args in
+    let a = at-struct-known2 .before .before .before .before .args in
     let given = granted (g .result) (g .last .1 .1 .1 .1 .1 .0) (g .last .1 .1 .1 .1 .0) (g .last .1 .1 .0) (g .last .1 .0) in
     rw (toZ-ofZ {w = w32} (record { sfits = g .ok })) (turn-is (a .files .now) (a .marks .now) (a .j) (a .q) given (g .ensures))
 
