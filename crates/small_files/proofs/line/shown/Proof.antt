@@ -18,7 +18,9 @@ returns : tie.Need-returns
 returns c = search needs
 
 slice-aggregate-checked : tie.Need-slice-aggregate-checked
-slice-aggregate-checked c = let a = c .before .before .before .before .before in sym (length-take-le (a .args .length) (a .args .f .now) (omega arith))
+slice-aggregate-checked c =
+    let at-if1 = c .before in let at-start = at-if1 .before .before .before .before in
+    sym (length-take-le (at-start .args .length) (at-start .args .f .now) (omega arith))
 
 checked-requires : tie.Need-checked-requires
 checked-requires c κs = search needs
