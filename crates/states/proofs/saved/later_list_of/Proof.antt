@@ -40,7 +40,9 @@ walking-requires-2 c κs = search needs
 
 returns-2 : tie.Need-returns-2
 unfolding laterBy
-returns-2 c = simp (c .walking2 .ensures, eq-eqb _ _ (c .before .before .before .before .before .before .before .if2 .taken), ne-eqb _ _ (c .before .before .before .before .before .before .before .before .if1 .left))
+returns-2 c =
+    let at-shared-slice-known7 = c .before .before .before in let at-if2 = at-shared-slice-known7 .before .before .before .before in
+    simp (c .walking2 .ensures, eq-eqb _ _ (at-if2 .if2 .taken), ne-eqb _ _ (at-if2 .before .if1 .left))
 
 shared-slice-read-t23 : tie.Need-shared-slice-read-t23
 shared-slice-read-t23 c = search needs
@@ -53,7 +55,9 @@ walking-requires-3 c κs = search needs
 
 returns-3 : tie.Need-returns-3
 unfolding laterBy
-returns-3 c = simp (c .walking3 .ensures, eq-eqb _ _ (c .before .before .before .if3 .taken), ne-eqb _ _ (c .before .before .before .before .if2 .left), ne-eqb _ _ (c .before .before .before .before .before .if1 .left))
+returns-3 c =
+    let at-if3 = c .before .before .before in let at-if2 = at-if3 .before in
+    simp (c .walking3 .ensures, eq-eqb _ _ (at-if3 .if3 .taken), ne-eqb _ _ (at-if2 .if2 .left), ne-eqb _ _ (at-if2 .before .if1 .left))
 
 returns-4 : tie.Need-returns-4
 unfolding laterBy

@@ -47,20 +47,10 @@ level-there-requires-7 c κs = search needs
 
 returns : tie.Need-returns
 returns c =
-    let c1 = c .before in
-    let c2 = c1 .before in
-    let c3 = c2 .before in
-    let c4 = c3 .before in
-    let c5 = c4 .before in
-    let c6 = c5 .before in
-    let c7 = c6 .before in
-    let c8 = c7 .before in
-    let c9 = c8 .before in
-    let c10 = c9 .before in
-    let c11 = c10 .before in
-    let c12 = c11 .before in
-    let c13 = c12 .before in
-    let s = c13 .before .before .before .before .before .before .before .before .args .s in
+    let c1 = c .before in let c2 = c1 .before in let c3 = c2 .before in let c4 = c3 .before in let c5 = c4 .before in let c6 = c5 .before in
+    let c7 = c6 .before in let c8 = c7 .before in let c9 = c8 .before in let c10 = c9 .before in let c11 = c10 .before in let c12 = c11 .before in
+    let c13 = c12 .before in let at-d = c13 .before .before .before .before in
+    let s = at-d .before .before .before .before .args .s in
     let from-g = last-tested (s .g) (c13 .none-there .ensures) (c6 .level-there .ensures) in
     let from-f = more-tested (s .f) (c12 .none-there2 .ensures) (c5 .level-there2 .ensures) from-g in
     let from-e = more-tested (s .e) (c11 .none-there3 .ensures) (c4 .level-there3 .ensures) from-f in

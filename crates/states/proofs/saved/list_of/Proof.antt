@@ -21,7 +21,9 @@ walking-requires c κs = search needs
 
 returns : tie.Need-returns
 unfolding listBy
-returns c = simp (c .walking .ensures, eq-eqb _ _ (c .before .before .before .before .before .if1 .taken))
+returns c =
+    let at-shared-slice-known2 = c .before .before .before .before in
+    simp (c .walking .ensures, eq-eqb _ _ (at-shared-slice-known2 .before .if1 .taken))
 
 var-of-requires : tie.Need-var-of-requires
 var-of-requires c κs = search needs
@@ -43,7 +45,9 @@ walking-requires-2 c κs = search needs
 
 returns-2 : tie.Need-returns-2
 unfolding listBy
-returns-2 c = simp (c .walking2 .ensures, c .before .before .before .before .before .var-of .ensures, eq-eqb _ _ (c .before .before .before .before .before .before .if2 .taken), ne-eqb _ _ (c .before .before .before .before .before .before .before .if1 .left))
+returns-2 c =
+    let at-shared-slice-known9 = c .before in let at-var-of = at-shared-slice-known9 .before .before .before .before in let at-if2 = at-var-of .before in
+    simp (c .walking2 .ensures, at-var-of .var-of .ensures, eq-eqb _ _ (at-if2 .if2 .taken), ne-eqb _ _ (at-if2 .before .if1 .left))
 
 var-of-requires-2 : tie.Need-var-of-requires-2
 var-of-requires-2 c κs = search needs
@@ -65,13 +69,18 @@ walking-requires-3 c κs = search needs
 
 returns-3 : tie.Need-returns-3
 unfolding listBy
-returns-3 c = simp (c .walking3 .ensures, c .before .before .before .before .before .var-of2 .ensures, eq-eqb _ _ (c .before .before .before .before .before .before .if3 .taken), ne-eqb _ _ (c .before .before .before .before .before .before .before .if2 .left), ne-eqb _ _ (c .before .before .before .before .before .before .before .before .if1 .left))
+returns-3 c =
+    let at-shared-slice-known13 = c .before in let at-var-of2 = at-shared-slice-known13 .before .before .before .before in let at-if3 = at-var-of2 .before in
+    let at-if2 = at-if3 .before in
+    simp (c .walking3 .ensures, at-var-of2 .var-of2 .ensures, eq-eqb _ _ (at-if3 .if3 .taken), ne-eqb _ _ (at-if2 .if2 .left), ne-eqb _ _ (at-if2 .before .if1 .left))
 
 later-list-of-requires : tie.Need-later-list-of-requires
 later-list-of-requires c κs = search needs
 
 returns-4 : tie.Need-returns-4
-returns-4 c = let a = c .before .before .before .before .before .args in rw (c .later-list-of .ensures, ne-eqb (a .phase) 3 (c .before .before .before .if1 .left), ne-eqb (a .phase) 4 (c .before .before .if2 .left), ne-eqb (a .phase) 5 (c .before .if3 .left))
+returns-4 c =
+    let at-if2 = c .before .before in let a = at-if2 .before .before .before .args in
+    rw (c .later-list-of .ensures, ne-eqb (a .phase) 3 (at-if2 .before .if1 .left), ne-eqb (a .phase) 4 (at-if2 .if2 .left), ne-eqb (a .phase) 5 (c .before .if3 .left))
 
 pub list-of-spec : {M : Type 1} → statement M
 list-of-spec =

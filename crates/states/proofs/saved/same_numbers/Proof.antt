@@ -32,8 +32,9 @@ shared-slice-read-if1-2 c = search needs
 
 returns : tie.Need-returns Inv-loop μ-loop
 returns c =
-    let l = c .before .before .before .before .loop in
-    let a = c .before .before .before .before .before .args in
+    let at-loop = c .before .before .before .before in
+    let l = at-loop .loop in
+    let a = at-loop .before .args in
     let t = c .before .before .before .loop-test .taken in
     differ (a .a .now) (a .s .now) (l .i) (omega arith) (omega arith) (c .if1 .taken) ∙ sym (l .inv .1)
 
@@ -45,8 +46,9 @@ loop-less c = search needs
 
 loop-again : tie.Need-loop-again Inv-loop μ-loop
 loop-again c =
-    let l = c .before .before .before .before .loop in
-    let a = c .before .before .before .before .before .args in
+    let at-loop = c .before .before .before .before in
+    let l = at-loop .loop in
+    let a = at-loop .before .args in
     let t = c .before .before .before .loop-test .taken in
     (omega arith, l .inv .1 ∙ agree (a .a .now) (a .s .now) (l .i) (omega arith) (omega arith) (c .if1 .left))
 

@@ -80,7 +80,8 @@ same-length c = simp length-set
 
 returns : tie.Need-returns
 returns c =
-    let a = c .before .before .before .before .before .before .before .args in
+    let at-d = c .before .before .before in
+    let a = at-d .before .before .before .before .args in
     let l = a .s .now in
     let rest : List ℕ = saveLevels (a .up) ++ (a .location ∷ []) in
     let h : length l ≡ stateLength = search needs in

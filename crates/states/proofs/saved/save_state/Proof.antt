@@ -27,16 +27,16 @@ location-in-requires : tie.Need-location-in-requires Inv-loop μ-loop
 location-in-requires c κs = search needs
 
 save-rest-requires : tie.Need-save-rest-requires Inv-loop μ-loop
-save-rest-requires c κs = c .before .before .before .before .before .pre .0
+save-rest-requires c κs = let at-levels-in = c .before in let at-start = at-levels-in .before .before .before .before in at-start .pre .0
 
 loop-holds : tie.Need-loop-holds Inv-loop μ-loop
 loop-holds c =
+    let at-levels-in = c .before .before .before .before in let at-start = at-levels-in .before .before .before .before in
     let rest = c .before .before .save-rest in
     let place = c .before .before .before .location-in in
-    let up = c .before .before .before .before .levels-in in
-    let n = c .before .before .before .before .before .before .stage-numbers in
-    let a = c .before .before .before .before .before .before .before .before in
-    (search needs, search (needs, n .ok), rw (rest .ensures) (rest-long (a .args .s .now) (up .result) (place .result) (a .pre .0)), refl)
+    let up = at-levels-in .levels-in in
+    let n = at-levels-in .before .before .stage-numbers in
+    (search needs, search (needs, n .ok), rw (rest .ensures) (rest-long (at-start .args .s .now) (up .result) (place .result) (at-start .pre .0)), refl)
 
 mul-s : tie.Need-mul-s Inv-loop μ-loop
 mul-s c = search needs
@@ -58,9 +58,10 @@ loop-less c = search needs
 
 loop-again : tie.Need-loop-again Inv-loop μ-loop
 loop-again c =
+    let at-save-rest = c .before .before .before .before in
     let l = c .before .loop in
-    let rest = c .before .before .before .before .save-rest in
-    let n = c .before .before .before .before .before .before .before .before .stage-numbers in
+    let rest = at-save-rest .save-rest in
+    let n = at-save-rest .before .before .before .before .stage-numbers in
     let t = c .loop-test .taken in (
       omega arith,
       l .inv .1,
@@ -74,15 +75,15 @@ same-length c = search needs
 returns : tie.Need-returns Inv-loop μ-loop
 unfolding save
 returns c =
+    let at-s = c .before .before .before in let at-levels-in = at-s .before .before .before in let at-start = at-levels-in .before .before .before .before in
     let l = c .before .loop in
-    let rest = c .before .before .before .before .save-rest in
-    let place = c .before .before .before .before .before .location-in in
-    let up = c .before .before .before .before .before .before .levels-in in
-    let n = c .before .before .before .before .before .before .before .before .stage-numbers in
-    let a = c .before .before .before .before .before .before .before .before .before .before in
+    let rest = at-s .before .save-rest in
+    let place = at-s .before .before .location-in in
+    let up = at-levels-in .levels-in in
+    let n = at-levels-in .before .before .stage-numbers in
     let t = c .loop-test .left in
-    let head = take 12 (a .args .s .now) in
-    let long : length head ≡ 12 = length-take-le 12 (a .args .s .now) (omega (arith, a .pre .0)) in
+    let head = take 12 (at-start .args .s .now) in
+    let long : length head ≡ 12 = length-take-le 12 (at-start .args .s .now) (omega (arith, at-start .pre .0)) in
     l .inv .3
     ∙ copied-all (n .result) _ head (saveLevels (up .result) ++ (place .result ∷ [])) (l .i) (rest .ensures) (omega arith) (omega arith)
     ∙ rw (n .ensures, up .ensures, place .ensures)

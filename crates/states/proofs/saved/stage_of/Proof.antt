@@ -27,7 +27,9 @@ list-of-requires c κs = search needs
 
 returns-4 : tie.Need-returns-4
 unfolding stageBy
-returns-4 c = let a = c .before .before .before .before .before .args in rw (c .list-of .ensures, ne-eqb (a .phase) 0 (c .before .before .before .if1 .left), ne-eqb (a .phase) 1 (c .before .before .if2 .left), ne-eqb (a .phase) 2 (c .before .if3 .left))
+returns-4 c =
+    let at-if2 = c .before .before in let a = at-if2 .before .before .before .args in
+    rw (c .list-of .ensures, ne-eqb (a .phase) 0 (at-if2 .before .if1 .left), ne-eqb (a .phase) 1 (at-if2 .if2 .left), ne-eqb (a .phase) 2 (c .before .if3 .left))
 
 pub stage-of-spec : {M : Type 1} → statement M
 stage-of-spec =

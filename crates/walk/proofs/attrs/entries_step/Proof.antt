@@ -30,10 +30,13 @@ refused-requires : tie.Need-refused-requires
 refused-requires c κs = search needs
 
 returns : tie.Need-returns
-returns c = c .refused .ensures ∙ step-refused _ _ _ _ _ _ (led _ _ _ (c .before .before .before .before .before .before .before .link-from .ensures) (c .before .before .before .before .before .l .given .1)) (c .before .before .before .type-number .ensures) (c .before .before .entry-number .ensures .0) (c .before .if1 .taken)
+returns c =
+    let at-if1 = c .before in let at-l = at-if1 .before .before .before .before in
+    c .refused .ensures ∙ step-refused _ _ _ _ _ _ (led _ _ _ (at-l .before .before .link-from .ensures) (at-l .l .given .1))
+    (at-if1 .before .before .type-number .ensures) (at-if1 .before .entry-number .ensures .0) (at-if1 .if1 .taken)
 
 add-t14 : tie.Need-add-t14
-add-t14 c = omega (arith, led-small _ _ _ (c .before .before .before .before .before .before .link-from .ensures) _ (c .before .before .before .before .l .given .1))
+add-t14 c = let at-l = c .before .before .before .before in omega (arith, led-small _ _ _ (at-l .before .before .link-from .ensures) _ (at-l .l .given .1))
 
 one-more-requires : tie.Need-one-more-requires
 one-more-requires c κs = search needs
@@ -60,7 +63,11 @@ returns-3 : tie.Need-returns-3
 returns-3 c = c .entries-over .ensures ∙ step-over _ _ _ (led _ _ _ (c .before .before .before .link-from .ensures) (c .before .enum-told2 .given .1))
 
 returns-4 : tie.Need-returns-4
-returns-4 c = c .taken .ensures ∙ step-taken _ _ _ _ _ _ (led _ _ _ (c .before .before .before .before .before .before .before .before .before .before .link-from .ensures) (c .before .before .before .before .before .before .before .before .l .given .1)) (c .before .before .before .before .before .before .type-number .ensures) (c .before .before .before .before .before .entry-number .ensures .0) (c .before .before .before .before .if1 .left) _ (rw (c .before .before .before .one-more .ensures, c .before .greater .ensures, c .before .before .after-at .ensures .0))
+returns-4 c =
+    let at-after-at = c .before .before in let at-if1 = at-after-at .before .before in let at-l = at-if1 .before .before .before .before in
+    c .taken .ensures ∙ step-taken _ _ _ _ _ _ (led _ _ _ (at-l .before .before .link-from .ensures) (at-l .l .given .1))
+    (at-if1 .before .before .type-number .ensures) (at-if1 .before .entry-number .ensures .0) (at-if1 .if1 .left) _
+    (rw (at-after-at .before .one-more .ensures, c .before .greater .ensures, at-after-at .after-at .ensures .0))
 
 pub entries-step-spec : {M : Type 1} → statement M
 entries-step-spec =

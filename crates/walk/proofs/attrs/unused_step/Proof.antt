@@ -27,10 +27,13 @@ refused-requires : tie.Need-refused-requires
 refused-requires c κs = search needs
 
 returns : tie.Need-returns
-returns c = c .refused .ensures ∙ step-refused _ _ _ _ _ _ (led _ _ _ (c .before .before .before .before .before .before .before .link-from .ensures) (c .before .before .before .before .before .l .given .1)) (c .before .before .before .unused-type .ensures) (c .before .before .unused-number .ensures) (c .before .if1 .taken)
+returns c =
+    let at-if1 = c .before in let at-l = at-if1 .before .before .before .before in
+    c .refused .ensures ∙ step-refused _ _ _ _ _ _ (led _ _ _ (at-l .before .before .link-from .ensures) (at-l .l .given .1))
+    (at-if1 .before .before .unused-type .ensures) (at-if1 .before .unused-number .ensures) (at-if1 .if1 .taken)
 
 add-t10 : tie.Need-add-t10
-add-t10 c = omega (arith, led-small _ _ _ (c .before .before .before .before .before .before .link-from .ensures) _ (c .before .before .before .before .l .given .1))
+add-t10 c = let at-l = c .before .before .before .before in omega (arith, led-small _ _ _ (at-l .before .before .link-from .ensures) _ (at-l .l .given .1))
 
 taken-requires : tie.Need-taken-requires
 taken-requires c κs = search needs
@@ -42,7 +45,10 @@ returns-3 : tie.Need-returns-3
 returns-3 c = step-over _ _ _ (led _ _ _ (c .before .before .link-from .ensures) (c .enum-told2 .given .1))
 
 returns-4 : tie.Need-returns-4
-returns-4 c = c .taken .ensures ∙ step-taken _ _ _ _ _ _ (led _ _ _ (c .before .before .before .before .before .before .before .link-from .ensures) (c .before .before .before .before .before .l .given .1)) (c .before .before .before .unused-type .ensures) (c .before .before .unused-number .ensures) (c .before .if1 .left) _ refl
+returns-4 c =
+    let at-if1 = c .before in let at-l = at-if1 .before .before .before .before in
+    c .taken .ensures ∙ step-taken _ _ _ _ _ _ (led _ _ _ (at-l .before .before .link-from .ensures) (at-l .l .given .1))
+    (at-if1 .before .before .unused-type .ensures) (at-if1 .before .unused-number .ensures) (at-if1 .if1 .left) _ refl
 
 pub unused-step-spec : {M : Type 1} → statement M
 unused-step-spec =

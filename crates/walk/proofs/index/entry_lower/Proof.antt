@@ -18,13 +18,21 @@ entry-refused-requires : tie.Need-entry-refused-requires
 entry-refused-requires c κs = search needs
 
 returns : tie.Need-returns
-returns c = let a = c .before .before .before .before .before in c .entry-refused .ensures ∙ lower-late (a .args .f .now) (a .args .u) (a .args .x) (a .args .i) (a .args .covered) (a .args .e) (c .before .before .before .unless-passed .result) (c .before .before .lower-number .result) (a .args .room) (c .before .before .before .unless-passed .ensures) (c .before .before .lower-number .ensures .0) (a .pre .3) (c .before .if1 .taken)
+returns c =
+    let at-if1 = c .before in let at-unless-passed = at-if1 .before .before in let at-start = at-unless-passed .before .before in
+    c .entry-refused .ensures ∙ lower-late (at-start .args .f .now) (at-start .args .u) (at-start .args .x) (at-start .args .i) (at-start .args .covered)
+    (at-start .args .e) (at-unless-passed .unless-passed .result) (at-if1 .before .lower-number .result) (at-start .args .room)
+    (at-unless-passed .unless-passed .ensures) (at-if1 .before .lower-number .ensures .0) (at-start .pre .3) (at-if1 .if1 .taken)
 
 enter-requires : tie.Need-enter-requires
 enter-requires c κs = let p = c .before .before .before .before .pre in (omega (arith, c .before .lower-number .ensures .1 (c .if1 .left), p .2 .inside (p .3)), omega (arith, p .0, p .2 .link))
 
 returns-2 : tie.Need-returns-2
-returns-2 c = let a = c .before .before .before .before .before in lower-on (a .args .f .now) (a .args .u) (a .args .x) (a .args .i) (a .args .covered) (a .args .e) (c .before .before .before .unless-passed .result) (c .before .before .lower-number .result) (a .args .room) (c .before .before .before .unless-passed .ensures) (c .before .before .lower-number .ensures .0) (a .pre .3) (c .before .if1 .left) (c .enter .result) (c .enter .ensures)
+returns-2 c =
+    let at-if1 = c .before in let at-unless-passed = at-if1 .before .before in let at-start = at-unless-passed .before .before in
+    lower-on (at-start .args .f .now) (at-start .args .u) (at-start .args .x) (at-start .args .i) (at-start .args .covered) (at-start .args .e)
+    (at-unless-passed .unless-passed .result) (at-if1 .before .lower-number .result) (at-start .args .room) (at-unless-passed .unless-passed .ensures)
+    (at-if1 .before .lower-number .ensures .0) (at-start .pre .3) (at-if1 .if1 .left) (c .enter .result) (c .enter .ensures)
 
 pub entry-lower-spec : {M : Type 1} → statement M
 entry-lower-spec =

@@ -15,25 +15,43 @@ entry-at-requires : tie.Need-entry-at-requires
 entry-at-requires c κs = search needs
 
 entry-faulty-requires : tie.Need-entry-faulty-requires
-entry-faulty-requires c κs = let a = c .before .before .before .before .before in let e = c .before .before .entry-at .ensures .1 in (rw (a .pre .0) (bytes-small (a .args .f .now) (a .args .u .kind) (a .args .u .vdr)), e .order, e .small)
+entry-faulty-requires c κs =
+    let at-entry-at = c .before .before in let at-start = at-entry-at .before .before .before in let e = at-entry-at .entry-at .ensures .1 in
+    (rw (at-start .pre .0) (bytes-small (at-start .args .f .now) (at-start .args .u .kind) (at-start .args .u .vdr)), e .order, e .small)
 
 returns : tie.Need-returns
-returns c = let a = c .before .before .before .before .before .before in let is = c .before .before .before .entry-at .ensures .0 ∙ ap (entryOf (a .args .f .now) (a .args .x) (a .args .i) (a .args .floor)) (c .before .before .before .before .most-of .ensures) in let e = c .before .before .before .entry-at .result in c .entry-faulty .ensures ∙ ap (λ (v : Variable). entryFaulty (a .args .f .now) v (a .args .room) e) (a .pre .0) ∙ faulty-step (a .args .f .now) (a .args .u) (a .args .x) (a .args .i) (a .args .covered) (a .args .room) e (c .before .if1 .taken) ∙ ap (entryStep (a .args .f .now) (a .args .u) (a .args .x) (a .args .i) (a .args .covered) (a .args .room)) is
+returns c =
+    let at-entry-at = c .before .before .before in let at-start = at-entry-at .before .before .before in
+    let is = at-entry-at .entry-at .ensures .0 ∙ ap (entryOf (at-start .args .f .now) (at-start .args .x) (at-start .args .i) (at-start .args .floor)) (at-entry-at .before .most-of .ensures) in
+    let e = at-entry-at .entry-at .result in
+    c .entry-faulty .ensures ∙ ap (λ (v : Variable). entryFaulty (at-start .args .f .now) v (at-start .args .room) e) (at-start .pre .0) ∙ faulty-step (at-start .args .f .now)
+    (at-start .args .u) (at-start .args .x) (at-start .args .i) (at-start .args .covered) (at-start .args .room) e (c .before .if1 .taken) ∙ ap (entryStep (at-start .args .f .now) (at-start .args .u) (at-start .args .x) (at-start .args .i) (at-start .args .covered) (at-start .args .room))
+    is
 
 is-index-requires : tie.Need-is-index-requires
 is-index-requires c κs = search needs
 
 entry-lower-requires : tie.Need-entry-lower-requires
-entry-lower-requires c κs = let a = c .before .before .before .before .before .before .before in (a .pre .1, a .pre .2, c .before .before .before .before .entry-at .ensures .1, c .before .before .if1 .left)
+entry-lower-requires c κs =
+    let at-if1 = c .before .before in let at-entry-at = at-if1 .before .before in let at-start = at-entry-at .before .before .before in
+    (at-start .pre .1, at-start .pre .2, at-entry-at .entry-at .ensures .1, at-if1 .if1 .left)
 
 returns-2 : tie.Need-returns-2
-returns-2 c = let a = c .before .before .before .before .before .before .before .before in let is = c .before .before .before .before .before .entry-at .ensures .0 ∙ ap (entryOf (a .args .f .now) (a .args .x) (a .args .i) (a .args .floor)) (c .before .before .before .before .before .before .most-of .ensures) in simp (c .entry-lower .ensures, ← is, ← c .before .before .is-index .ensures, c .before .if2 .taken)
+returns-2 c =
+    let at-if2 = c .before in let at-entry-at = at-if2 .before .before .before .before in let at-start = at-entry-at .before .before .before in
+    let is = at-entry-at .entry-at .ensures .0 ∙ ap (entryOf (at-start .args .f .now) (at-start .args .x) (at-start .args .i) (at-start .args .floor)) (at-entry-at .before .most-of .ensures) in
+    simp (c .entry-lower .ensures, ← is, ← at-if2 .before .is-index .ensures, at-if2 .if2 .taken)
 
 entry-values-requires : tie.Need-entry-values-requires
-entry-values-requires c κs = let a = c .before .before .before .before .before .before .before in (a .pre .0, a .pre .1, a .pre .2, c .before .before .before .before .entry-at .ensures .1, c .before .before .if1 .left)
+entry-values-requires c κs =
+    let at-if1 = c .before .before in let at-entry-at = at-if1 .before .before in let at-start = at-entry-at .before .before .before in
+    (at-start .pre .0, at-start .pre .1, at-start .pre .2, at-entry-at .entry-at .ensures .1, at-if1 .if1 .left)
 
 returns-3 : tie.Need-returns-3
-returns-3 c = let a = c .before .before .before .before .before .before .before .before in let is = c .before .before .before .before .before .entry-at .ensures .0 ∙ ap (entryOf (a .args .f .now) (a .args .x) (a .args .i) (a .args .floor)) (c .before .before .before .before .before .before .most-of .ensures) in simp (c .entry-values .ensures, ← is, ← c .before .before .is-index .ensures, c .before .if2 .left)
+returns-3 c =
+    let at-if2 = c .before in let at-entry-at = at-if2 .before .before .before .before in let at-start = at-entry-at .before .before .before in
+    let is = at-entry-at .entry-at .ensures .0 ∙ ap (entryOf (at-start .args .f .now) (at-start .args .x) (at-start .args .i) (at-start .args .floor)) (at-entry-at .before .most-of .ensures) in
+    simp (c .entry-values .ensures, ← is, ← at-if2 .before .is-index .ensures, at-if2 .if2 .left)
 
 pub entry-step-spec : {M : Type 1} → statement M
 entry-step-spec =

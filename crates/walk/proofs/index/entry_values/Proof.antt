@@ -20,7 +20,12 @@ entry-refused-requires : tie.Need-entry-refused-requires
 entry-refused-requires c κs = search needs
 
 returns : tie.Need-returns
-returns c = let a = c .before .before .before .before .before in c .entry-refused .ensures ∙ values-late (a .args .f .now) (a .args .u) (a .args .x) (a .args .i) (a .args .covered) (a .args .e) (c .before .before .before .type-number .result) (c .before .before .values-number .result) (c .before .before .before .type-number .ensures) (c .before .before .values-number .ensures .0 ∙ ap (λ (v : Variable). valuesNumber (a .args .f .now) v (a .args .e)) (a .pre .0)) (a .pre .4) (c .before .if1 .taken)
+returns c =
+    let at-if1 = c .before in let at-type-number = at-if1 .before .before in let at-start = at-type-number .before .before in
+    c .entry-refused .ensures ∙ values-late (at-start .args .f .now) (at-start .args .u) (at-start .args .x) (at-start .args .i) (at-start .args .covered)
+    (at-start .args .e) (at-type-number .type-number .result) (at-if1 .before .values-number .result) (at-type-number .type-number .ensures)
+    (at-if1 .before .values-number .ensures .0 ∙ ap (λ (v : Variable). valuesNumber (at-start .args .f .now) v (at-start .args .e)) (at-start .pre .0))
+    (at-start .pre .4) (at-if1 .if1 .taken)
 
 is-covered-requires : tie.Need-is-covered-requires
 is-covered-requires c κs = let a = c .before .before .before .before in let v = ap (λ (w : Variable). w .fault) (a .pre .0) in let z = c .before .values-number .ensures .1 (c .if1 .left) in let h = vdr-inside (a .args .f .now) (a .args .u .kind) (a .args .u .vdr) (sym v ∙ z) in omega (arith, h)
@@ -32,10 +37,17 @@ add-enter-2 : tie.Need-add-enter-2
 add-enter-2 c = search needs
 
 enter-requires : tie.Need-enter-requires
-enter-requires c κs = let a = c .before .before .before .before .before .before in (a .pre .3 .inside (a .pre .4), a .pre .1)
+enter-requires c κs =
+    let at-if1 = c .before .before in let at-start = at-if1 .before .before .before .before in
+    (at-start .pre .3 .inside (at-start .pre .4), at-start .pre .1)
 
 returns-2 : tie.Need-returns-2
-returns-2 c = let a = c .before .before .before .before .before .before .before in values-on (a .args .f .now) (a .args .u) (a .args .x) (a .args .i) (a .args .covered) (a .args .e) (c .before .before .before .before .before .type-number .result) (c .before .before .before .before .values-number .result) (c .before .before .before .before .before .type-number .ensures) (c .before .before .before .before .values-number .ensures .0 ∙ ap (λ (v : Variable). valuesNumber (a .args .f .now) v (a .args .e)) (a .pre .0)) (a .pre .4) (c .before .before .before .if1 .left) (c .enter .result) (c .enter .ensures ∙ ap (λ (b : Bool). entered (a .args .f .now) (a .args .u) (a .args .x) (a .args .i + 1) (a .args .e .last + 1) (a .args .covered || b)) (c .before .before .is-covered .ensures))
+returns-2 c =
+    let at-if1 = c .before .before .before in let at-type-number = at-if1 .before .before in let at-start = at-type-number .before .before in
+    values-on (at-start .args .f .now) (at-start .args .u) (at-start .args .x) (at-start .args .i) (at-start .args .covered) (at-start .args .e)
+    (at-type-number .type-number .result) (at-if1 .before .values-number .result) (at-type-number .type-number .ensures)
+    (at-if1 .before .values-number .ensures .0 ∙ ap (λ (v : Variable). valuesNumber (at-start .args .f .now) v (at-start .args .e)) (at-start .pre .0))
+    (at-start .pre .4) (at-if1 .if1 .left) (c .enter .result) (c .enter .ensures ∙ ap (λ (b : Bool). entered (at-start .args .f .now) (at-start .args .u) (at-start .args .x) (at-start .args .i + 1) (at-start .args .e .last + 1) (at-start .args .covered || b)) (c .before .before .is-covered .ensures))
 
 pub entry-values-spec : {M : Type 1} → statement M
 entry-values-spec =

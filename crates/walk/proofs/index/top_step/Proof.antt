@@ -30,10 +30,15 @@ refused-requires : tie.Need-refused-requires
 refused-requires c κs = search needs
 
 returns : tie.Need-returns
-returns c = c .refused .ensures ∙ step-refused _ _ _ _ _ _ (led _ _ _ (c .before .before .before .before .before .before .before .link-from .ensures) (c .before .before .before .before .before .l .given .1)) (c .before .before .before .type-number .ensures) (c .before .before .vxr .ensures .0) (c .before .if1 .taken)
+returns c =
+    let at-vxr = c .before .before in let at-l = at-vxr .before .before .before in
+    c .refused .ensures ∙ step-refused _ _ _ _ _ _ (led _ _ _ (at-l .before .before .link-from .ensures) (at-l .l .given .1))
+    (at-vxr .before .type-number .ensures) (at-vxr .vxr .ensures .0) (c .before .if1 .taken)
 
 enter-requires : tie.Need-enter-requires
-enter-requires c κs = (omega (arith, c .before .vxr .ensures .1 (c .if1 .left)), led-small _ _ _ (c .before .before .before .before .before .before .link-from .ensures) _ (c .before .before .before .before .l .given .1))
+enter-requires c κs =
+    let at-l = c .before .before .before .before in
+    (omega (arith, c .before .vxr .ensures .1 (c .if1 .left)), led-small _ _ _ (at-l .before .before .link-from .ensures) _ (at-l .l .given .1))
 
 taken-requires : tie.Need-taken-requires
 taken-requires c κs = search needs
@@ -45,7 +50,10 @@ returns-3 : tie.Need-returns-3
 returns-3 c = c .chain-over .ensures ∙ step-over _ _ _ (led _ _ _ (c .before .before .before .link-from .ensures) (c .before .enum-told2 .given .1))
 
 returns-4 : tie.Need-returns-4
-returns-4 c = c .taken .ensures ∙ step-taken _ _ _ _ _ _ (led _ _ _ (c .before .before .before .before .before .before .before .before .link-from .ensures) (c .before .before .before .before .before .before .l .given .1)) (c .before .before .before .before .type-number .ensures) (c .before .before .before .vxr .ensures .0) (c .before .before .if1 .left) _ (c .before .enter .ensures)
+returns-4 c =
+    let at-if1 = c .before .before in let at-vxr = at-if1 .before in let at-l = at-vxr .before .before .before in
+    c .taken .ensures ∙ step-taken _ _ _ _ _ _ (led _ _ _ (at-l .before .before .link-from .ensures) (at-l .l .given .1)) (at-vxr .before .type-number .ensures)
+    (at-vxr .vxr .ensures .0) (at-if1 .if1 .left) _ (c .before .enter .ensures)
 
 pub top-step-spec : {M : Type 1} → statement M
 top-step-spec =

@@ -58,27 +58,39 @@ returns c = let a = c .before .before .before .before .args in c .start-step .en
 
 returns-2 : tie.Need-returns-2
 unfolding walkStepBy
-returns-2 c = let a = c .before .before .before .before .before .args in c .vars-step .ensures ∙ ap (walkStepBy (a .f .now) (a .near) (a .room)) (sym (c .before .before .w .given .1))
+returns-2 c =
+    let at-w = c .before .before in let a = at-w .before .before .before .args in
+    c .vars-step .ensures ∙ ap (walkStepBy (a .f .now) (a .near) (a .room)) (sym (at-w .w .given .1))
 
 returns-3 : tie.Need-returns-3
 unfolding walkStepBy
-returns-3 c = let a = c .before .before .before .before .before .args in c .chain-step .ensures ∙ ap (walkStepBy (a .f .now) (a .near) (a .room)) (sym (c .before .before .w2 .given .1))
+returns-3 c =
+    let at-w2 = c .before .before in let a = at-w2 .before .before .before .args in
+    c .chain-step .ensures ∙ ap (walkStepBy (a .f .now) (a .near) (a .room)) (sym (at-w2 .w2 .given .1))
 
 returns-4 : tie.Need-returns-4
 unfolding walkStepBy
-returns-4 c = let a = c .before .before .before .before .before .args in c .entry-step .ensures ∙ ap (walkStepBy (a .f .now) (a .near) (a .room)) (sym (c .before .before .w3 .given .1))
+returns-4 c =
+    let at-w3 = c .before .before in let a = at-w3 .before .before .before .args in
+    c .entry-step .ensures ∙ ap (walkStepBy (a .f .now) (a .near) (a .room)) (sym (at-w3 .w3 .given .1))
 
 returns-5 : tie.Need-returns-5
 unfolding walkStepBy
-returns-5 c = let a = c .before .before .before .before .before .args in c .attrs-step .ensures ∙ ap (walkStepBy (a .f .now) (a .near) (a .room)) (sym (c .before .before .w4 .given .1))
+returns-5 c =
+    let at-w4 = c .before .before in let a = at-w4 .before .before .before .args in
+    c .attrs-step .ensures ∙ ap (walkStepBy (a .f .now) (a .near) (a .room)) (sym (at-w4 .w4 .given .1))
 
 returns-6 : tie.Need-returns-6
 unfolding walkStepBy
-returns-6 c = let a = c .before .before .before .before .before .args in c .entries-step .ensures ∙ ap (walkStepBy (a .f .now) (a .near) (a .room)) (sym (c .before .before .w5 .given .1))
+returns-6 c =
+    let at-w5 = c .before .before in let a = at-w5 .before .before .before .args in
+    c .entries-step .ensures ∙ ap (walkStepBy (a .f .now) (a .near) (a .room)) (sym (at-w5 .w5 .given .1))
 
 returns-7 : tie.Need-returns-7
 unfolding walkStepBy
-returns-7 c = let a = c .before .before .before .before .before .args in c .unused-step .ensures ∙ ap (walkStepBy (a .f .now) (a .near) (a .room)) (sym (c .before .before .w6 .given .1))
+returns-7 c =
+    let at-w6 = c .before .before in let a = at-w6 .before .before .before .args in
+    c .unused-step .ensures ∙ ap (walkStepBy (a .f .now) (a .near) (a .room)) (sym (at-w6 .w6 .given .1))
 
 pub step-spec : {M : Type 1} → statement M
 step-spec =

@@ -23,16 +23,23 @@ type-number-requires : tie.Need-type-number-requires
 type-number-requires c κs = search needs
 
 var-number-requires : tie.Need-var-number-requires
-var-number-requires c κs = let t = led-to _ _ _ (c .before .before .before .before .link-from .ensures) _ (c .before .before .l .given .1) in rw (t .1) at (c .before .before .before .before .before .before .pre (t .0))
+var-number-requires c κs =
+    let at-l = c .before .before in let at-link-from = at-l .before .before in let t = led-to _ _ _ (at-link-from .link-from .ensures) _ (at-l .l .given .1) in
+    rw (t .1) at (at-link-from .before .before .pre (t .0))
 
 refused-requires : tie.Need-refused-requires
 refused-requires c κs = search needs
 
 returns : tie.Need-returns
-returns c = c .refused .ensures ∙ step-refused _ _ _ _ _ _ (led _ _ _ (c .before .before .before .before .before .before .before .link-from .ensures) (c .before .before .before .before .before .l .given .1)) (c .before .before .before .type-number .ensures) (c .before .before .var-number .ensures .0) (c .before .if1 .taken)
+returns c =
+    let at-if1 = c .before in let at-l = at-if1 .before .before .before .before in
+    c .refused .ensures ∙ step-refused _ _ _ _ _ _ (led _ _ _ (at-l .before .before .link-from .ensures) (at-l .l .given .1))
+    (at-if1 .before .before .type-number .ensures) (at-if1 .before .var-number .ensures .0) (at-if1 .if1 .taken)
 
 into-index-requires : tie.Need-into-index-requires
-into-index-requires c κs = (c .before .var-number .ensures .1 (c .if1 .left), led-small _ _ _ (c .before .before .before .before .before .before .link-from .ensures) _ (c .before .before .before .before .l .given .1))
+into-index-requires c κs =
+    let at-l = c .before .before .before .before in
+    (c .before .var-number .ensures .1 (c .if1 .left), led-small _ _ _ (at-l .before .before .link-from .ensures) _ (at-l .l .given .1))
 
 taken-requires : tie.Need-taken-requires
 taken-requires c κs = search needs
@@ -44,7 +51,10 @@ returns-3 : tie.Need-returns-3
 returns-3 c = c .vars-over .ensures ∙ step-over _ _ _ (led _ _ _ (c .before .before .before .link-from .ensures) (c .before .enum-told2 .given .1))
 
 returns-4 : tie.Need-returns-4
-returns-4 c = c .taken .ensures ∙ step-taken _ _ _ _ _ _ (led _ _ _ (c .before .before .before .before .before .before .before .before .link-from .ensures) (c .before .before .before .before .before .before .l .given .1)) (c .before .before .before .before .type-number .ensures) (c .before .before .before .var-number .ensures .0) (c .before .before .if1 .left) _ (c .before .into-index .ensures)
+returns-4 c =
+    let at-if1 = c .before .before in let at-l = at-if1 .before .before .before .before in
+    c .taken .ensures ∙ step-taken _ _ _ _ _ _ (led _ _ _ (at-l .before .before .link-from .ensures) (at-l .l .given .1))
+    (at-if1 .before .before .type-number .ensures) (at-if1 .before .var-number .ensures .0) (at-if1 .if1 .left) _ (c .before .into-index .ensures)
 
 pub vars-step-spec : {M : Type 1} → statement M
 vars-step-spec =
