@@ -1,8 +1,8 @@
 -- The used entries of a VXR, one at a time. Assumes nothing.
-use mathlib.Core.Path.{_≡_, sym, ap}
+use mathlib.Core.Path.{_≡_, sym, ap, _∙_}
 use mathlib.Core.Bool.{true, false, cond}
 use mathlib.Core.List.{List}
-use Prim.Native.Nat.{ℕ, zero, suc, _+_, _<_}
+use Prim.Native.Nat.{ℕ, suc, _+_, _-_, _≤_, _<_}
 use native.Mathlib.Omega.{arith}
 use native.Mathlib.Numerals.{add-one}
 use borrow.Author.Tests.{eq-eqb, ne-eqb, leb-true}
@@ -17,8 +17,8 @@ use Rattle.lookup.specs.Indexes.{scanned}
 use Rattle.lookup.specs.Bounds.{EntryFits}
 
 -- the entry that covers a record has small numbers
-pub covering-fits : (f : List ℕ) (x r : ℕ) (e : Entry) → Bounds f x e → entryCovers e r ≡ true → EntryFits r e
-covering-fits f x r e b c =
+pub covering-fits : {f : List ℕ} {x r : ℕ} {e : Entry} → Bounds f x e → entryCovers e r ≡ true → EntryFits r e
+covering-fits {f} {x} {r} {e} b c =
     record {
       first = leb-true (e .first) r (both (leb (e .first) r) (leb r (e .last)) c .0);
       last = leb-true r (e .last) (both (leb (e .first) r) (leb r (e .last)) c .1);
@@ -26,26 +26,37 @@ covering-fits f x r e b c =
       link = b .link;
     }
 
-module _ (f : List ℕ) (x r most i floor : ℕ) (e : Entry) (is : e ≡ entryOf f x i floor most) where
-  -- one entry looked at, n more to come
-  abbrev looked : ℕ → Entry → Scan
-  looked n d = cond (eqb (d .fault) 0) (cond (entryCovers d r) (Covering d) (scanned f x r most n (suc i) (suc (d .last)))) Broken
+-- what was asked of the used entries of the VXR at x is still asked of those from i on, none of which may begin below lowest
+pub record StillScans (f : List ℕ) (x r most used floor i lowest : ℕ) : Type 0 where
+  pub upto : i ≤ used
+  pub small : lowest ≤ 2147483648
+  pub same : scanned f x r most used 0 floor ≡ scanned f x r most (used - i) i lowest
 
-  first-looked : (n : ℕ) → scanned f x r most (suc n) i floor ≡ looked n e
+module _ {f : List ℕ} {x r most used floor i lowest : ℕ} (q : StillScans f x r most used floor i lowest) where
+  -- the entry e is looked at
+  module _ {e : Entry} (is : e ≡ entryOf f x i lowest most) (some : i < used) where
+    abbrev looked : ℕ → Entry → Scan
+    looked n d = cond (eqb (d .fault) 0) (cond (entryCovers d r) (Covering d) (scanned f x r most n (suc i) (suc (d .last)))) Broken
+
+    first-looked : scanned f x r most used 0 floor ≡ looked (used - suc i) e
+    unfolding scanned
+    first-looked =
+        let one : used - i ≡ suc (used - suc i) = omega (arith, some) in
+        q .same ∙ ap (λ (n : ℕ). scanned f x r most n i lowest) one ∙ ap (looked (used - suc i)) (sym is)
+
+    pub scan-broken : (e .fault ≡ 0 → ⊥) → Broken ≡ scanned f x r most used 0 floor
+    scan-broken z = rw (first-looked, ne-eqb (e .fault) 0 z)
+
+    module _ (right : e .fault ≡ 0) where
+      pub scan-covering : entryCovers e r ≡ true → Covering e ≡ scanned f x r most used 0 floor
+      scan-covering c = rw (first-looked, eq-eqb (e .fault) 0 right, c)
+
+      pub scan-more : entryCovers e r ≡ false → scanned f x r most used 0 floor ≡ scanned f x r most (used - (i + 1)) (i + 1) (e .last + 1)
+      scan-more c = rw (first-looked, eq-eqb (e .fault) 0 right, c, add-one, add-one)
+
+  pub scan-none : used ≤ i → Passed lowest ≡ scanned f x r most used 0 floor
   unfolding scanned
-  first-looked n = ap (looked n) (sym is)
-
-  pub scan-broken : (n : ℕ) → 0 < n → (e .fault ≡ 0 → ⊥) → Broken ≡ scanned f x r most n i floor
-  scan-broken zero h z = absurd (omega arith)
-  scan-broken (suc n) h z = rw (first-looked n, ne-eqb (e .fault) 0 z)
-
-  pub scan-covering : (n : ℕ) → 0 < n → e .fault ≡ 0 → entryCovers e r ≡ true → Covering e ≡ scanned f x r most n i floor
-  scan-covering zero h z c = absurd (omega arith)
-  scan-covering (suc n) h z c = rw (first-looked n, eq-eqb (e .fault) 0 z, c)
-
-  pub scan-more : (n k : ℕ) → n ≡ suc k → e .fault ≡ 0 → entryCovers e r ≡ false → scanned f x r most n i floor ≡ scanned f x r most k (i + 1) (e .last + 1)
-  scan-more n k h z c = rw (h, first-looked k, eq-eqb (e .fault) 0 z, c, add-one, add-one)
-
-pub scan-none : (f : List ℕ) (x r most i floor n : ℕ) → n ≡ 0 → Passed floor ≡ scanned f x r most n i floor
-unfolding scanned
-scan-none f x r most i floor n h = rw h
+  scan-none h =
+      let none : used - i ≡ 0 = omega (arith, h) in
+      let passed : Passed lowest ≡ scanned f x r most (used - i) i lowest = rw none in
+      passed ∙ sym (q .same)

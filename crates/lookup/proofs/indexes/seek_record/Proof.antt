@@ -1,19 +1,15 @@
 use borrow.Author.Needs.{needs}
 use borrow.Author.Tests.{not-true, not-false}
-use mathlib.Core.Path.{_≡_, refl, sym, _∙_}
-use Prim.Native.Nat.{_+_, _-_, _≤_}
-use lib.ListN.{length}
+use mathlib.Core.Path.{refl, sym, _∙_}
 use native.Mathlib.Omega.{arith}
-use Rattle.records.specs.Layout.{headOfIndex}
-use Rattle.lookup.specs.Indexes.{indexed}
-use Rattle.lookup.proofs.Seeks.{seek-over, seek-unmet, seek-met, seek-last, last-fits}
+use Rattle.lookup.proofs.Seeks.{StillSeeks, seek-over, seek-unmet, seek-met, seek-last, last-fits}
 use Rattle.lookup.proofs.indexes.seek_record.Statement.{statement}
 use Rattle.lookup.proofs.indexes.seek_record.Tie as tie
 
 -- The chain is followed VXR by VXR. What remains is always the same question, asked from the link at p, with ranges from floor on and left
 -- more records that may be met; left falls.
 abbrev Inv-loop : tie.InvT-loop
-Inv-loop f v r allowed p₀ floor₀ left₀ p floor left = (p + 4 ≤ length f) × (floor ≤ 2147483648) × (indexed f r (headOfIndex v) 0 allowed ≡ indexed f r p floor left)
+Inv-loop f v r allowed p₀ floor₀ left₀ p floor left = StillSeeks f v r allowed p floor left
 
 abbrev μ-loop : tie.MeasureT-loop
 μ-loop f v r allowed p₀ floor₀ left₀ p floor left = left
@@ -22,7 +18,7 @@ add-p : tie.Need-add-p Inv-loop μ-loop
 add-p c = search needs
 
 loop-holds : tie.Need-loop-holds Inv-loop μ-loop
-loop-holds c = (omega (arith, c .before .pre), omega arith, refl)
+loop-holds c = record { lies = omega (arith, c .before .pre); small = omega arith; same = refl }
 
 link-at-requires : tie.Need-link-at-requires Inv-loop μ-loop
 link-at-requires c κs = search needs
@@ -31,10 +27,7 @@ returns : tie.Need-returns Inv-loop μ-loop
 returns c =
     let link = c .before in
     let at-loop = link .before .before in
-    let a = at-loop .before .before .args in
-    let l = at-loop .loop in
-    let x = link .link-at in
-    (seek-over (a .f .now) (a .r) (l .p) (l .floor) (x .result) (x .ensures .0) (l .left) (link .before .loop-test .taken) (c .if1 .taken) ∙ sym (l .inv .2), tt)
+    (seek-over (at-loop .loop .inv) (link .link-at .ensures .0) (link .before .loop-test .taken) (c .if1 .taken), tt)
 
 index-met-requires : tie.Need-index-met-requires Inv-loop μ-loop
 index-met-requires c κs = search needs
@@ -44,11 +37,8 @@ returns-2 c =
     let met = c .before in
     let link = met .before .before in
     let at-loop = link .before .before in
-    let a = at-loop .before .before .args in
-    let l = at-loop .loop in
-    let x = link .link-at in
     let m = sym (met .index-met .ensures .0) ∙ not-true (met .index-met .result) (c .if2 .taken) in
-    (seek-unmet (a .f .now) (a .r) (l .p) (l .floor) (x .result) (x .ensures .0) (l .left) (link .before .loop-test .taken) (met .before .if1 .left) m ∙ sym (l .inv .2), tt)
+    (seek-unmet (at-loop .loop .inv) (link .link-at .ensures .0) (link .before .loop-test .taken) (met .before .if1 .left) m, tt)
 
 sub-left : tie.Need-sub-left Inv-loop μ-loop
 sub-left c = search needs
@@ -63,7 +53,7 @@ nat-at-requires : tie.Need-nat-at-requires Inv-loop μ-loop
 nat-at-requires c κs = omega (arith, c .before .index-met .ensures .1 (not-false (c .before .index-met .result) (c .if2 .left)))
 
 scan-entries-requires : tie.Need-scan-entries-requires Inv-loop μ-loop
-scan-entries-requires c κs = let at-if1 = c .before .before .before in let at-loop = at-if1 .before .before .before in at-loop .loop .inv .1
+scan-entries-requires c κs = let at-if1 = c .before .before .before in let at-loop = at-if1 .before .before .before in at-loop .loop .inv .small
 
 enum-known-s : tie.Need-enum-known-s Inv-loop μ-loop
 enum-known-s c = search needs
@@ -75,7 +65,7 @@ returns-3 c =
     let link = met .before .before in
     let at-loop = link .before .before in
     let here = not-false (met .index-met .result) (scan .before .before .if2 .left) in
-    let t = at-loop .loop .inv .2 ∙ seek-met _ _ _ _ _ (link .link-at .ensures .0) _ (link .before .loop-test .taken) (met .before .if1 .left) (sym (met .index-met .ensures .0) ∙ here) _ (scan .before .nat-at .ensures .0) _ (scan .scan-entries .ensures .0) in
+    let t = seek-met (at-loop .loop .inv) (link .link-at .ensures .0) (link .before .loop-test .taken) (met .before .if1 .left) (sym (met .index-met .ensures .0) ∙ here) (scan .before .nat-at .ensures .0) (scan .scan-entries .ensures .0) in
     (sym (rw (c .before .s .given .1) at t), rw (c .before .s .given .1) at (scan .scan-entries .ensures .1))
 
 enum-known-s-2 : tie.Need-enum-known-s-2 Inv-loop μ-loop
@@ -97,8 +87,12 @@ loop-again c =
     let link = met .before .before in
     let at-loop = link .before .before in
     let here = not-false (met .index-met .result) (scan .before .before .if2 .left) in
-    let t = at-loop .loop .inv .2 ∙ seek-met _ _ _ _ _ (link .link-at .ensures .0) _ (link .before .loop-test .taken) (met .before .if1 .left) (sym (met .index-met .ensures .0) ∙ here) _ (scan .before .nat-at .ensures .0) _ (scan .scan-entries .ensures .0) in
-    (omega (arith, met .index-met .ensures .1 here), rw (c .before .s2 .given .1) at (scan .scan-entries .ensures .1), rw (c .before .s2 .given .1) at t)
+    let t = seek-met (at-loop .loop .inv) (link .link-at .ensures .0) (link .before .loop-test .taken) (met .before .if1 .left) (sym (met .index-met .ensures .0) ∙ here) (scan .before .nat-at .ensures .0) (scan .scan-entries .ensures .0) in
+    record {
+      lies = omega (arith, met .index-met .ensures .1 here);
+      small = rw (c .before .s2 .given .1) at (scan .scan-entries .ensures .1);
+      same = rw (c .before .s2 .given .1) at t;
+    }
 
 enum-told : tie.Need-enum-told Inv-loop μ-loop
 enum-told c = search needs
@@ -110,7 +104,7 @@ returns-4 c =
     let link = met .before .before in
     let at-loop = link .before .before in
     let here = not-false (met .index-met .result) (scan .before .before .if2 .left) in
-    let t = at-loop .loop .inv .2 ∙ seek-met _ _ _ _ _ (link .link-at .ensures .0) _ (link .before .loop-test .taken) (met .before .if1 .left) (sym (met .index-met .ensures .0) ∙ here) _ (scan .before .nat-at .ensures .0) _ (scan .scan-entries .ensures .0) in
+    let t = seek-met (at-loop .loop .inv) (link .link-at .ensures .0) (link .before .loop-test .taken) (met .before .if1 .left) (sym (met .index-met .ensures .0) ∙ here) (scan .before .nat-at .ensures .0) (scan .scan-entries .ensures .0) in
     (sym (rw (c .enum-told .given .1) at t), tt)
 
 last-index-requires : tie.Need-last-index-requires Inv-loop μ-loop
@@ -120,7 +114,7 @@ returns-5 : tie.Need-returns-5 Inv-loop μ-loop
 returns-5 c =
     let a = c .before .before .before .before .args in
     let l = c .before .before .loop in
-    let t = c .last-index .ensures ∙ seek-last (a .f .now) (a .r) (l .p) (l .floor) (l .left) (omega (arith, c .before .loop-test .left)) ∙ sym (l .inv .2) in
+    let t = c .last-index .ensures ∙ seek-last (l .inv) (omega (arith, c .before .loop-test .left)) in
     (t, rw (c .last-index .ensures) (last-fits (a .f .now) (a .r) (l .p)))
 
 pub seek-record-spec : {M : Type 1} → statement M

@@ -1,19 +1,15 @@
-use Rattle.lookup.proofs.Links.{none-left}
 use borrow.Author.Tests.{not-true, not-false}
-use Prim.Native.Nat.{_+_, _≤_}
-use mathlib.Core.Path.{_≡_, sym, _∙_}
-use lib.ListN.{length}
+use mathlib.Core.Path.{sym, _∙_}
 use native.Mathlib.Omega.{arith}
 use borrow.Author.Needs.{needs}
-use Rattle.lookup.specs.Lists.{sought}
-use Rattle.lookup.proofs.Links.{over-here, broken-here, found-here, goes-on}
+use Rattle.lookup.proofs.Links.{StillSought, over-here, broken-here, found-here, goes-on, none-left}
 use Rattle.lookup.proofs.lists.seek.Statement.{statement}
 use Rattle.lookup.proofs.lists.seek.Tie as tie
 
 -- The list is followed link by link. What remains is always the same question, asked from the link at p, at the place i, with left more
 -- records that may be met; left falls.
 abbrev Inv-loop : tie.InvT-loop
-Inv-loop f t w link allowed p₀ i₀ left₀ p i left = (i + left ≡ allowed) × (p + 4 ≤ length f) × (sought f t w link 0 allowed ≡ sought f t w p i left)
+Inv-loop f t w link allowed p₀ i₀ left₀ p i left = StillSought f t w link allowed p i left
 
 abbrev μ-loop : tie.MeasureT-loop
 μ-loop f t w link allowed p₀ i₀ left₀ p i left = left
@@ -31,9 +27,7 @@ returns : tie.Need-returns Inv-loop μ-loop
 returns c =
     let link = c .before .before in
     let at-loop = link .before .before in
-    let a = at-loop .before .before .args in
-    let l = at-loop .loop in
-    c .over .ensures ∙ sym (l .inv .2 ∙ over-here (a .f .now) (a .t) (a .w) (l .p) (l .i) _ (link .link-at .ensures .0) (l .left) (link .before .loop-test .taken) (c .before .if1 .taken))
+    c .over .ensures ∙ sym (over-here (at-loop .loop .inv) (link .link-at .ensures .0) (link .before .loop-test .taken) (c .before .if1 .taken))
 
 is-met-requires : tie.Need-is-met-requires Inv-loop μ-loop
 is-met-requires c κs = search needs
@@ -43,10 +37,8 @@ returns-2 c =
     let met = c .before in
     let link = met .before .before in
     let at-loop = link .before .before in
-    let a = at-loop .before .before .args in
-    let l = at-loop .loop in
     let m = sym (met .is-met .ensures .0) ∙ not-true _ (c .if2 .taken) in
-    sym (l .inv .2 ∙ broken-here (a .f .now) (a .t) (a .w) (l .p) (l .i) _ (link .link-at .ensures .0) (met .before .if1 .left) (l .left) (link .before .loop-test .taken) m)
+    sym (broken-here (at-loop .loop .inv) (link .link-at .ensures .0) (link .before .loop-test .taken) (met .before .if1 .left) m)
 
 sub-left : tie.Need-sub-left Inv-loop μ-loop
 sub-left c = search needs
@@ -59,11 +51,9 @@ returns-3 c =
     let met = c .before .before .before in
     let link = met .before .before in
     let at-loop = link .before .before in
-    let a = at-loop .before .before .args in
-    let l = at-loop .loop in
     let m = sym (met .is-met .ensures .0) ∙ not-false _ (c .before .before .if2 .left) in
     let here = sym (c .before .is-wanted .ensures) ∙ c .if3 .taken in
-    sym (l .inv .2 ∙ found-here (a .f .now) (a .t) (a .w) (l .p) (l .i) _ (link .link-at .ensures .0) (met .before .if1 .left) m (l .left) (link .before .loop-test .taken) here)
+    sym (found-here (at-loop .loop .inv) (link .link-at .ensures .0) (link .before .loop-test .taken) (met .before .if1 .left) m here)
 
 cast-p : tie.Need-cast-p Inv-loop μ-loop
 cast-p c = search needs
@@ -82,22 +72,21 @@ loop-again c =
     let met = c .before .before .before in
     let link = met .before .before in
     let at-loop = link .before .before in
-    let a = at-loop .before .before .args in
-    let l = at-loop .loop in
     let kept = not-false _ (c .before .before .if2 .left) in
     let m = sym (met .is-met .ensures .0) ∙ kept in
     let other = sym (c .before .is-wanted .ensures) ∙ c .if3 .left in
-    let on = goes-on (a .f .now) (a .t) (a .w) (l .p) (l .i) _ (link .link-at .ensures .0) (met .before .if1 .left) m (l .left) (link .before .loop-test .taken) other in
-    (omega arith, omega (arith, met .is-met .ensures .1 kept), l .inv .2 ∙ on)
+    record {
+      met = omega arith;
+      lies = omega (arith, met .is-met .ensures .1 kept);
+      same = goes-on (at-loop .loop .inv) (link .link-at .ensures .0) (link .before .loop-test .taken) (met .before .if1 .left) m other;
+    }
 
 last-link-requires : tie.Need-last-link-requires Inv-loop μ-loop
 last-link-requires c κs = search needs
 
 returns-4 : tie.Need-returns-4 Inv-loop μ-loop
 returns-4 c =
-    let a = c .before .before .before .before .args in
-    let l = c .before .before .loop in
-    c .last-link .ensures ∙ sym (l .inv .2 ∙ none-left (a .f .now) (a .t) (a .w) (l .p) (l .i) (l .left) (omega arith))
+    c .last-link .ensures ∙ sym (none-left (c .before .before .loop .inv) (omega arith))
 
 pub seek-spec : {M : Type 1} → statement M
 seek-spec =
