@@ -1,9 +1,7 @@
-use mathlib.Core.Path.{_≡_, _∙_, sym}
-use Prim.Native.Nat.{_+_, _≤_}
-use lib.ListN.{length}
+use mathlib.Core.Path.{_∙_, sym}
 use borrow.Author.Tests.{not-true, not-false}
-use Rattle.marks.specs.Marks.{leftOf, leftFrom}
-use Rattle.marks.proofs.Onward.{at-end, past-end, not-claimed, not-followed, next-one, none-left}
+use Rattle.marks.specs.Marks.{leftOf}
+use Rattle.marks.proofs.Onward.{StillLeft, at-end, past-end, not-claimed, not-followed, next-one, none-left}
 use borrow.Author.Needs.{needs}
 use native.Mathlib.Omega.{arith}
 use Rattle.marks.proofs.left.Statement.{statement}
@@ -11,7 +9,7 @@ use Rattle.marks.proofs.left.Tie as tie
 
 -- From record to record, with as many records left as bytes at first. The invariant: what is found from o on in n records is what is found from 8 on.
 abbrev Inv-loop : tie.InvT-loop
-Inv-loop f m end o₀ n₀ o n = (o ≤ length f + 8) × (leftOf f m ≡ leftFrom f m n o)
+Inv-loop f m end o₀ n₀ o n = StillLeft f m o n
 
 abbrev μ-loop : tie.MeasureT-loop
 μ-loop f m end o₀ n₀ o n = n
@@ -29,10 +27,7 @@ found-at-requires c κs = omega arith
 returns : tie.Need-returns Inv-loop μ-loop
 returns c =
     let at-loop = c .before .before .before in
-    let l = at-loop .loop in
-    let a = at-loop .before .before .before .before .args in
-    let end = at-loop .before .end .ensures .0 in
-    c .found-at .ensures ∙ at-end (a .f .now) (a .m .now) (l .n) (l .o) (c .before .before .loop-test .taken) (c .before .if1 .taken ∙ end) ∙ sym (l .inv .1)
+    c .found-at .ensures ∙ at-end (at-loop .loop .inv) (c .before .before .loop-test .taken) (at-loop .before .end .ensures .0) (c .before .if1 .taken)
 
 add-if2 : tie.Need-add-if2 Inv-loop μ-loop
 add-if2 c = omega arith
@@ -44,11 +39,8 @@ returns-2 : tie.Need-returns-2 Inv-loop μ-loop
 returns-2 c =
     let at-size = c .before in
     let at-loop = at-size .before .before .before in
-    let l = at-loop .loop in
-    let a = at-loop .before .before .before .before .args in
-    let end = at-loop .before .end .ensures .0 in
     let more = at-size .before .before .loop-test .taken in
-    c .found-at2 .ensures ∙ past-end (a .f .now) (a .m .now) (l .n) (l .o) more (λ e. at-size .before .if1 .left (e ∙ sym end)) (rw end at (at-size .if2 .taken)) ∙ sym (l .inv .1)
+    c .found-at2 .ensures ∙ past-end (at-loop .loop .inv) more (at-loop .before .end .ensures .0) (at-size .before .if1 .left) (at-size .if2 .taken)
 
 is-unclaimed-requires : tie.Need-is-unclaimed-requires Inv-loop μ-loop
 is-unclaimed-requires c κs = (search needs, omega (arith, c .if2 .left, c .before .before .before .before .end .ensures .1))
@@ -61,14 +53,10 @@ returns-3 c =
     let at-claim = c .before in
     let at-size = at-claim .before .before in
     let at-loop = at-size .before .before .before in
-    let l = at-loop .loop in
-    let a = at-loop .before .before .before .before .args in
-    let end = at-loop .before .end .ensures .0 in
     let more = at-size .before .before .loop-test .taken in
     c .found-at3 .ensures
-    ∙ not-claimed (a .f .now) (a .m .now) (l .n) (l .o) more (λ e. at-size .before .if1 .left (e ∙ sym end)) (rw end at (at-size .if2 .left))
+    ∙ not-claimed (at-loop .loop .inv) more (at-loop .before .end .ensures .0) (at-size .before .if1 .left) (at-size .if2 .left)
     (sym (at-claim .before .is-unclaimed .ensures) ∙ at-claim .if3 .taken)
-    ∙ sym (l .inv .1)
 
 is-followed-requires : tie.Need-is-followed-requires Inv-loop μ-loop
 is-followed-requires c κs =
@@ -84,15 +72,11 @@ returns-4 c =
     let at-claim = at-follower .before .before in
     let at-size = at-claim .before .before in
     let at-loop = at-size .before .before .before in
-    let l = at-loop .loop in
-    let a = at-loop .before .before .before .before .args in
-    let end = at-loop .before .end .ensures .0 in
     let more = at-size .before .before .loop-test .taken in
     let k = at-follower .before .is-followed in
     c .found-at4 .ensures
-    ∙ not-followed (a .f .now) (a .m .now) (l .n) (l .o) more (λ e. at-size .before .if1 .left (e ∙ sym end)) (rw end at (at-size .if2 .left))
+    ∙ not-followed (at-loop .loop .inv) more (at-loop .before .end .ensures .0) (at-size .before .if1 .left) (at-size .if2 .left)
     (sym (at-claim .before .is-unclaimed .ensures) ∙ at-claim .if3 .left) (sym (k .ensures .0) ∙ not-true (k .result) (at-follower .if4 .taken))
-    ∙ sym (l .inv .1)
 
 nat-at-requires : tie.Need-nat-at-requires Inv-loop μ-loop
 nat-at-requires c κs =
@@ -114,21 +98,14 @@ loop-less c = search needs
 loop-again : tie.Need-loop-again Inv-loop μ-loop
 loop-again c =
     let at-follower = c .before in
+    let at-claim = at-follower .before .before in
+    let at-size = at-claim .before .before in
+    let at-loop = at-size .before .before .before in
+    let more = at-size .before .before .loop-test .taken in
     let k = at-follower .before .is-followed in
-    let t = not-false (k .result) (at-follower .if4 .left) in (
-      omega (arith, k .ensures .1 t, c .nat-at .ensures .0),
-      let at-claim = at-follower .before .before in
-          let at-size = at-claim .before .before in
-          let at-loop = at-size .before .before .before in
-          let l = at-loop .loop in
-          let a = at-loop .before .before .before .before .args in
-          let end = at-loop .before .end .ensures .0 in
-          let more = at-size .before .before .loop-test .taken in
-          l .inv .1
-          ∙ next-one (a .f .now) (a .m .now) (l .n) (l .o) more (λ e. at-size .before .if1 .left (e ∙ sym end)) (rw end at (at-size .if2 .left))
-          (sym (at-claim .before .is-unclaimed .ensures) ∙ at-claim .if3 .left) (sym (k .ensures .0) ∙ t)
-          ∙ rw (c .nat-at .ensures .0),
-    )
+    let t = not-false (k .result) (at-follower .if4 .left) in
+    let onward = next-one (at-loop .loop .inv) more (at-loop .before .end .ensures .0) (at-size .before .if1 .left) (at-size .if2 .left) (sym (at-claim .before .is-unclaimed .ensures) ∙ at-claim .if3 .left) (sym (k .ensures .0) ∙ t) in
+    record { near = omega (arith, k .ensures .1 t, c .nat-at .ensures .0); same = onward ∙ rw (c .nat-at .ensures .0) }
 
 found-at-requires-5 : tie.Need-found-at-requires-5 Inv-loop μ-loop
 found-at-requires-5 c κs = omega arith
@@ -136,9 +113,7 @@ found-at-requires-5 c κs = omega arith
 returns-5 : tie.Need-returns-5 Inv-loop μ-loop
 returns-5 c =
     let at-loop = c .before .before in
-    let l = at-loop .loop in
-    let a = at-loop .before .before .before .before .args in
-    c .found-at5 .ensures ∙ none-left (a .f .now) (a .m .now) (l .n) (l .o) (c .before .loop-test .left) ∙ sym (l .inv .1)
+    c .found-at5 .ensures ∙ none-left (at-loop .loop .inv) (c .before .loop-test .left)
 
 pub left-spec : {M : Type 1} → statement M
 left-spec =
