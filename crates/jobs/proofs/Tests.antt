@@ -96,21 +96,22 @@ any-same t u (suc n) h = let a = any-same t u n (λ k l. h k (omega arith)) in l
 
 -- ---- a round that is not refused
 module _ (p : ℕ → Parts) (n files marks q : ℕ) (runs : refusedOf p n files marks q ≡ false) where
-  all : (eqb q 0 ≡ false) × ((ltb 8 n ≡ false) × ((anyOutside p n files marks ≡ false) × (anyClash p n ≡ false)))
+  all : (eqb q 0 ≡ false) × (ltb 8 n ≡ false) × (anyOutside p n files marks ≡ false) × (anyClash p n ≡ false)
   unfolding refusedOf
   all =
       let a = neither (eqb q 0) (ltb 8 n || (anyOutside p n files marks || anyClash p n)) runs in
       let b = neither (ltb 8 n) (anyOutside p n files marks || anyClash p n) (a .1) in
-      (a .0, (b .0, neither (anyOutside p n files marks) (anyClash p n) (b .1)))
+      let c = neither (anyOutside p n files marks) (anyClash p n) (b .1) in
+      (a .0, b .0, c .0, c .1)
 
   pub runs-some : 0 < q
   runs-some = let e = eqb-false q 0 (all .0) in omega (arith, e)
 
   pub runs-few : n ≤ 8
-  runs-few = ltb-false 8 n (all .1 .0)
+  runs-few = ltb-false 8 n (all .1)
 
   pub runs-inside : anyOutside p n files marks ≡ false
-  runs-inside = all .1 .1 .0
+  runs-inside = all .2
 
   pub runs-apart : anyClash p n ≡ false
-  runs-apart = all .1 .1 .1
+  runs-apart = all .3

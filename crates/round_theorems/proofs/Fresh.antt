@@ -49,6 +49,12 @@ rounded-up n q r h = (covers, least)
         let below : (l + (q - 1)) / q < suc r = div-lt-iff-lt-mul {k = q} {x = l + (q - 1)} {y = suc r} h .1 (rw (suc-mul r q) (omega arith)) in
         omega arith
 
+-- a job z of the file p has the state and the marks of c
+record StandsAt (p : List ℕ) (c : Conf) (z : Own) : Type 0 where
+  file : z .file ≡ p
+  state : z .state ≡ save (c .state)
+  marks : z .marks ≡ c .marks
+
 -- ---- the job's own, o, begun fresh
 module _ (o : Own) (q : ℕ) where
   abbrev p : List ℕ
@@ -67,23 +73,24 @@ module _ (o : Own) (q : ℕ) where
   unfolding runOf
   first = ap (λ (k : ℕ). plainRun p (o .marks) k .at) (zero-mul q)
 
-  -- what a job has where the plain run is
-  abbrev stands : Own → ℕ → Type 0
-  stands z r = (z .file ≡ p) × ((z .state ≡ save (at r .state)) × (z .marks ≡ at r .marks))
-
-  granted-at : (z : Own) (r : ℕ) → stands z r → grantOf (z .file) (z .marks) (z .state) q ≡ worked (runOf p (at r) q)
+  granted-at : (z : Own) (r : ℕ) → StandsAt p (at r) z → grantOf (z .file) (z .marks) (z .state) q ≡ worked (runOf p (at r) q)
   granted-at z r s =
-      ap (λ (x : List ℕ). grantOf x (z .marks) (z .state) q) (s .0) ∙ ap (λ (x : List ℕ). grantOf p x (z .state) q) (s .1 .1)
-      ∙ ap (λ (x : List ℕ). grantOf p (at r .marks) x q) (s .1 .0) ∙ sound-works p (at r) (sound r) q
+      ap (λ (x : List ℕ). grantOf x (z .marks) (z .state) q) (s .file) ∙ ap (λ (x : List ℕ). grantOf p x (z .state) q) (s .marks)
+      ∙ ap (λ (x : List ℕ). grantOf p (at r .marks) x q) (s .state) ∙ sound-works p (at r) (sound r) q
 
   module _ (begun : o .state ≡ save fresh) where
-    steps : (r : ℕ) → stands (grantsAlone q o r) r
+    steps : (r : ℕ) → StandsAt p (at r) (grantsAlone q o r)
     unfolding grantsAlone
-    steps zero = (refl, (begun ∙ ap (λ (c : Conf). save (c .state)) (sym first), ap (λ (c : Conf). c .marks) (sym first)))
+    steps zero =
+        record { file = refl; state = begun ∙ ap (λ (c : Conf). save (c .state)) (sym first); marks = ap (λ (c : Conf). c .marks) (sym first) }
     steps (suc r) =
         let s = steps r in
         let g = granted-at (grantsAlone q o r) r s in
-        (s .0, (ap (λ (z : Granted). z .state) g ∙ ap (λ (c : Conf). save (c .state)) (next r), ap (λ (z : Granted). z .marks) g ∙ ap (λ (c : Conf). c .marks) (next r)))
+        record {
+          file = s .file;
+          state = ap (λ (z : Granted). z .state) g ∙ ap (λ (c : Conf). save (c .state)) (next r);
+          marks = ap (λ (z : Granted). z .marks) g ∙ ap (λ (c : Conf). c .marks) (next r);
+        }
 
     answers : (r : ℕ) → grantsAlone q o (suc r) .answer ≡ answerOf (at (suc r) .state .stage)
     unfolding grantsAlone
@@ -134,7 +141,7 @@ module _ (f : List ℕ) (q : ℕ) (w : Window) (k : ℕ) (runs : NotRefused f q 
   some = runs-some (partsAt (w .rows)) (length (w .rows)) (length f) (length (w .marks)) q (not-tested f q w runs)
 
   state : (r : ℕ) → after r .state ≡ save (plainAt own q r .state)
-  state r = ap (λ (z : Own). z .state) (alone-is f q w runs k r h) ∙ steps own q begun r .1 .0
+  state r = ap (λ (z : Own). z .state) (alone-is f q w runs k r h) ∙ steps own q begun r .state
 
   answer : (r : ℕ) → after (suc r) .answer ≡ answerOf (plainAt own q (suc r) .state .stage)
   answer r = ap (λ (z : Own). z .answer) (alone-is f q w runs k (suc r) h) ∙ answers own q begun r
@@ -165,7 +172,7 @@ module _ (f : List ℕ) (q : ℕ) (w : Window) (k : ℕ) (runs : NotRefused f q 
 pub fresh-jobs : FreshJobs
 fresh-jobs f q w k runs h begun = record {
   state-is = λ r. state f q w k runs h begun r;
-  marks-are = λ r. ap (λ (z : Own). z .marks) (alone-is f q w runs k r h) ∙ steps (ownOf f w k) q begun r .1 .1;
+  marks-are = λ r. ap (λ (z : Own). z .marks) (alone-is f q w runs k r h) ∙ steps (ownOf f w k) q begun r .marks;
   answer-is = λ r. answer f q w k runs h begun r;
   location-is = λ r x y. told (ownOf f w k) q (ownOf f (roundsOf f q w r) k .state) r (state f q w k runs h begun r) x y;
   ends = λ r l. ends-there f q w k runs h begun r l;
