@@ -1,3 +1,4 @@
+use Rattle.lookup.specs.Bounds.{Opened}
 use Rattle.lookup.proofs.Opening.{opened-part}
 use Rattle.descriptors.specs.Descriptors.{dimensionSize}
 use Rattle.records.specs.Opening.{gdrAt}
@@ -19,10 +20,12 @@ returns c = simp (not-true (c .before .opens .result) (c .if1 .taken), ← c .be
 body-requires : tie.Need-body-requires
 body-requires c κs = search needs
 
+-- the file opens, so its GDR lies in the part before its end
+inside : (c : tie.After-body) → Opened (c .before .before .before .before .args .f .now) (c .body .result .now)
+inside c = opened-part _ _ (c .body .ensures) (c .before .before .opens .ensures .1 (not-false _ (c .before .if1 .left)))
+
 link-at-requires : tie.Need-link-at-requires
-link-at-requires c κs =
-    let o = opened-part (c .before .before .before .before .args .f .now) (c .body .result .now) (c .body .ensures) (c .before .before .opens .ensures .1 (not-false _ (c .before .if1 .left))) in
-    omega (arith, o .long)
+link-at-requires c κs = omega (arith, inside c .long)
 
 cast-g : tie.Need-cast-g
 cast-g c = search needs
@@ -35,17 +38,13 @@ add-nat-at c = search needs
 
 nat-at-requires : tie.Need-nat-at-requires
 unfolding gdrAt
-nat-at-requires c κs =
-    let at-if1 = c .before .before in
-    let o = opened-part (at-if1 .before .before .before .args .f .now) (c .before .body .result .now) (c .before .body .ensures) (at-if1 .before .opens .ensures .1 (not-false _ (at-if1 .if1 .left))) in
-    omega (arith, o .gdr, c .link-at .ensures .0)
+nat-at-requires c κs = omega (arith, inside (c .before) .gdr, c .link-at .ensures .0)
 
 row-field-requires : tie.Need-row-field-requires
 unfolding gdrAt
 row-field-requires c κs =
-    let at-body = c .before .before in let at-opens = at-body .before .before in
-    let o = opened-part (at-opens .before .before .args .f .now) (at-body .body .result .now) (at-body .body .ensures) (at-opens .opens .ensures .1 (not-false _ (at-body .before .if1 .left))) in
-    omega (arith, o .gdr, c .before .link-at .ensures .0, rw (c .before .link-at .ensures .0) at (c .nat-at .ensures .0))
+    let read = c .before .link-at .ensures .0 in
+    omega (arith, inside (c .before .before) .gdr, read, rw read at (c .nat-at .ensures .0))
 
 returns-2 : tie.Need-returns-2
 unfolding dimensionSize gdrAt

@@ -1,4 +1,5 @@
 use Rattle.descriptors.specs.Descriptors.{fileField}
+use Rattle.lookup.specs.Bounds.{Opened}
 use Rattle.lookup.proofs.Opening.{opened-part}
 use native.Mathlib.Omega.{arith}
 use borrow.Author.Tests.{eq-eqb, ne-eqb, not-true, not-false}
@@ -23,34 +24,27 @@ returns c = simp (not-true (c .before .opens .result) (c .if1 .taken), ← c .be
 body-requires : tie.Need-body-requires
 body-requires c κs = search needs
 
+-- the file opens, so its GDR lies in the part before its end
+inside : (c : tie.After-body) → Opened (c .before .before .before .before .args .f .now) (c .body .result .now)
+inside c = opened-part _ _ (c .body .ensures) (c .before .before .opens .ensures .1 (not-false _ (c .before .if1 .left)))
+
 sub-t8 : tie.Need-sub-t8
-sub-t8 c =
-    let at-if1 = c .before .before in
-    let o = opened-part (at-if1 .before .before .before .args .f .now) (c .before .body .result .now) (c .before .body .ensures) (at-if1 .before .opens .ensures .1 (not-false _ (at-if1 .if1 .left))) in
-    omega (arith, o .part)
+sub-t8 c = omega (arith, inside (c .before) .part)
 
 cast-t9 : tie.Need-cast-t9
-cast-t9 c =
-    let at-if1 = c .before .before in
-    let o = opened-part (at-if1 .before .before .before .args .f .now) (c .before .body .result .now) (c .before .body .ensures) (at-if1 .before .opens .ensures .1 (not-false _ (at-if1 .if1 .left))) in
-    omega (arith, o .part, o .short)
+cast-t9 c = let o = inside (c .before) in omega (arith, o .part, o .short)
 
 returns-2 : tie.Need-returns-2
 unfolding fileField
 returns-2 c =
-    let at-body = c .before in let at-if1 = at-body .before in let at-opens = at-if1 .before in let at-start = at-opens .before .before in
-    let f = at-start .args .f .now in
-    let b = at-body .body .result .now in
-    let o = opened-part (at-start .args .f .now) (at-body .body .result .now) (at-body .body .ensures) (at-opens .opens .ensures .1 (not-false _ (at-if1 .if1 .left))) in
+    let at-body = c .before in let at-if1 = at-body .before in let at-opens = at-if1 .before in let f = at-opens .before .before .args .f .now in
+    let b = at-body .body .result .now in let o = inside at-body in
     let e : length b ≡ fileEnd f = ap length (at-body .body .ensures) ∙ body-length f in
     let small : length f - length b < 2147483648 = omega (arith, o .short, o .part) in
     rw (← at-opens .opens .ensures .0, not-false (at-opens .opens .result) (at-if1 .if1 .left), eq-eqb _ _ (c .if2 .taken), toZ-pos w32 small, e)
 
 file-field-in-requires : tie.Need-file-field-in-requires
-file-field-in-requires c κs =
-    let at-if1 = c .before .before in
-    let o = opened-part (at-if1 .before .before .before .args .f .now) (c .before .body .result .now) (c .before .body .ensures) (at-if1 .before .opens .ensures .1 (not-false _ (at-if1 .if1 .left))) in
-    omega (arith, o .gdr)
+file-field-in-requires c κs = omega (arith, inside (c .before) .gdr)
 
 returns-3 : tie.Need-returns-3
 unfolding fileField
