@@ -1,6 +1,6 @@
 //! The proved checker, rounds, reader and epochs, called as C calls them (`include/tlepozaluh.h`).
 
-// The only place with unsafe code: a call of a C function cannot be written without it.
+// The only module with unsafe code: a call of a C function cannot be written without it.
 #![allow(unsafe_code)]
 
 /// How many numbers a saved state has.
@@ -44,7 +44,7 @@ mod c {
             state_len: usize,
             grant: u64,
             steps: *mut u64,
-            place: *mut u64,
+            location: *mut u64,
         ) -> i32;
         pub fn tlz_round(
             files: *const u8,
@@ -208,7 +208,7 @@ pub type Granted = (i32, u64, u64);
 
 /// A grant of steps on a saved state.
 pub fn check_grant(file: &[u8], marks: &mut [u8], state: &mut [u32], grant: u64) -> Granted {
-    let (mut steps, mut place) = (u64::MAX, u64::MAX);
+    let (mut steps, mut location) = (u64::MAX, u64::MAX);
     // SAFETY: each pointer and its length are one lent slice's, or a local number's; the borrows keep
     // what is written apart from all else.
     let answer = unsafe {
@@ -221,10 +221,10 @@ pub fn check_grant(file: &[u8], marks: &mut [u8], state: &mut [u32], grant: u64)
             state.len(),
             grant,
             &mut steps,
-            &mut place,
+            &mut location,
         )
     };
-    (answer, steps, place)
+    (answer, steps, location)
 }
 
 /// A fresh state.

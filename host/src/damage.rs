@@ -106,8 +106,8 @@ fn number(file: &[u8], offset: usize) -> i64 {
     i64::try_from(offset).ok().and_then(|at| field(file, at)).unwrap_or(0)
 }
 
-/// Places of a record's links.
-fn link_places(file: &[u8], record: &Found) -> Vec<usize> {
+/// Where in a record its links stand.
+fn link_offsets(file: &[u8], record: &Found) -> Vec<usize> {
     match record.record_type {
         1 => vec![8],
         2 => vec![8, 12, 16, 44],
@@ -134,7 +134,7 @@ pub fn links(file: &[u8]) -> Vec<usize> {
     let listed = listed_unused(file);
     let in_use = |record: &&Found| record.record_type != -1 || listed.contains(&record.offset);
     let of = |record: &Found| -> Vec<usize> {
-        link_places(file, record).into_iter().map(|at| record.offset + at).collect()
+        link_offsets(file, record).into_iter().map(|at| record.offset + at).collect()
     };
     found.iter().filter(in_use).flat_map(of).collect()
 }
@@ -190,7 +190,7 @@ pub fn start_damages(file: &[u8]) -> Vec<Damage> {
     every_value(fields, &starts(file))
 }
 
-/// Every link set to every record's start and to a place behind it: cross links and rings.
+/// Every link set to every record's start and to an offset behind it: cross links and rings.
 pub fn link_damages(file: &[u8]) -> Vec<Damage> {
     let targets: Vec<i64> = starts(file).into_iter().flat_map(|to| [to, to + 4]).collect();
     every_value(links(file), &targets)
@@ -225,7 +225,7 @@ pub fn opening_damages(file: &[u8]) -> Vec<Damage> {
     let magics = [(4, 0xCCCC_0001), (4, 0x0000_FFFE), (0, 0xCDF2_6001), (0, 0)];
     let cdr = [(8, 305), (12, 3), (20, 3), (28, 8), (28, 10), (32, 0), (32, 1), (32, 7), (16, 311)];
     let gdr_fields = [20, 24, 28, 32, 36, 40].map(|at| (gdr + at, -2));
-    let eofs = eof_values(file).into_iter().map(|eof| (eof_place(file), eof));
+    let eofs = eof_values(file).into_iter().map(|eof| (eof_offset(file), eof));
     let all = magics.into_iter().chain(cdr).chain(gdr_fields).chain(eofs);
     all.map(|(offset, value)| to_value(offset, value)).collect()
 }
@@ -354,7 +354,7 @@ fn naming_damages(file: &[u8], entry: &Used, others: &[i64]) -> Vec<Damage> {
 }
 
 /// File offset of the GDR's eof, where the CDR's link says.
-pub fn eof_place(file: &[u8]) -> usize {
+pub fn eof_offset(file: &[u8]) -> usize {
     usize::try_from(number(file, GDR_LINK)).unwrap_or(1).saturating_add(20)
 }
 
@@ -369,8 +369,8 @@ pub fn eof_values(file: &[u8]) -> Vec<i64> {
     window.into_iter().chain(about).chain(of_gdr).chain(far).collect()
 }
 
-/// Places from the file's end on, those of what looks like a record among them.
-pub fn padding_places(file: &[u8]) -> Vec<i64> {
+/// Offsets from the file's end on, those of what looks like a record among them.
+pub fn padding_offsets(file: &[u8]) -> Vec<i64> {
     let (end, length) = (body(file).len() as i64, file.len() as i64);
     let images = images(file).into_iter().map(|image| image.offset as i64);
     images.chain([end, end + 1, length - 8, length - 1, length].map(|at| at.max(end))).collect()
@@ -380,8 +380,8 @@ pub fn padding_places(file: &[u8]) -> Vec<i64> {
 /// gaps up to the greatest and past it.
 pub fn padding_damages(file: &[u8]) -> Vec<Damage> {
     let (end, length) = (body(file).len(), file.len());
-    let mut damages = every_value(vec![eof_place(file)], &eof_values(file));
-    damages.extend(every_value(links(file), &padding_places(file)));
+    let mut damages = every_value(vec![eof_offset(file)], &eof_values(file));
+    damages.extend(every_value(links(file), &padding_offsets(file)));
     if let Some(last) = records(file).last() {
         let ends = [end - 1, end + 1, end + 8, length, length + 1];
         damages.extend(ends.map(|to| to_value(last.offset, to as i64 - last.offset as i64)));
@@ -430,6 +430,6 @@ pub fn damaged(file: &[u8], damage: &Damage) -> Vec<u8> {
 fn agree(file: &mut [u8], eof: bool) {
     let length = i64::try_from(file.len()).unwrap_or(0);
     if eof {
-        put(file, eof_place(file), length);
+        put(file, eof_offset(file), length);
     }
 }

@@ -3,7 +3,7 @@
 //!
 //! For each seed a good file is built and damaged or not. Both check it, in one grant and in grants at random. Then both go on
 //! from points of the check with marks made up, from states made up, and after bytes of the file have been changed. At
-//! every stop they must agree in the answer, the steps, the place, all 34 numbers of the state and every mark, one grant must
+//! every stop they must agree in the answer, the steps, the location, all 34 numbers of the state and every mark, one grant must
 //! leave what several do, and a grant after the end must say the same again. Then both readers are asked: they must answer
 //! the same, and never 20 on an accepted file. An answer for a VAX float must be what the plainest statement of them says of
 //! the bytes that are stored there: the double, or 22 for a reserved operand; 22 must come for nothing else. On a padded
@@ -17,10 +17,10 @@ use crate::build::random::Random;
 use crate::damage::{self, Damage};
 use crate::fuzz_epochs;
 use crate::fuzz_rounds;
+use crate::locations;
 use crate::made_up::{Point, Source, BEYOND};
 use crate::padding;
 use crate::pair::{said_again, to_the_end, Compared, Pair};
-use crate::places;
 use crate::questions::{self, Given, Question};
 use crate::second::check::{self, FRESH, RUNNING};
 use crate::second::read;
@@ -85,7 +85,7 @@ impl fmt::Display for Covered {
         writeln!(out, "grants            {}", self.compared.grants)?;
         writeln!(out, "steps by phase    {}", list(&self.compared.steps))?;
         writeln!(out, "steps by levels   {}", list(&self.compared.levels))?;
-        writeln!(out, "places by answer  {}", list(&self.compared.places))?;
+        writeln!(out, "locations         {}", list(&self.compared.locations))?;
         writeln!(out, "said again        {}", list(&self.compared.repeated))?;
         writeln!(out, "short marks       {}", list(&self.short_marks))?;
         writeln!(out, "made-up marks     {}", list(&self.made_up_marks))?;
@@ -204,7 +204,7 @@ fn any_file(random: &mut Random, covered: &mut Covered) -> Vec<u8> {
 
 /// A built file, left as it is or damaged.
 pub(crate) fn draw(random: &mut Random) -> Drawn {
-    let (kind, levels) = (random.below(12), 2 + random.place(7));
+    let (kind, levels) = (random.below(12), 2 + random.size_below(7));
     let (model, built) = match kind {
         7 => build::with_levels(random.number(), levels),
         8 => build::with_levels(random.number(), 9),
@@ -251,9 +251,9 @@ fn several(file: Vec<u8>, random: &mut Random) -> Vec<u8> {
 
 fn scattered(mut file: Vec<u8>, random: &mut Random) -> Vec<u8> {
     for _ in 0..random.between(1, 8) {
-        let at = 312 + random.place(file.len().saturating_sub(312));
+        let at = 312 + random.size_below(file.len().saturating_sub(312));
         let byte = random.byte();
-        file.get_mut(at..).and_then(<[u8]>::first_mut).into_iter().for_each(|place| *place = byte);
+        file.get_mut(at..).and_then(<[u8]>::first_mut).into_iter().for_each(|old| *old = byte);
     }
     file
 }
@@ -284,22 +284,22 @@ fn with_questions(file: &[u8], random: &mut Random, covered: &mut Covered) -> Re
 
 /// Marks that are shorter than the file: 2.
 fn short_marks(file: &[u8], random: &mut Random, covered: &mut Covered) -> Result<(), String> {
-    let mut pair = Pair::fresh(&vec![7; random.place(file.len())]);
+    let mut pair = Pair::fresh(&vec![7; random.size_below(file.len())]);
     let expected = if pair.marks().len() < file.len() { 2 } else { 3 };
-    let (answer, _, place) = pair.grant(file, 1, &mut covered.compared)?;
+    let (answer, _, location) = pair.grant(file, 1, &mut covered.compared)?;
     count(&mut covered.short_marks, answer);
-    let right = (answer, place) == (expected, 0);
-    right.then_some(()).ok_or(format!("short marks: {answer}, place {place}"))
+    let right = (answer, location) == (expected, 0);
+    right.then_some(()).ok_or(format!("short marks: {answer}, location {location}"))
 }
 
 /// The whole check in one grant: its steps.
 fn whole(file: &[u8], covered: &mut Covered) -> Result<u64, String> {
     let mut pair = Pair::fresh(&vec![0xAA; file.len()]);
     let granted = pair.grant(file, u64::MAX, &mut covered.compared)?;
-    let (verdict, steps, place) = granted;
+    let (verdict, steps, location) = granted;
     count(&mut covered.verdicts, verdict);
-    if !places::is_right(file, verdict, place) {
-        return Err(format!("{verdict} at {place}, where it cannot be due"));
+    if !locations::is_right(file, verdict, location) {
+        return Err(format!("{verdict} at {location}, where it cannot be due"));
     }
     said_again(&pair, granted, &mut covered.compared)?;
     if steps > file.len() as u64 / 4 + 1 {
@@ -330,7 +330,7 @@ fn in_grants(
     (made == steps).then_some(()).ok_or(format!("{made} steps in grants, {steps} in one"))
 }
 
-/// A file of another length answers 21, or the verdict and the place, and changes nothing.
+/// A file of another length answers 21, or the verdict and the location, and changes nothing.
 fn other_file(
     pair: &Pair,
     file: &[u8],
@@ -345,7 +345,7 @@ fn other_file(
     let granted = other.grant(lent, 5, &mut covered.compared)?;
     let expected = match before {
         (RUNNING, ..) => (check::OTHER_FILE, 0, 0),
-        (answer, _, place) => (answer, 0, place),
+        (answer, _, location) => (answer, 0, location),
     };
     let same = other.state() == pair.state() && other.marks() == pair.marks();
     let right = same && granted == expected;
@@ -370,7 +370,7 @@ fn with_states(source: &Source, random: &mut Random, covered: &mut Covered) -> R
             0 => source.near(real, random),
             1 => source.in_range(random),
             2 => source.wrong_levels(random),
-            3 => source.wrong_place(random),
+            3 => source.wrong_location(random),
             4 => source.finished(random),
             _ => source.anything(random),
         };
@@ -470,7 +470,7 @@ mod tests {
         assert!(one.levels_answered.len() >= 5, "{one}");
         assert!(one.padding.len() == 5 && one.padded() > 60, "{one}");
         assert!(one.other_padding.len() > 8 && one.changes.len() == 4, "{one}");
-        assert!(one.compared.places.len() == 9 && one.compared.repeated.len() == 9, "{one}");
+        assert!(one.compared.locations.len() == 9 && one.compared.repeated.len() == 9, "{one}");
         let of = &one.rounds;
         assert!(of.windows.len() == 7 && of.states.len() == 8 && of.parts.len() == 7, "{one}");
         assert!(of.rounds[&-1] > 800 && of.rounds[&24] > 150 && of.steps.len() == 5, "{one}");

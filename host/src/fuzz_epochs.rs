@@ -205,7 +205,7 @@ const RANGES: [(i64, i64); 4] = [(0, 9999), (1, 12), (1, 31), (0, DAY - 1)];
 
 /// The date with one number out of its range: just below, just above, or far away.
 fn spoiled(mut date: [i64; 4], random: &mut Random) -> [i64; 4] {
-    let place = random.place(4);
+    let place = random.size_below(4);
     let (least, greatest) = RANGES[place];
     date[place] = match random.below(6) {
         0 | 1 => least - 1,
@@ -218,9 +218,9 @@ fn spoiled(mut date: [i64; 4], random: &mut Random) -> [i64; 4] {
 
 /// The date with one number whose lower bits alone are in its range.
 fn with_higher_bits(mut date: [i64; 4], random: &mut Random) -> [i64; 4] {
-    let place = random.place(4);
+    let place = random.size_below(4);
     let widths: &[i64] = [&[16, 32, 48][..], &[8, 16, 32], &[8, 16, 32], &[32, 40]][place];
     let width = random.one_of(widths).copied().unwrap_or(32);
-    date[place] += (random.between(1, 100) * [1, -1][random.place(2)]) << width;
+    date[place] += (random.between(1, 100) * [1, -1][random.size_below(2)]) << width;
     date
 }

@@ -75,7 +75,7 @@ pub fn try_window(random: &mut Random, covered: &mut Covered) -> Result<(), Diff
         if steps.is_empty() == (wrong == NOTHING) {
             return Err(format!("{} rounds, with {wrong} wrong", steps.len()));
         }
-        let place = random.place(begun.jobs().len());
+        let place = random.size_below(begun.jobs().len());
         as_alone(&begun, &window, place, &steps)
     });
     played.map_err(|what| Difference { file: Some(begun.files().to_vec()), what })
@@ -175,7 +175,7 @@ fn steps_kind(steps: u64) -> &'static str {
 
 /// A window of up to eight jobs, or of nine; one in four has something wrong with it, which is told.
 fn any_window(random: &mut Random, covered: &mut Covered) -> (Window, &'static str) {
-    let number = if random.once_in(40) { MOST_JOBS + 1 } else { random.place(MOST_JOBS + 1) };
+    let number = if random.once_in(40) { MOST_JOBS + 1 } else { random.size_below(MOST_JOBS + 1) };
     let loose: Vec<Loose> = (0..number).map(|_| any_job(random, covered)).collect();
     let files: Vec<&[u8]> = loose.iter().map(|job| job.file.as_slice()).collect();
     let marks: Vec<&[u8]> = loose.iter().map(|job| job.marks.as_slice()).collect();
@@ -211,7 +211,7 @@ fn any_job(random: &mut Random, covered: &mut Covered) -> Loose {
         3 => ("in range", source.in_range(random)),
         4 => ("wrong levels", source.wrong_levels(random)),
         5 => ("finished", source.finished(random)),
-        6 => ("wrong place", source.wrong_place(random)),
+        6 => ("wrong location", source.wrong_location(random)),
         7 => ("anything", source.anything(random)),
         _ => ("fresh", FRESH),
     };
@@ -269,7 +269,7 @@ fn laid(pieces: &[&[u8]], random: &mut Random) -> (Vec<u8>, Vec<Part>) {
     }
     add_gap(&mut area, random);
     for part in parts.iter_mut().filter(|part| part.length == 0) {
-        part.from = random.place(area.len() + 1);
+        part.from = random.size_below(area.len() + 1);
     }
     (area, parts)
 }
@@ -277,14 +277,14 @@ fn laid(pieces: &[&[u8]], random: &mut Random) -> (Vec<u8>, Vec<Part>) {
 /// Nothing, or some bytes that belong to no part.
 fn add_gap(area: &mut Vec<u8>, random: &mut Random) {
     if random.once_in(2) {
-        let length = area.len() + 1 + random.place(MOST_GAP);
+        let length = area.len() + 1 + random.size_below(MOST_GAP);
         area.resize(length, random.byte());
     }
 }
 
 /// Puts one of the parts where it may not lie; says how.
 fn spoil(parts: &mut [Part], area: usize, random: &mut Random) -> &'static str {
-    let place = random.place(parts.len());
+    let place = random.size_below(parts.len());
     let others = parts.iter().enumerate().filter(|(at, part)| *at != place && part.length > 0);
     let others: Vec<Part> = others.map(|(_, part)| *part).collect();
     let (Some(own), other) = (parts.get_mut(place), random.one_of(&others)) else {
@@ -293,8 +293,8 @@ fn spoil(parts: &mut [Part], area: usize, random: &mut Random) -> &'static str {
     let (what, part) = match (random.below(6), other) {
         (0, Some(other)) => ("equal parts", *other),
         (1, Some(other)) => {
-            let within = random.place(other.length);
-            let length = 1 + random.place(other.length - within);
+            let within = random.size_below(other.length);
+            let length = 1 + random.size_below(other.length - within);
             ("one inside another", Part { from: other.from + within, length })
         }
         (2 | 3, Some(other)) => {
@@ -302,11 +302,14 @@ fn spoil(parts: &mut [Part], area: usize, random: &mut Random) -> &'static str {
             ("a shared byte", Part { from, length: own.length.clamp(1, area - from) })
         }
         (4, _) => {
-            let length = 1 + random.place(own.length + 1);
-            ("an end past every number", Part { from: usize::MAX - random.place(length), length })
+            let length = 1 + random.size_below(own.length + 1);
+            (
+                "an end past every number",
+                Part { from: usize::MAX - random.size_below(length), length },
+            )
         }
         _ => {
-            let beyond = (area + 1 + random.place(3)).saturating_sub(own.length);
+            let beyond = (area + 1 + random.size_below(3)).saturating_sub(own.length);
             ("past the area", Part { from: beyond, ..*own })
         }
     };

@@ -6,7 +6,7 @@ use crate::damage::{self, Found};
 use crate::second::bytes::field;
 use crate::second::check::{Check, State, FRESH, RUNNING, STATE_LENGTH};
 use crate::second::rules::body;
-use crate::second::state::{self, FIRST_LEVEL, LEVEL_LENGTH, LEVEL_RANGES, MOST_LEVELS, PLACE};
+use crate::second::state::{self, FIRST_LEVEL, LEVEL_LENGTH, LEVEL_RANGES, LOCATION, MOST_LEVELS};
 use crate::second::state::{GREATEST_COUNT, GREATEST_LINK, GREATEST_OFFSET};
 
 /// Number 0 of every finished state: the verdicts 0 to 14, 20 and 23, each with 1 added.
@@ -56,7 +56,7 @@ pub struct Source {
     records: Vec<Found>,
     fields: Vec<usize>,
     links: Vec<usize>,
-    /// Places in the padding.
+    /// Offsets in the padding.
     padding: Vec<i64>,
     /// Values that eof may get.
     eofs: Vec<i64>,
@@ -73,7 +73,7 @@ impl Source {
             points: points(file),
             fields: records.iter().flat_map(|of| damage::control_fields(file, of)).collect(),
             links: damage::links(file),
-            padding: damage::padding_places(file),
+            padding: damage::padding_offsets(file),
             eofs: damage::eof_values(file),
             edges: edges(),
             records,
@@ -92,7 +92,7 @@ impl Source {
 
     /// Any point of the file's check.
     pub fn any_point(&self, random: &mut Random) -> &Point {
-        let place = random.place(self.points.len());
+        let place = random.size_below(self.points.len());
         &self.points[place]
     }
 
@@ -100,12 +100,12 @@ impl Source {
         random.one_of(&self.records).map_or(8, |record| record.offset)
     }
 
-    /// A place so near to the file's end that a record's fields may pass it.
+    /// An offset so near to the file's end that a record's fields may pass it.
     fn near_the_end(&self, random: &mut Random) -> usize {
-        self.end.saturating_sub(random.place(NEAR_THE_END))
+        self.end.saturating_sub(random.size_below(NEAR_THE_END))
     }
 
-    /// An edge, a place about the file's end or in the padding, a record's start or one behind it, a field's value, any
+    /// An edge, an offset about the file's end or in the padding, a record's start or one behind it, a field's value, any
     /// number.
     pub fn any_number(&self, random: &mut Random) -> u32 {
         let number = match random.below(13) {
@@ -138,7 +138,7 @@ impl Source {
             let meant = meant(&state);
             let place = match random.one_of(&meant) {
                 Some(place) if !random.once_in(12) => *place,
-                _ => random.place(STATE_LENGTH),
+                _ => random.size_below(STATE_LENGTH),
             };
             let number = self.any_number(random);
             let (least, most) = range(&state, place);
@@ -161,7 +161,7 @@ impl Source {
             state[4] = state[4].max(8);
         }
         if random.once_in(2) {
-            let count = random.place(state::most_levels(phase) + 1);
+            let count = random.size_below(state::most_levels(phase) + 1);
             (0..count).for_each(|level| set_level(&mut state, level, self.any_level(random)));
         }
         state
@@ -199,7 +199,7 @@ impl Source {
                 more.insert(0, self.any_level(random));
                 set_levels(state, &more);
             }
-            _ => set_level(state, random.place(MOST_LEVELS), self.any_level(random)),
+            _ => set_level(state, random.size_below(MOST_LEVELS), self.any_level(random)),
         }
     }
 
@@ -207,21 +207,21 @@ impl Source {
     /// there, a number past its range, or a level in a phase that has none.
     pub fn wrong_levels(&self, random: &mut Random) -> State {
         let mut state = self.in_range(random);
-        let count = 1 + random.place(MOST_LEVELS);
+        let count = 1 + random.size_below(MOST_LEVELS);
         let right = [0; MOST_LEVELS].map(|_| self.any_level(random));
         if state::most_levels(state[2]) == 0 {
             set_levels(&mut state, &right[..count]);
             return state;
         }
         set_levels(&mut state, &right[..count]);
-        let place = random.place(count);
+        let place = random.size_below(count);
         let mut wrong = right[place];
         match random.below(4) {
             0 if place + 1 < count => wrong = [0; LEVEL_LENGTH],
             1 => wrong = [wrong[0].max(1), 0, wrong[2]],
             2 => wrong = [wrong[0], 0, wrong[2].max(1)],
             _ => {
-                let number = random.place(LEVEL_LENGTH);
+                let number = random.size_below(LEVEL_LENGTH);
                 wrong[number] = LEVEL_RANGES[number].1 + 1;
             }
         }
@@ -243,23 +243,23 @@ impl Source {
             set_levels(&mut state, &[]);
         }
         if random.once_in(2) {
-            state[PLACE] = 0;
+            state[LOCATION] = 0;
         }
         state
     }
 
-    /// A finished state of any verdict, with a place of any kind; the other numbers are 0 or any.
+    /// A finished state of any verdict, with a location of any kind; the other numbers are 0 or any.
     pub fn finished(&self, random: &mut Random) -> State {
         let mut state = if random.once_in(2) { self.anything(random) } else { FRESH };
         state[0] = random.one_of(&FINISHED).copied().unwrap_or(1);
-        state[PLACE] = self.any_number(random);
+        state[LOCATION] = self.any_number(random);
         state
     }
 
-    /// Numbers in their ranges but for the place, which no state has that is not finished.
-    pub fn wrong_place(&self, random: &mut Random) -> State {
+    /// Numbers in their ranges but for the location, which no state has that is not finished.
+    pub fn wrong_location(&self, random: &mut Random) -> State {
         let mut state = if random.once_in(8) { FRESH } else { self.in_range(random) };
-        state[PLACE] = self.any_number(random).max(1);
+        state[LOCATION] = self.any_number(random).max(1);
         state
     }
 
@@ -272,9 +272,9 @@ impl Source {
             2 | 3 => {
                 for _ in 0..random.between(1, 6) {
                     let padding = random.one_of(&self.padding).map_or(0, |at| *at as usize);
-                    let places = [self.any_start(random), self.near_the_end(random), padding];
+                    let offsets = [self.any_start(random), self.near_the_end(random), padding];
                     let mark = random.byte() % 4;
-                    random.one_of(&places).into_iter().for_each(|at| set(&mut marks, *at, mark));
+                    random.one_of(&offsets).into_iter().for_each(|at| set(&mut marks, *at, mark));
                 }
             }
             _ => {}
@@ -288,7 +288,7 @@ impl Source {
         let mut file = self.file.clone();
         if random.once_in(8) {
             for _ in 0..random.between(1, 40) {
-                let at = random.place(file.len());
+                let at = random.size_below(file.len());
                 set(&mut file, at, random.byte());
             }
             return file;
@@ -303,7 +303,7 @@ impl Source {
     /// A field and another value for it: eof, the CDR's link, a record's size, any link or any field.
     fn any_change(&self, random: &mut Random) -> (usize, i64) {
         if random.once_in(12) {
-            return (damage::eof_place(&self.file), self.any_eof(random));
+            return (damage::eof_offset(&self.file), self.any_eof(random));
         }
         let at = match random.below(12) {
             0 => GDR_LINK,
@@ -333,7 +333,7 @@ impl Source {
     /// The file with another eof, and now and then another change.
     pub fn with_other_eof(&self, random: &mut Random) -> Vec<u8> {
         let mut file = if random.once_in(4) { self.changed(random) } else { self.file.clone() };
-        put(&mut file, damage::eof_place(&self.file), self.any_eof(random));
+        put(&mut file, damage::eof_offset(&self.file), self.any_eof(random));
         file
     }
 
@@ -344,7 +344,7 @@ impl Source {
         let Some(record) = random.one_of(&self.records) else {
             return (file, (state, marks));
         };
-        let bytes = 1 + random.place(record.size.min(NEAR_THE_END));
+        let bytes = 1 + random.size_below(record.size.min(NEAR_THE_END));
         let to = self.end - bytes;
         let copied = record.size.min(file.len() - to);
         file.copy_within(record.offset..record.offset + copied, to);
@@ -371,7 +371,7 @@ impl Source {
         let file = if random.once_in(2) { self.file.clone() } else { self.changed(random) };
         let padding = file.len() - self.end;
         let most = file.len().saturating_sub(SHORTEST).min(padding + 2 * NEAR_THE_END);
-        shortened(&file, point, file.len() - random.place(most + 1))
+        shortened(&file, point, file.len() - random.size_below(most + 1))
     }
 }
 
@@ -394,7 +394,7 @@ fn meant(state: &State) -> Vec<usize> {
 
 /// The least and the greatest that a number may be in the state's phase; those before number 4 may be any.
 fn range(state: &State, place: usize) -> (u32, u32) {
-    if place == PLACE {
+    if place == LOCATION {
         return (0, 0);
     }
     if let Some(of_level) = place.checked_sub(FIRST_LEVEL) {
@@ -407,7 +407,7 @@ fn range(state: &State, place: usize) -> (u32, u32) {
 
 /// The places of the levels' records in a state.
 fn level_records() -> impl Iterator<Item = usize> {
-    (FIRST_LEVEL..PLACE).step_by(LEVEL_LENGTH)
+    (FIRST_LEVEL..LOCATION).step_by(LEVEL_LENGTH)
 }
 
 /// The levels of a state, as many as there may be.
@@ -434,5 +434,5 @@ fn any_size(random: &mut Random) -> i64 {
 }
 
 fn set(bytes: &mut [u8], at: usize, byte: u8) {
-    bytes.get_mut(at).into_iter().for_each(|place| *place = byte);
+    bytes.get_mut(at).into_iter().for_each(|old| *old = byte);
 }

@@ -1,5 +1,5 @@
 //! The proved checker and the second one side by side: each grant is made to both and compared in all that it leaves,
-//! which is the answer, the steps, the place, every number of the state and every mark.
+//! which is the answer, the steps, the location, every number of the state and every mark.
 
 use crate::bindings::{check_grant, Granted};
 use crate::second::check::{watched_grant, End, State, FRESH, OTHER_FILE, RUNNING};
@@ -25,9 +25,9 @@ pub struct Compared {
     pub ends: BTreeMap<(u32, i32), u64>,
     /// Those that gave 20.
     pub bad_steps: BTreeMap<BadStep, u64>,
-    /// Grants that refused and gave a place, by answer.
-    pub places: BTreeMap<i32, u64>,
-    /// Grants after the end that gave a place again, by answer.
+    /// Grants that refused and gave a location, by answer.
+    pub locations: BTreeMap<i32, u64>,
+    /// Grants after the end that gave a location again, by answer.
     pub repeated: BTreeMap<i32, u64>,
 }
 
@@ -55,13 +55,13 @@ impl Compared {
     }
 
     /// Adds a grant by what it left.
-    fn add(&mut self, (answer, steps, place): Granted) {
+    fn add(&mut self, (answer, steps, location): Granted) {
         self.grants += 1;
         count(&mut self.answers, answer);
-        match (place, steps) {
+        match (location, steps) {
             (0, _) => {}
             (_, 0) => count(&mut self.repeated, answer),
-            _ => count(&mut self.places, answer),
+            _ => count(&mut self.locations, answer),
         }
     }
 
@@ -125,7 +125,7 @@ impl Pair {
         let (marks, state) = (&mut self.second_marks, &mut self.second_state);
         let second = watched_grant(file, marks, state, steps, &mut watch);
         compared.add(answer);
-        let second = (second.verdict, second.steps, second.place);
+        let second = (second.verdict, second.steps, second.location);
         let Some(wrong) = self.difference(answer, second) else {
             return Ok(answer);
         };
@@ -139,7 +139,7 @@ impl Pair {
             return Some(format!("proved {answer:?}, second {second:?}"));
         }
         if answer.2 != 0 && !matches!(answer.0, 7..=14 | 23) {
-            return Some(format!("{answer:?} has a place"));
+            return Some(format!("{answer:?} has a location"));
         }
         if self.state != self.second_state {
             return Some(format!("proved leaves {:?}, second {:?}", self.state, self.second_state));
@@ -166,8 +166,8 @@ pub fn to_the_end(
     let mut parts = Pair::new(state, marks);
     let mut in_parts = parts.grant(file, part(), compared)?;
     while in_parts.0 == RUNNING && in_parts.1 < most {
-        let (next, more, place) = parts.grant(file, part(), compared)?;
-        in_parts = (next, in_parts.1 + more, place);
+        let (next, more, location) = parts.grant(file, part(), compared)?;
+        in_parts = (next, in_parts.1 + more, location);
     }
     let same = in_parts == granted && parts.state == whole.state;
     let end = body(file).len();
@@ -184,12 +184,12 @@ pub fn to_the_end(
     Ok(granted.0)
 }
 
-/// A finished check says its verdict and its place again, in 0 steps and without a change, to a grant of nothing and to
+/// A finished check says its verdict and its location again, in 0 steps and without a change, to a grant of nothing and to
 /// one that is lent another file. After 21 a grant of nothing has no verdict.
 pub fn said_again(ended: &Pair, granted: Granted, compared: &mut Compared) -> Result<(), String> {
     let again = match granted {
         (OTHER_FILE, ..) => return Ok(()),
-        (answer, _, place) => (answer, 0, place),
+        (answer, _, location) => (answer, 0, location),
     };
     for (file, steps) in [(&[][..], 0), (&[1, 2, 3][..], 0), (&[1, 2, 3][..], 1)] {
         let mut pair = ended.clone();
@@ -206,7 +206,7 @@ mod tests {
     use super::*;
     use crate::build;
     use crate::damage::{damaged, Damage};
-    use crate::second::state::{finished, PLACE};
+    use crate::second::state::{finished, LOCATION};
 
     /// Every difference is found: in the answer, the steps, each number of the state and any mark.
     #[test]
@@ -245,8 +245,8 @@ mod tests {
         assert!(refused.grant(&other, 1, &mut compared).is_err(), "answers");
         let mut elsewhere = Pair::new(&finished(9, 504), &[]);
         assert_eq!(elsewhere.grant(&file, 0, &mut compared), Ok((9, 0, 504)));
-        elsewhere.second_state[PLACE] = 505;
-        let found = elsewhere.grant(&file, 0, &mut compared).expect_err("places");
+        elsewhere.second_state[LOCATION] = 505;
+        let found = elsewhere.grant(&file, 0, &mut compared).expect_err("locations");
         assert!(found.contains("(9, 0, 504)") && found.contains("(9, 0, 505)"), "{found}");
     }
 }

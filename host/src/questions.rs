@@ -383,7 +383,7 @@ fn own_number(file: &[u8], random: &mut Random, most: i64) -> i64 {
     }
     let records = damage::records(file);
     let record = random.one_of(&records).map_or(8, |found| found.offset);
-    let at = record.saturating_add(4 * random.place(16));
+    let at = record.saturating_add(4 * random.size_below(16));
     i64::try_from(at).ok().and_then(|at| field(file, at)).unwrap_or(0)
 }
 
@@ -391,7 +391,7 @@ fn kind(random: &mut Random, right: [i64; 2]) -> i64 {
     if random.once_in(8) {
         return random.one_of(&KINDS).copied().unwrap_or(0);
     }
-    right[random.place(2)]
+    right[random.size_below(2)]
 }
 
 /// Offsets of fields: all that are shown, their neighbours and others.
@@ -409,14 +409,14 @@ fn indices(file: &[u8], kind: i64, number: i64, random: &mut Random) -> Vec<i64>
     let sizes = read::variable(file, kind, number).map_or(Vec::new(), |of| of.sizes);
     let mut found: Vec<i64> = sizes.iter().map(|size| random.below(*size)).collect();
     if random.once_in(6) {
-        let place = random.place(found.len().max(1));
+        let place = random.size_below(found.len().max(1));
         let wrong = small(random, 3);
         found.iter_mut().skip(place).take(1).for_each(|index| *index = wrong);
     }
     match random.below(12) {
         0 => found.push(small(random, 2)),
         1 => drop(found.pop()),
-        2 => found.resize(random.place(14), 0),
+        2 => found.resize(random.size_below(14), 0),
         _ => (),
     }
     found

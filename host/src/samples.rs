@@ -72,23 +72,23 @@ pub struct Checks {
     pub first_mark: u8,
     /// How many lines the list has.
     pub lines: usize,
-    /// Its lines have the place.
-    pub places: bool,
+    /// Its lines have the location.
+    pub located: bool,
 }
 
 /// All lists of checks.
 pub const CHECKS: [Checks; 11] = [
-    Checks { folder: "", list: "checks.txt", first_mark: 0xAA, lines: 830, places: false },
-    Checks { folder: "levels", list: "checks.txt", first_mark: 0xAA, lines: 400, places: false },
-    Checks { folder: "levels", list: "checks01.txt", first_mark: 1, lines: 400, places: false },
-    Checks { folder: "padded", list: "checks.txt", first_mark: 0xAA, lines: 400, places: false },
-    Checks { folder: "padded", list: "checks01.txt", first_mark: 1, lines: 400, places: false },
-    Checks { folder: "places", list: "checks.txt", first_mark: 0xAA, lines: 400, places: true },
-    Checks { folder: "places", list: "checks01.txt", first_mark: 1, lines: 400, places: true },
-    Checks { folder: "vax", list: "checks.txt", first_mark: 0xAA, lines: 400, places: true },
-    Checks { folder: "vax", list: "checks01.txt", first_mark: 1, lines: 400, places: true },
-    Checks { folder: "rounds", list: "checks.txt", first_mark: 0xAA, lines: 400, places: true },
-    Checks { folder: "rounds", list: "checks01.txt", first_mark: 1, lines: 400, places: true },
+    Checks { folder: "", list: "checks.txt", first_mark: 0xAA, lines: 830, located: false },
+    Checks { folder: "levels", list: "checks.txt", first_mark: 0xAA, lines: 400, located: false },
+    Checks { folder: "levels", list: "checks01.txt", first_mark: 1, lines: 400, located: false },
+    Checks { folder: "padded", list: "checks.txt", first_mark: 0xAA, lines: 400, located: false },
+    Checks { folder: "padded", list: "checks01.txt", first_mark: 1, lines: 400, located: false },
+    Checks { folder: "locations", list: "checks.txt", first_mark: 0xAA, lines: 400, located: true },
+    Checks { folder: "locations", list: "checks01.txt", first_mark: 1, lines: 400, located: true },
+    Checks { folder: "vax", list: "checks.txt", first_mark: 0xAA, lines: 400, located: true },
+    Checks { folder: "vax", list: "checks01.txt", first_mark: 1, lines: 400, located: true },
+    Checks { folder: "rounds", list: "checks.txt", first_mark: 0xAA, lines: 400, located: true },
+    Checks { folder: "rounds", list: "checks01.txt", first_mark: 1, lines: 400, located: true },
 ];
 
 /// A line of a list of checks.
@@ -102,25 +102,25 @@ pub struct CheckLine {
     pub steps: u64,
     /// FNV-1a of the marks at the end.
     pub marks: u64,
-    /// The place, in a list that has it.
-    pub place: Option<u64>,
+    /// The location, in a list that has it.
+    pub location: Option<u64>,
 }
 
 impl CheckLine {
-    /// What a check left is what the line says, in the place too if the line has it.
-    pub fn says(&self, (verdict, steps, place): Granted) -> bool {
+    /// What a check left is what the line says, in the location too if the line has it.
+    pub fn says(&self, (verdict, steps, location): Granted) -> bool {
         let same = (self.verdict, self.steps) == (verdict, steps);
-        same && self.place.is_none_or(|expected| expected == place)
+        same && self.location.is_none_or(|expected| expected == location)
     }
 }
 
 /// Reads a line of a list of checks.
 pub fn check_line(line: &str) -> Option<CheckLine> {
     let words: Vec<&str> = line.split_whitespace().collect();
-    let (words, place) = match *words.as_slice() {
+    let (words, location) = match *words.as_slice() {
         [name, verdict, steps, marks] => ([name, verdict, steps, marks], None),
-        [name, verdict, steps, marks, place] => {
-            ([name, verdict, steps, marks], Some(place.parse().ok()?))
+        [name, verdict, steps, marks, location] => {
+            ([name, verdict, steps, marks], Some(location.parse().ok()?))
         }
         _ => return None,
     };
@@ -129,7 +129,7 @@ pub fn check_line(line: &str) -> Option<CheckLine> {
         verdict: words[1].parse().ok()?,
         steps: words[2].parse().ok()?,
         marks: u64::from_str_radix(words[3], 16).ok()?,
-        place,
+        location,
     })
 }
 
@@ -147,7 +147,7 @@ impl Checks {
         let text = std::fs::read_to_string(path).ok()?;
         let mut files = archived(self.folder)?;
         let lines = text.lines().map(|line| {
-            let line = check_line(line).filter(|line| line.place.is_some() == self.places)?;
+            let line = check_line(line).filter(|line| line.location.is_some() == self.located)?;
             let file = files.remove(&line.name)?;
             Some((line, file))
         });
@@ -160,7 +160,7 @@ pub const READS: [(&str, usize); 6] = [
     ("", 4623),
     ("levels", 10000),
     ("padded", 10000),
-    ("places", 10000),
+    ("locations", 10000),
     ("vax", 10000),
     ("rounds", 10000),
 ];

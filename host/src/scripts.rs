@@ -32,18 +32,18 @@ pub struct Round {
     pub answer: i32,
     /// FNV-1a of the marks area after it.
     pub marks: u64,
-    /// The last answer and the place of each row after it.
+    /// The last answer and the location of each row after it.
     pub rows: Vec<(i32, u64)>,
 }
 
-/// `Q = ANSWER FNV LAST:PLACE ..`.
+/// `Q = ANSWER FNV LAST:LOCATION ..`.
 fn round(words: &[&str]) -> Option<Round> {
     let [steps, "=", answer, marks, rows @ ..] = words else {
         return None;
     };
     let row = |word: &&str| {
-        let (last, place) = word.split_once(':')?;
-        Some((last.parse().ok()?, place.parse().ok()?))
+        let (last, location) = word.split_once(':')?;
+        Some((last.parse().ok()?, location.parse().ok()?))
     };
     Some(Round {
         steps: steps.parse().ok()?,

@@ -93,7 +93,7 @@ impl Kind {
         self.turned(sign | parts.exponent << self.width() | parts.mantissa)
     }
 
-    /// How many of the mantissa's last bits a double has no place for.
+    /// How many of the mantissa's last bits a double has no room for.
     fn beyond(self, exponent: u64) -> u64 {
         match (self, exponent) {
             (Kind::D, _) => 3,
@@ -201,7 +201,7 @@ pub const EXACT: &str = "exact";
 pub const TIE: &str = "tie";
 /// The double above is the answer.
 pub const UP: &str = "up";
-/// The double above, a power of two, is the answer: all bits that a double has a place for are ones.
+/// The double above, a power of two, is the answer: all bits that a double has room for are ones.
 pub const CARRY: &str = "carry";
 /// The answer is a subnormal double.
 pub const SUBNORMAL: &str = "subnormal";

@@ -28,7 +28,7 @@ pub fn job(row: &TlzJob) -> Job {
     }
 }
 
-/// Files side by side, each with marks of its length at the same place: the area, and a fresh job for each.
+/// Files side by side, each with marks of its length at the same offset: the area, and a fresh job for each.
 pub fn side_by_side(files: &[Vec<u8>]) -> (Vec<u8>, Vec<Job>) {
     let mut jobs: Vec<Job> = Vec::new();
     let mut from = 0;
@@ -150,7 +150,7 @@ impl Window {
     }
 }
 
-/// A place belongs to a part.
+/// An offset lies in a part.
 fn has(part: Part, at: usize) -> bool {
     at >= part.from && at - part.from < part.length
 }

@@ -56,8 +56,8 @@ fn check(kind: Kind, case: &Case, bits: u64) {
     assert!(case.double.is_none_or(|double| double == bits), "{case:?}: {bits:x}");
     let sorts = kind.sorts(kind.pattern(case.parts));
     if sorts.contains(&vax::EXACT) || sorts.contains(&vax::ZERO) {
-        let places = printed(case.value).0.len() - 2;
-        let text = format!("{:.places$e}", f64::from_bits(bits));
+        let decimals = printed(case.value).0.len() - 2;
+        let text = format!("{:.decimals$e}", f64::from_bits(bits));
         assert_eq!(printed(&text), printed(case.value), "{case:?}");
         return;
     }

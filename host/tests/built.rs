@@ -50,7 +50,7 @@ fn accepted_with_steps_and_marks() {
         let mut marks = vec![0xAA; file.len()];
         let answer = run(&file, &mut marks);
         let steps = steps(&model, records.len());
-        let expected = Granted { verdict: 0, steps, place: 0 };
+        let expected = Granted { verdict: 0, steps, location: 0 };
         assert_eq!(answer, expected, "seed {seed}");
         let ones = marks[8..].iter().filter(|mark| **mark == 1).count();
         let twos = marks[8..].iter().filter(|mark| **mark == 2).count();
@@ -87,7 +87,7 @@ fn assert_right(
     }
 }
 
-/// A question about a variable's value, mostly of places that are there.
+/// A question about a variable's value, mostly of one that is there.
 struct Question {
     record: i64,
     indices: Vec<i64>,
@@ -99,8 +99,8 @@ fn any_question(random: &mut Random, of: &Variable) -> Question {
     let record = if random.once_in(8) { of.max_rec } else { random.between(-1, near + 1) };
     let mut indices: Vec<i64> = of.sizes.iter().map(|size| random.below(*size)).collect();
     if random.once_in(8) {
-        let place = random.place(indices.len());
-        let wrong = [-1, of.sizes.get(place).copied().unwrap_or(0)][random.place(2)];
+        let place = random.size_below(indices.len());
+        let wrong = [-1, of.sizes.get(place).copied().unwrap_or(0)][random.size_below(2)];
         indices.iter_mut().skip(place).take(1).for_each(|index| *index = wrong);
     }
     if random.once_in(16) {

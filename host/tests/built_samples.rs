@@ -304,8 +304,8 @@ fn every_check() {
     for (line, file) in FOLDERS.iter().flat_map(|(folder, _)| checks(folder)) {
         let (mut marks, mut second_marks) = (vec![0xAA; file.len()], vec![0xAA; file.len()]);
         let granted = run(&file, &mut second_marks);
-        let left = (granted.verdict, granted.steps, granted.place);
-        assert!(line.place.is_some() && line.says(left), "{line:?}: {granted:?}");
+        let left = (granted.verdict, granted.steps, granted.location);
+        assert!(line.location.is_some() && line.says(left), "{line:?}: {granted:?}");
         assert_eq!(samples::fnv1a(&second_marks), line.marks, "marks of {}", line.name);
         let answer = bindings::run(&file, &mut marks);
         assert_eq!(answer, left, "proved: {}", line.name);

@@ -1,7 +1,7 @@
-//! Every line of the lists of checks: verdict, steps, place and marks, in one run and in grants.
+//! Every line of the lists of checks: verdict, steps, location and marks, in one run and in grants.
 
 use tlepozaluh_host::build::random::Random;
-use tlepozaluh_host::places;
+use tlepozaluh_host::locations;
 use tlepozaluh_host::samples::{self, CheckLine, CHECKS};
 use tlepozaluh_host::second::check::{run, Check, RUNNING};
 
@@ -20,9 +20,12 @@ fn every_line_in_one_run() {
     for (line, file, first_mark) in lines_and_files() {
         let mut marks = vec![first_mark; file.len()];
         let answer = run(&file, &mut marks);
-        let left = (answer.verdict, answer.steps, answer.place);
+        let left = (answer.verdict, answer.steps, answer.location);
         assert!(line.says(left), "{line:?}: {answer:?}");
-        assert!(places::is_right(&file, answer.verdict, answer.place), "{line:?}: {answer:?}");
+        assert!(
+            locations::is_right(&file, answer.verdict, answer.location),
+            "{line:?}: {answer:?}"
+        );
         assert_eq!(samples::fnv1a(&marks), line.marks, "marks of {}", line.name);
     }
 }
@@ -39,7 +42,10 @@ fn every_line_step_by_step() {
             let refused = answer > 0;
             assert!(!refused || marks == before.1, "a refusal changed marks of {}", line.name);
         }
-        assert!(line.says((check.verdict(), check.steps(), check.place())), "{line:?}: {check:?}");
+        assert!(
+            line.says((check.verdict(), check.steps(), check.location())),
+            "{line:?}: {check:?}"
+        );
         assert_eq!(samples::fnv1a(&marks), line.marks, "marks of {}", line.name);
     }
 }
@@ -60,21 +66,21 @@ fn every_line_in_random_grants() {
                 assert!(whole || answer.verdict != RUNNING, "{} stopped early", line.name);
                 made += answer.steps;
             }
-            assert!(line.says((check.verdict(), made, check.place())), "{line:?}: {check:?}");
+            assert!(line.says((check.verdict(), made, check.location())), "{line:?}: {check:?}");
             assert_eq!(samples::fnv1a(&marks), line.marks, "marks of {}", line.name);
             said_again(check, &file, &line);
         }
     }
 }
 
-/// A finished check says verdict and place again, whatever is granted and lent.
+/// A finished check says verdict and location again, whatever is granted and lent.
 fn said_again(mut check: Check, file: &[u8], line: &CheckLine) {
-    let finished = (check.verdict(), check.place());
+    let finished = (check.verdict(), check.location());
     let shorter = file.get(1..).unwrap_or(&[]);
     for (lent, steps) in [(file, 0), (file, 1), (shorter, 0), (shorter, 7), (&[], u64::MAX)] {
         let again = check.grant(lent, &mut [], steps);
         let expected = (finished.0, 0, finished.1);
-        assert_eq!((again.verdict, again.steps, again.place), expected, "{line:?}");
+        assert_eq!((again.verdict, again.steps, again.location), expected, "{line:?}");
     }
 }
 

@@ -27,7 +27,7 @@ fn with_unused(sizes: &[usize]) -> (Vec<u8>, Vec<usize>) {
         file.resize(start + size, 0xFF);
         put(&mut file, start, *size as i64);
     }
-    let (eof, length) = (damage::eof_place(&file), file.len() as i64);
+    let (eof, length) = (damage::eof_offset(&file), file.len() as i64);
     put(&mut file, eof, length);
     (file, starts)
 }
@@ -47,13 +47,13 @@ fn every_edge_of_a_run() {
         let (file, starts) = with_unused(&[size, 16]);
         let (answer, marks) = marks_after(&file, u64::MAX);
         assert_eq!(answer, 0, "{size}");
-        for (place, mark) in marks.iter().enumerate().skip(starts[0]) {
-            let expected = match place {
-                _ if place >= file.len() => OLD,
-                _ if starts.contains(&place) => 1,
+        for (offset, mark) in marks.iter().enumerate().skip(starts[0]) {
+            let expected = match offset {
+                _ if offset >= file.len() => OLD,
+                _ if starts.contains(&offset) => 1,
                 _ => 0,
             };
-            assert_eq!(*mark, expected, "a record of {size}, mark {place}");
+            assert_eq!(*mark, expected, "a record of {size}, mark {offset}");
         }
     }
 }

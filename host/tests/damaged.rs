@@ -1,10 +1,10 @@
-//! Damaged files: the check ends in time, the place of a refusal is where a plain reading of the file has it, the reader
+//! Damaged files: the check ends in time, the location of a refusal is where a plain reading of the file has it, the reader
 //! ends, and on an accepted file the reader never answers 20.
 
 use tlepozaluh_host::build;
 use tlepozaluh_host::build::random::Random;
 use tlepozaluh_host::damage::{self, Damage, Found};
-use tlepozaluh_host::places;
+use tlepozaluh_host::locations;
 use tlepozaluh_host::questions::REFUSALS;
 use tlepozaluh_host::second::check::run;
 use tlepozaluh_host::second::read;
@@ -53,7 +53,7 @@ fn tried(file: &[u8], what: &dyn Fn() -> String) -> i32 {
     let answer = run(file, &mut marks);
     assert!((0..=14).contains(&answer.verdict) || answer.verdict == 23, "{}", what());
     assert!(answer.steps <= file.len() as u64 / 4 + 1, "{}: {} steps", what(), answer.steps);
-    assert!(places::is_right(file, answer.verdict, answer.place), "{}: {answer:?}", what());
+    assert!(locations::is_right(file, answer.verdict, answer.location), "{}: {answer:?}", what());
     let mut refusals = Vec::new();
     ask_values(file, &mut refusals);
     ask_entries(file, &mut refusals);
@@ -225,7 +225,7 @@ fn bytes_at_random() {
     for seed in 0..6000 {
         let (_, mut file) = build::any(seed);
         for _ in 0..random.between(1, 30) {
-            let at = 312 + random.place(file.len() - 312);
+            let at = 312 + random.size_below(file.len() - 312);
             file[at] = random.byte();
         }
         let verdict = tried(&file, &|| format!("seed {seed}"));

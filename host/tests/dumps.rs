@@ -28,7 +28,7 @@ const EXCEPTIONS: [(&str, Compare, &str); 11] = [
     (
         "15_sparse_previous",
         Compare::Whole,
-        "JCDF fills gaps from a wrong place: in notes, ours GAP",
+        "JCDF fills gaps from a wrong offset: in notes, ours GAP",
     ),
     ("16_gap_without_sparseness", Compare::Whole, "JCDF fails in a gap: in notes, ours GAP"),
     ("27_novary_record0_in_gap", Compare::Whole, "JCDF fails in a gap: in notes, ours GAP"),

@@ -5,11 +5,11 @@ use tlepozaluh_host::build::random::Random;
 use tlepozaluh_host::second::check::{grant, run, Check, Granted, State, RUNNING};
 use tlepozaluh_host::second::check::{FRESH, STATE_LENGTH};
 use tlepozaluh_host::second::rules::body;
-use tlepozaluh_host::second::state::{finished, is_in_range, PLACE};
+use tlepozaluh_host::second::state::{finished, is_in_range, LOCATION};
 
 /// What a grant leaves that refuses no record.
 fn granted(verdict: i32, steps: u64) -> Granted {
-    Granted { verdict, steps, place: 0 }
+    Granted { verdict, steps, location: 0 }
 }
 
 /// A good file of at least 20 steps.
@@ -166,18 +166,19 @@ fn numbers_out_of_range() {
     }
 }
 
-/// Number 0 says that a check is finished; the place is said again with 7 to 14 and 23, whatever number it is, and with no
+/// Number 0 says that a check is finished; the location is said again with 7 to 14 and 23, whatever number it is, and with no
 /// other verdict.
 #[test]
 fn finished_states() {
     let file = good_file();
     for verdict in (0..=14).chain([20, 23]) {
-        for place in [0, 1, 8, 312, file.len() as u32, 1 << 31, u32::MAX] {
+        for location in [0, 1, 8, 312, file.len() as u32, 1 << 31, u32::MAX] {
             for others in [0, 1, u32::MAX] {
                 let mut state = [others; STATE_LENGTH];
-                (state[0], state[PLACE]) = (verdict as u32 + 1, place);
-                let place = if (7..=14).contains(&verdict) || verdict == 23 { place } else { 0 };
-                let again = Granted { place: u64::from(place), ..granted(verdict, 0) };
+                (state[0], state[LOCATION]) = (verdict as u32 + 1, location);
+                let location =
+                    if (7..=14).contains(&verdict) || verdict == 23 { location } else { 0 };
+                let again = Granted { location: u64::from(location), ..granted(verdict, 0) };
                 assert_eq!(answers(&file, state), [(again, state); 3]);
             }
         }
@@ -195,7 +196,7 @@ fn another_file_of_the_same_length() {
         let whole = run(&file, &mut marks).steps;
         let mut other = file.clone();
         for _ in 0..random.between(1, 40) {
-            let at = random.place(other.len());
+            let at = random.size_below(other.len());
             other[at] = random.byte();
         }
         let mut check = Check::fresh();
@@ -203,7 +204,7 @@ fn another_file_of_the_same_length() {
         let most = 2 * file.len() as u64 + 10;
         let answer = check.grant(&other, &mut marks, most);
         assert!((0..=23).contains(&answer.verdict) && answer.steps < most, "seed {seed}");
-        assert_eq!(check.state(), finished(answer.verdict, answer.place as u32), "seed {seed}");
+        assert_eq!(check.state(), finished(answer.verdict, answer.location as u32), "seed {seed}");
         past_the_end += u64::from(answer.verdict == 20);
     }
     assert!(past_the_end > 0);

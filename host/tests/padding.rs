@@ -26,7 +26,7 @@ fn padded_base(padding: usize) -> Vec<u8> {
     file
 }
 
-/// Verdict, steps and place of a fresh check by both.
+/// Verdict, steps and location of a fresh check by both.
 fn checked(file: &[u8]) -> Granted {
     let granted = Pair::fresh(&vec![1; file.len()]).grant(file, u64::MAX, &mut Compared::default());
     granted.unwrap_or_else(|wrong| panic!("{wrong}"))
@@ -122,7 +122,7 @@ fn the_padding_cannot_matter() {
     assert!(answers[&0] > 1000 && refused, "{answers:?}");
 }
 
-/// The marks below an offset that a fresh check leaves after so many steps, with its answer, its place and all numbers of
+/// The marks below an offset that a fresh check leaves after so many steps, with its answer, its location and all numbers of
 /// its state but the noted length.
 fn left(file: &[u8], marks: &[u8], steps: u64, end: usize) -> (Granted, Vec<u32>, Vec<u8>) {
     let mut pair = Pair::fresh(marks);
@@ -141,11 +141,11 @@ fn a_padded_file_is_checked_as_the_unpadded_one() {
     let mut verdicts = [0; 24];
     for seed in 0..2000 {
         let (_, file) = build::with_padding(seed, 0);
-        let some = [damage::edge_damages, damage::link_damages][random.place(2)];
+        let some = [damage::edge_damages, damage::link_damages][random.size_below(2)];
         let damages = some(&file);
         let damaged = random.one_of(&damages).map(|damage| damage::damaged(&file, damage));
         let file = damaged.filter(|_| !random.once_in(4)).unwrap_or(file);
-        let (end, bytes) = (file.len(), [1, 2, 140, 510, 511][random.place(5)]);
+        let (end, bytes) = (file.len(), [1, 2, 140, 510, 511][random.size_below(5)]);
         if told(&file) != Ok(0) {
             continue;
         }

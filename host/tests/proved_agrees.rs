@@ -1,4 +1,4 @@
-//! The proved checker and the second one on built and damaged files: verdict, steps, place, every mark and, step by step,
+//! The proved checker and the second one on built and damaged files: verdict, steps, location, every mark and, step by step,
 //! the saved state.
 
 use tlepozaluh_host::bindings::{self, check_grant, fresh, from_bytes, to_bytes, State};
@@ -7,7 +7,7 @@ use tlepozaluh_host::build::model::File;
 use tlepozaluh_host::build::random::Random;
 use tlepozaluh_host::build::records::put;
 use tlepozaluh_host::damage::{self, Damage, Found};
-use tlepozaluh_host::places;
+use tlepozaluh_host::locations;
 use tlepozaluh_host::second::check::{self, Check, RUNNING};
 use tlepozaluh_host::second::tables::encoding;
 
@@ -17,8 +17,8 @@ fn agreed(file: &[u8], what: &dyn Fn() -> String) -> i32 {
     let mut other_marks = marks.clone();
     let answer = bindings::run(file, &mut marks);
     let other = check::run(file, &mut other_marks);
-    assert_eq!(answer, (other.verdict, other.steps, other.place), "{}", what());
-    assert!(places::is_right(file, answer.0, answer.2), "{}: {answer:?}", what());
+    assert_eq!(answer, (other.verdict, other.steps, other.location), "{}", what());
+    assert!(locations::is_right(file, answer.0, answer.2), "{}: {answer:?}", what());
     assert!(marks == other_marks, "marks: {}", what());
     answer.0
 }
@@ -33,7 +33,7 @@ fn agreed_step_by_step(file: &[u8], what: &dyn Fn() -> String) -> i32 {
         let mut state = from_bytes(&kept).expect("136 bytes");
         let answer = check_grant(file, &mut marks, &mut state, 1);
         let verdict = other.step(file, &mut other_marks);
-        assert_eq!(answer, (verdict, 1, other.place()), "step {}: {}", other.steps(), what());
+        assert_eq!(answer, (verdict, 1, other.location()), "step {}: {}", other.steps(), what());
         assert!(marks == other_marks, "marks at step {}: {}", other.steps(), what());
         assert_eq!(state, other.state(), "state at step {}: {}", other.steps(), what());
         assert_eq!(state[0] != 0, verdict != RUNNING, "{}", what());
@@ -199,7 +199,7 @@ fn bytes_at_random() {
     for seed in 0..6000 {
         let (_, mut file) = build::any(seed);
         for _ in 0..random.between(1, 30) {
-            let at = 312 + random.place(file.len() - 312);
+            let at = 312 + random.size_below(file.len() - 312);
             file[at] = random.byte();
         }
         let verdict = agreed(&file, &|| format!("seed {seed}"));
@@ -238,7 +238,7 @@ fn every_grant_from_every_point(file: &[u8], what: &str) {
         for grant in (0..=end - from + 2).chain([usize::MAX]) {
             let (mut state, mut marks) = points[from].clone();
             let to = from.saturating_add(grant).min(end);
-            let (answer, steps, place) = check_grant(file, &mut marks, &mut state, grant as u64);
+            let (answer, steps, location) = check_grant(file, &mut marks, &mut state, grant as u64);
             assert_eq!(steps as usize, to - from, "{what}: {grant} from {from}");
             assert_eq!(
                 (state, &marks),
@@ -246,7 +246,7 @@ fn every_grant_from_every_point(file: &[u8], what: &str) {
                 "{what}: {grant} from {from}"
             );
             assert_eq!(answer, state[0] as i32 - 1, "{what}: {grant} from {from}");
-            assert_eq!(place, u64::from(state[33]), "{what}: {grant} from {from}");
+            assert_eq!(location, u64::from(state[33]), "{what}: {grant} from {from}");
         }
     }
 }

@@ -257,7 +257,7 @@ fn every_field_at_its_edges_at_every_point() {
     assert!(compared.grants > 300_000, "{compared:?}");
 }
 
-/// The CDR's link changed to places so near the end that not all of the GDR's fields lie in the file.
+/// The CDR's link changed to offsets so near the end that not all of the GDR's fields lie in the file.
 #[test]
 fn the_link_to_the_gdr_at_every_point() {
     let mut compared = Compared::default();
@@ -323,7 +323,7 @@ fn bodies_cut_at_every_byte() {
         let file = small_file(seed);
         let source = Source::new(&file);
         for eof in SHORTEST.max(file.len().saturating_sub(150))..file.len() {
-            let offset = damage::eof_place(&file);
+            let offset = damage::eof_offset(&file);
             let changed = damage::damaged(&file, &Damage::Field { offset, value: eof as i64 });
             let what = || format!("seed {seed}, eof {eof}");
             for point in source.points() {

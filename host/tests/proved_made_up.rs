@@ -6,7 +6,7 @@ use tlepozaluh_host::build::random::Random;
 use tlepozaluh_host::made_up::{self, Source};
 use tlepozaluh_host::pair::{to_the_end, Compared, Pair};
 use tlepozaluh_host::second::check::{State, STATE_LENGTH};
-use tlepozaluh_host::second::state::{finished, is_in_range, PLACE};
+use tlepozaluh_host::second::state::{finished, is_in_range, LOCATION};
 
 /// Verdicts that steps give in each phase from the sweep on, on a file that is good.
 const ENDS: [(u32, &[i32]); 8] = [
@@ -44,8 +44,8 @@ fn every_state_of_a_check_is_in_range() {
 /// Numbers at edges of ranges and meanings, the length and those about it, and where the check finds records and links.
 fn edges(source: &Source) -> BTreeSet<u32> {
     let length = source.file().len() as u32;
-    let places = source.points().iter().map(|(state, _)| state[4]);
-    made_up::edges().into_iter().chain(length - 8..=length + 8).chain(places).collect()
+    let offsets = source.points().iter().map(|(state, _)| state[4]);
+    made_up::edges().into_iter().chain(length - 8..=length + 8).chain(offsets).collect()
 }
 
 /// Each number of each third state of a check at each edge.
@@ -71,7 +71,7 @@ fn one_number_at_an_edge() {
     assert_eq!(compared.missing(&ENDS), [], "{compared:?}");
     assert_eq!(out_of_range(&compared), (0..=9).collect::<Vec<u32>>());
     assert!(compared.answers.contains_key(&21) && compared.grants > 900_000, "{compared:?}");
-    assert!(compared.places.len() >= 8 && compared.repeated.len() == 9, "{compared:?}");
+    assert!(compared.locations.len() >= 8 && compared.repeated.len() == 9, "{compared:?}");
 }
 
 /// One to three numbers of the states of a check changed.
@@ -136,9 +136,9 @@ fn levels_out_of_range() {
     assert_eq!(out_of_range(&compared), (1..=8).collect::<Vec<u32>>());
 }
 
-/// A place in a state that is not finished: 20 in one step, without a place, and no mark changes.
+/// A location in a state that is not finished: 20 in one step, without a location, and no mark changes.
 #[test]
-fn places_out_of_range() {
+fn locations_out_of_range() {
     let mut random = Random::seeded(38);
     let mut compared = Compared::default();
     for seed in 0..300 {
@@ -148,8 +148,8 @@ fn places_out_of_range() {
             let (real, marks) = source.any_point(&mut random);
             let marks = source.any_marks(marks, &mut random);
             let mut near = *real;
-            near[PLACE] = source.any_number(&mut random).max(1);
-            for made_up in [near, source.wrong_place(&mut random)] {
+            near[LOCATION] = source.any_number(&mut random).max(1);
+            for made_up in [near, source.wrong_location(&mut random)] {
                 assert!(!is_in_range(&made_up), "{made_up:?}");
                 let mut pair = Pair::new(&made_up, &marks);
                 assert_eq!(pair.grant(&file, 0, &mut compared), Ok((-1, 0, 0)), "seed {seed}");
@@ -161,7 +161,7 @@ fn places_out_of_range() {
     assert_eq!(out_of_range(&compared), (0..=8).collect::<Vec<u32>>());
 }
 
-/// Finished states of every verdict with places of every kind: both say the same again, whatever is lent, and the place
+/// Finished states of every verdict with locations of every kind: both say the same again, whatever is lent, and the location
 /// with 7 to 14 and 23 alone.
 #[test]
 fn finished_states() {
@@ -173,20 +173,20 @@ fn finished_states() {
         for _ in 0..100 {
             let (_, marks) = source.any_point(&mut random);
             let made_up = source.finished(&mut random);
-            let (verdict, kept) = (made_up[0] as i32 - 1, u64::from(made_up[PLACE]));
-            let place = if matches!(verdict, 7..=14 | 23) { kept } else { 0 };
-            let lent = random.place(file.len());
+            let (verdict, kept) = (made_up[0] as i32 - 1, u64::from(made_up[LOCATION]));
+            let location = if matches!(verdict, 7..=14 | 23) { kept } else { 0 };
+            let lent = random.size_below(file.len());
             for (file, steps) in [(&file[..], 0), (&file[..], 5), (&file[..lent], 1)] {
                 let mut pair = Pair::new(&made_up, marks);
                 let said = pair.grant(file, steps, &mut compared);
-                assert_eq!(said, Ok((verdict, 0, place)), "{made_up:?}");
+                assert_eq!(said, Ok((verdict, 0, location)), "{made_up:?}");
                 assert_eq!((pair.state(), pair.marks()), (&made_up[..], &marks[..]));
             }
         }
     }
     let repeated: Vec<i32> = compared.repeated.keys().copied().collect();
     assert_eq!(repeated, (7..=14).chain([23]).collect::<Vec<i32>>());
-    assert!(compared.answers.len() == 17 && compared.places.is_empty(), "{compared:?}");
+    assert!(compared.answers.len() == 17 && compared.locations.is_empty(), "{compared:?}");
 }
 
 /// States of the checks of deep files, changed in their levels and elsewhere.
@@ -200,7 +200,7 @@ fn near_the_states_of_deep_checks() {
         let along: Vec<_> =
             source.points().iter().filter(|(state, _)| matches!(state[2], 4 | 5)).collect();
         for _ in 0..200 {
-            let (state, real) = along[random.place(along.len())];
+            let (state, real) = along[random.size_below(along.len())];
             let made_up = source.near(state, &mut random);
             let marks = source.any_marks(real, &mut random);
             agreed(&file, &made_up, &marks, &mut compared, &format!("seed {seed}"));
@@ -223,7 +223,7 @@ fn numbers_at_random() {
             let (_, real) = source.any_point(&mut random);
             let mut marks = source.any_marks(real, &mut random);
             if random.once_in(16) {
-                marks.truncate(random.place(file.len()));
+                marks.truncate(random.size_below(file.len()));
             }
             let made_up = source.anything(&mut random);
             let what = format!("seed {seed}");

@@ -61,7 +61,7 @@ fn sample_files() -> Vec<(String, Vec<u8>)> {
         }
     }
     found.sort();
-    for folder in ["", "levels", "padded", "places", "vax", "rounds"] {
+    for folder in ["", "levels", "padded", "locations", "vax", "rounds"] {
         let archive = std::fs::read(directory.join(folder).join("checks.tar")).expect("checks.tar");
         let members = samples::members(&archive).expect("an archive");
         found.extend(members.into_iter().map(|member| (member.name, member.bytes)));
@@ -109,8 +109,8 @@ fn all_of(file: &[u8], tally: &mut Tally, what: &dyn Fn() -> String) {
             for element in 0..of.elements.min(6) {
                 tally.ask(file, &Question::Pad(kind, number, element), what);
                 for record in (0..=of.max_rec.min(8)).chain([of.max_rec]) {
-                    for place in 0..8 {
-                        let index = |size: &i64| (place * 7 + 3 * record) % size;
+                    for turn in 0..8 {
+                        let index = |size: &i64| (turn * 7 + 3 * record) % size;
                         let indices = of.sizes.iter().map(index).collect();
                         let asked = Question::Value(kind, number, record, indices, element);
                         tally.ask(file, &asked, what);
@@ -230,7 +230,7 @@ fn several_damages_and_bytes_at_random() {
             damages.iter().fold(file.clone(), |file, damage| damage::damaged(&file, damage));
         ask_damaged(&damaged, &mut random, &mut tally, &|| format!("seed {seed}: {damages:?}"));
         for _ in 0..random.between(1, 30) {
-            let at = 312 + random.place(file.len() - 312);
+            let at = 312 + random.size_below(file.len() - 312);
             file[at] = random.byte();
         }
         ask_damaged(&file, &mut random, &mut tally, &|| format!("seed {seed}: bytes"));

@@ -27,7 +27,7 @@ fn every_line_in_one_run() {
     }
 }
 
-/// Grants from 0 to `greatest` steps, the state kept as bytes between them: verdict, steps and place, which are then given
+/// Grants from 0 to `greatest` steps, the state kept as bytes between them: verdict, steps and location, which are then given
 /// again, whatever is granted and lent.
 fn in_grants(file: &[u8], marks: &mut [u8], random: &mut Random, greatest: i64) -> Granted {
     let mut kept = to_bytes(&fresh());
@@ -35,19 +35,19 @@ fn in_grants(file: &[u8], marks: &mut [u8], random: &mut Random, greatest: i64) 
     loop {
         let mut state = from_bytes(&kept).expect("136 bytes");
         let grant = random.between(0, greatest) as u64;
-        let (answer, steps, place) = check_grant(file, marks, &mut state, grant);
+        let (answer, steps, location) = check_grant(file, marks, &mut state, grant);
         assert!(steps == grant || steps < grant && answer != RUNNING);
         kept = to_bytes(&state);
         made += steps;
         if answer != RUNNING {
-            said_again(file, &kept, (answer, 0, place));
-            return (answer, made, place);
+            said_again(file, &kept, (answer, 0, location));
+            return (answer, made, location);
         }
-        assert_eq!(place, 0);
+        assert_eq!(location, 0);
     }
 }
 
-/// A finished check says verdict and place again, and its state stays.
+/// A finished check says verdict and location again, and its state stays.
 fn said_again(file: &[u8], kept: &[u8], again: Granted) {
     let shorter = file.get(1..).unwrap_or(&[]);
     for (lent, grant) in [(file, 0), (file, 1), (shorter, 0), (shorter, 7), (&[], u64::MAX)] {
@@ -78,12 +78,12 @@ fn every_ring_is_refused_in_a_few_steps() {
         let path = found.expect("a file").path();
         let file = std::fs::read(&path).expect("its bytes");
         let mut marks = vec![0x77; file.len()];
-        let (verdict, steps, place) = run(&file, &mut marks);
+        let (verdict, steps, location) = run(&file, &mut marks);
         assert!((7..=9).contains(&verdict) && steps <= 30, "{path:?}: {verdict} at {steps}");
         let mut other_marks = vec![0x77; file.len()];
         let other = check::run(&file, &mut other_marks);
-        let others = (other.verdict, other.steps, other.place);
-        assert_eq!(((verdict, steps, place), marks), (others, other_marks), "{path:?}");
+        let others = (other.verdict, other.steps, other.location);
+        assert_eq!(((verdict, steps, location), marks), (others, other_marks), "{path:?}");
         refused += 1;
     }
     assert_eq!(refused, 11);

@@ -22,8 +22,8 @@ fn finished(verdict: u32) -> State {
     state
 }
 
-/// Places of all kinds: none, records, edges.
-const PLACES: [u32; 7] = [0, 8, 312, 12345, 0x7FFF_FFFF, 0x8000_0000, u32::MAX];
+/// Locations of all kinds: none, records, edges.
+const LOCATIONS: [u32; 7] = [0, 8, 312, 12345, 0x7FFF_FFFF, 0x8000_0000, u32::MAX];
 
 #[test]
 fn fresh_is_zeros() {
@@ -86,25 +86,25 @@ fn said_again(file: &[u8], before: State, again: Granted) {
     assert!(marks.iter().all(|mark| *mark == 1));
 }
 
-/// The place is given again with 7 to 14 and 23, whatever number it is, and with no other verdict.
+/// The location is given again with 7 to 14 and 23, whatever number it is, and with no other verdict.
 #[test]
-fn a_finished_check_repeats_verdict_and_place() {
+fn a_finished_check_repeats_verdict_and_location() {
     let (file, _) = good_file();
     for verdict in (0..=14).chain([20, 23]) {
-        for place in PLACES {
+        for location in LOCATIONS {
             let mut noisy = [0x1234_5678; STATE_LENGTH];
             noisy[0] = verdict + 1;
             for mut before in [finished(verdict), noisy] {
-                before[33] = place;
-                let has_place = (7..=14).contains(&verdict) || verdict == 23;
-                let place = if has_place { u64::from(place) } else { 0 };
-                said_again(&file, before, (verdict as i32, 0, place));
+                before[33] = location;
+                let has_location = (7..=14).contains(&verdict) || verdict == 23;
+                let location = if has_location { u64::from(location) } else { 0 };
+                said_again(&file, before, (verdict as i32, 0, location));
             }
         }
     }
 }
 
-/// A finished check keeps its verdict, the place of its refusal, and nothing else.
+/// A finished check keeps its verdict, the location of its refusal, and nothing else.
 #[test]
 fn what_a_finished_check_leaves() {
     let (file, whole) = good_file();
@@ -124,17 +124,17 @@ fn what_a_finished_check_leaves() {
     assert!(state[1..33].iter().all(|number| *number == 0));
 }
 
-/// In a state that is not finished a place other than 0 is out of its range: 20 in one step, without a place.
+/// In a state that is not finished a location other than 0 is out of its range: 20 in one step, without a location.
 #[test]
-fn a_place_before_the_end() {
+fn a_location_before_the_end() {
     let (file, whole) = good_file();
     for made in 0..whole {
         let mut marks = vec![9; file.len()];
         let mut state = fresh();
         check_grant(&file, &mut marks, &mut state, made);
-        for place in PLACES.into_iter().filter(|place| *place != 0) {
+        for location in LOCATIONS.into_iter().filter(|location| *location != 0) {
             let (mut other, mut other_marks) = (state, marks.clone());
-            other[33] = place;
+            other[33] = location;
             assert_eq!(check_grant(&file, &mut other_marks, &mut other, 0), (-1, 0, 0));
             assert_eq!(check_grant(&file, &mut other_marks, &mut other, 5), (20, 1, 0));
             assert_eq!((other, &other_marks), (finished(20), &marks));
@@ -142,7 +142,7 @@ fn a_place_before_the_end() {
     }
 }
 
-/// States of 33 numbers, as they were before places were kept: 20 in 0 steps, and nothing changes.
+/// States of 33 numbers, as they were before locations were kept: 20 in 0 steps, and nothing changes.
 #[test]
 fn states_of_thirty_three_numbers() {
     let (file, whole) = good_file();
@@ -218,7 +218,7 @@ fn another_file_of_the_same_length() {
         let whole = run(&file, &mut vec![0; file.len()]).1;
         let mut other = file.clone();
         for _ in 0..random.between(1, 40) {
-            let at = random.place(other.len());
+            let at = random.size_below(other.len());
             other[at] = random.byte();
         }
         let mut pair = Pair::fresh(&vec![0; file.len() + 1]);

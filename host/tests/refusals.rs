@@ -7,7 +7,7 @@ use tlepozaluh_host::build::records::put;
 use tlepozaluh_host::second::check::run;
 use tlepozaluh_host::second::tables::{data_type, encoding, DataType};
 
-/// Verdict and steps of a whole check; tests/places.rs has the places.
+/// Verdict and steps of a whole check; tests/locations.rs has the locations.
 fn checked(file: &[u8], mut marks: Vec<u8>) -> (i32, u64) {
     let answer = run(file, &mut marks);
     (answer.verdict, answer.steps)
@@ -418,7 +418,7 @@ fn short_variable_records() {
     let two = [(372, 28), (400, 12), (404, -1), (412, 92), (416, -1)];
     two.iter().for_each(|(at, value)| put(&mut file, *at, *value));
     let answer = checked(&file, vec![0; 550]);
-    assert_eq!(answer, (10, 11), "12 at place 28 has bit 2 set");
+    assert_eq!(answer, (10, 11), "12 at offset 28 has bit 2 set");
 }
 
 /// Each record type with less than the fields it is judged by, at the head of its list.

@@ -5,7 +5,7 @@ use tlepozaluh_host::samples;
 use tlepozaluh_host::second::check::{run, Granted};
 use tlepozaluh_host::second::read::{attribute, levels, read_entry, read_value, variable};
 
-/// File, verdict, step and place of the refusal.
+/// File, verdict, step and location of the refusal.
 const RINGS: [(&str, i32, u64, u64); 11] = [
     ("record_size_0", 7, 4, 372),
     ("ring_adr", 9, 30, 831),
@@ -29,10 +29,10 @@ fn ring(name: &str) -> Vec<u8> {
 fn every_ring_is_refused() {
     let found = std::fs::read_dir(samples::directory().join("rings")).expect("samples/rings");
     assert_eq!(found.count(), RINGS.len());
-    for (name, verdict, steps, place) in RINGS {
+    for (name, verdict, steps, location) in RINGS {
         let file = ring(name);
         let answer = run(&file, &mut vec![0; file.len()]);
-        assert_eq!(answer, Granted { verdict, steps, place }, "{name}");
+        assert_eq!(answer, Granted { verdict, steps, location }, "{name}");
     }
 }
 

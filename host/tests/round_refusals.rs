@@ -180,7 +180,7 @@ fn parts_up_to_the_end() {
     );
 }
 
-/// Sums past the greatest number do not come round to a place inside.
+/// Sums past the greatest number do not come round to an offset inside.
 #[test]
 fn parts_whose_ends_overflow() {
     for length in [1, 2, 10, 372, usize::MAX / 2, usize::MAX - 1, usize::MAX] {
@@ -265,7 +265,7 @@ fn every_two_of_eight() {
 fn empty_parts() {
     each(
         &[
-            ("two at one place", |of| {
+            ("two at one offset", |of| {
                 (of.jobs[0].file, of.jobs[1].file) = (empty(5), empty(5));
                 (of.jobs[0].marks, of.jobs[1].marks) = (empty(5), empty(5));
             }),
@@ -296,7 +296,7 @@ fn the_areas_are_apart() {
     setting.marks = vec![9; setting.files.len()];
     setting.jobs[0].marks = setting.jobs[1].file;
     setting.jobs[1].marks = first.file;
-    is_made(&setting, "each other's places");
+    is_made(&setting, "each other's parts");
 }
 
 /// A round that is refused between others leaves no trace; and what was not refused at first is not refused later.

@@ -7,14 +7,14 @@ use tlepozaluh_host::second::check::{grant, State};
 use tlepozaluh_host::second::rounds::{Job, Part};
 use tlepozaluh_host::window::Window;
 
-/// The place of a job, from a grant of nothing to both with nothing lent; the state stays.
-fn place(state: &State) -> u64 {
+/// The location of a job, from a grant of nothing to both with nothing lent; the state stays.
+fn location(state: &State) -> u64 {
     let (mut proved, mut second) = (*state, *state);
-    let (_, steps, place) = check_grant(&[], &mut [], &mut proved, 0);
+    let (_, steps, location) = check_grant(&[], &mut [], &mut proved, 0);
     let other = grant(&[], &mut [], &mut second, 0);
-    assert_eq!((steps, place), (0, other.place));
+    assert_eq!((steps, location), (0, other.location));
     assert_eq!((proved, second), (*state, *state));
-    place
+    location
 }
 
 /// What the caller alone writes in a row: owner and parts.
@@ -31,7 +31,7 @@ fn every_script() {
             let what = format!("script {number}, round {turn}");
             assert_eq!(window.round(line.steps), Ok(line.answer), "{what}");
             assert_eq!(fnv1a(window.marks()), line.marks, "{what}");
-            let left = window.jobs().iter().map(|job| (job.last, place(&job.state)));
+            let left = window.jobs().iter().map(|job| (job.last, location(&job.state)));
             assert_eq!(left.collect::<Vec<(i32, u64)>>(), line.rows, "{what}");
             assert_eq!(kept(window.jobs()), kept(&script.jobs), "{what}");
             rounds += 1;

@@ -9,7 +9,7 @@ use tlepozaluh_host::made_up::{Source, BEYOND, FINISHED};
 use tlepozaluh_host::samples;
 use tlepozaluh_host::second::check::{run, State, BAD_STATE, FRESH, OTHER_FILE, RUNNING};
 use tlepozaluh_host::second::rounds::{Job, Part};
-use tlepozaluh_host::second::state::{finished, verdict, PLACE};
+use tlepozaluh_host::second::state::{finished, verdict, LOCATION};
 use tlepozaluh_host::window::{row, side_by_side, Window};
 
 /// What marks are before the first round.
@@ -86,7 +86,7 @@ fn each_turn_is_a_grant() {
         }
         for (job, file) in window.jobs().iter().zip(&files) {
             let whole = run(file, &mut vec![OLD; file.len()]);
-            assert_eq!(job.state, finished(whole.verdict, whole.place as u32), "seed {seed}");
+            assert_eq!(job.state, finished(whole.verdict, whole.location as u32), "seed {seed}");
             assert_eq!(job.last, whole.verdict, "seed {seed}");
             *verdicts.entry(job.last).or_insert(0) += 1;
         }
@@ -198,15 +198,16 @@ fn neighbour(random: &mut Random) -> (Vec<u8>, Vec<u8>, State) {
     }
 }
 
-/// A window in which a job has any neighbours, any place in the list and parts at any places: the window, and the place.
+/// A window in which a job has any neighbours, any place in the list and parts at any offsets: the window, and the place.
 fn among_others(file: &[u8], marks: &[u8], state: State, random: &mut Random) -> (Window, usize) {
-    let others = random.place(8);
+    let others = random.size_below(8);
     let mut all: Vec<_> = (0..others).map(|_| neighbour(random)).collect();
-    let own = random.place(others + 1);
+    let own = random.size_below(others + 1);
     all.insert(own, (file.to_vec(), marks.to_vec(), state));
     let mut order: Vec<usize> = (0..all.len()).collect();
     random.shuffle(&mut order);
-    let (mut files, mut area) = (vec![random.byte(); random.place(30)], vec![OLD; random.place(9)]);
+    let (mut files, mut area) =
+        (vec![random.byte(); random.size_below(30)], vec![OLD; random.size_below(9)]);
     let mut jobs: Vec<Job> = all.iter().map(|of| job_of(of.2, random)).collect();
     for place in order {
         let (file, marks, _) = &all[place];
@@ -214,7 +215,7 @@ fn among_others(file: &[u8], marks: &[u8], state: State, random: &mut Random) ->
         jobs[place].marks = Part { from: area.len(), length: marks.len() };
         files.extend(file);
         area.extend(marks);
-        files.resize(files.len() + random.place(3), random.byte());
+        files.resize(files.len() + random.size_below(3), random.byte());
     }
     (Window::new(&files, &area, &jobs), own)
 }
@@ -260,7 +261,7 @@ fn last_answers_are_not_looked_at() {
             jobs.iter_mut().for_each(|job| job.last = last);
             for (place, number) in chunk.iter().enumerate() {
                 jobs[place].state = [0x0123_4567; 34];
-                (jobs[place].state[0], jobs[place].state[PLACE]) = (*number, last as u32);
+                (jobs[place].state[0], jobs[place].state[LOCATION]) = (*number, last as u32);
             }
             let mut window = with_jobs(&fresh, &jobs);
             round_of_grants(&mut window, 2, &format!("last answer {last}"));
@@ -364,7 +365,7 @@ fn made_up_states() {
                 1 => source.in_range(&mut random),
                 2 => source.wrong_levels(&mut random),
                 3 => source.finished(&mut random),
-                4 => source.wrong_place(&mut random),
+                4 => source.wrong_location(&mut random),
                 _ => source.anything(&mut random),
             };
         }

@@ -12,7 +12,7 @@ const UNTOUCHED: u8 = 0xAA;
 /// Offset and mark.
 type Mark = (usize, u8);
 
-/// Name, file, length, verdict, steps, place, marks.
+/// Name, file, length, verdict, steps, location, marks.
 type Row = (&'static str, Vec<u8>, usize, i32, u64, u64, &'static [Mark]);
 
 fn base() -> File {
@@ -87,9 +87,9 @@ fn files_a_to_i() {
         ("H", file_h(), 550, 0, 15, 0, &[(8, 1), (312, 2), (372, 2), (504, 2), (536, 2)]),
         ("I", file_i(), 551, 10, 11, 536, &[(8, 1), (312, 2), (372, 2), (504, 2), (536, 1)]),
     ];
-    for (name, file, length, verdict, steps, place, marks) in table {
+    for (name, file, length, verdict, steps, location, marks) in table {
         assert_eq!(file.len(), length, "{name}");
-        let granted = Granted { verdict, steps, place };
+        let granted = Granted { verdict, steps, location };
         assert_eq!(checked(&file), (granted, marks.to_vec()), "{name}");
     }
 }

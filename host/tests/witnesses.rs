@@ -86,7 +86,7 @@ type Level = [u32; 3];
 fn state(numbers: Numbers, levels: &[Level]) -> State {
     let mut state = [0; STATE_LENGTH];
     let all = numbers.iter().chain(levels.iter().flatten());
-    state.iter_mut().zip(all).for_each(|(place, number)| *place = *number);
+    state.iter_mut().zip(all).for_each(|(slot, number)| *slot = *number);
     state
 }
 
@@ -95,17 +95,17 @@ fn refuses(file: &[u8], marks: &[u8], numbers: Numbers, number: i32) {
     refuses_from(file, marks, state(numbers, &[]), number);
 }
 
-/// One step that refuses with this number: the state is finished with it and with the place that is given, and no mark
-/// changes. tests/places.rs has the places.
+/// One step that refuses with this number: the state is finished with it and with the location that is given, and no mark
+/// changes. tests/locations.rs has the locations.
 fn refuses_from(file: &[u8], marks: &[u8], state: State, number: i32) {
     let mut pair = Pair::new(&state, marks);
     let second = Check::load(state).step(file, &mut marks.to_vec());
     assert_eq!(second, number, "the second one, from {state:?}");
     let granted = pair.grant(file, 1, &mut Compared::default());
-    let (answer, steps, place) = granted.unwrap_or_else(|wrong| panic!("{wrong}"));
+    let (answer, steps, location) = granted.unwrap_or_else(|wrong| panic!("{wrong}"));
     assert_eq!((answer, steps), (number, 1), "from {state:?}");
     let mut finished = [0; STATE_LENGTH];
-    (finished[0], finished[33]) = (number as u32 + 1, place as u32);
+    (finished[0], finished[33]) = (number as u32 + 1, location as u32);
     assert_eq!((pair.state(), pair.marks()), (finished.as_slice(), marks));
 }
 
@@ -490,7 +490,7 @@ fn holes_among_levels() {
     }
 }
 
-/// States of twelve and of 33 numbers, fresh, under way or finished, are 20 in 0 steps and without a place, and neither
+/// States of twelve and of 33 numbers, fresh, under way or finished, are 20 in 0 steps and without a location, and neither
 /// they nor the marks change.
 #[test]
 fn older_states() {
@@ -513,7 +513,7 @@ fn is_too_old(old: Vec<u32>) {
         assert_eq!((pair.state(), pair.marks()), (old.as_slice(), marks.as_slice()));
         let (mut lent, mut second) = (marks.clone(), old.clone());
         let granted = check::grant(&file, &mut lent, &mut second, steps);
-        assert_eq!((granted.verdict, granted.steps, granted.place), (20, 0, 0));
+        assert_eq!((granted.verdict, granted.steps, granted.location), (20, 0, 0));
         assert_eq!((&second, &lent), (&old, &marks));
     }
     let mut begun = old.clone();
@@ -655,7 +655,7 @@ fn an_eof_changed_between_grants() {
     refuses(&longer, &marks, sweep_at(550), 7);
 }
 
-/// The window has 512 places: an eof of length - 511 is the end, one of length - 512 is not.
+/// The window has 512 offsets: an eof of length - 511 is the end, one of length - 512 is not.
 #[test]
 fn the_edge_of_the_window() {
     let state = |length: u32| [0, length, 1, 0, 550, 0, 0, 0, 0, 0, 0, 0];

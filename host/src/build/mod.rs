@@ -65,7 +65,7 @@ pub fn with_levels(seed: u64, levels: usize) -> (File, Vec<u8>) {
     let mut file = File::any(&mut random);
     let mut variable = Variable::any(&mut random, vec![2]);
     variable.index(&mut random, levels);
-    let place = random.place(file.z_variables.len() + 1);
+    let place = random.size_below(file.z_variables.len() + 1);
     file.z_variables.insert(place, variable);
     file.draw_vax_floats(&mut random);
     let bytes = shuffled(&file, &mut random);

@@ -41,15 +41,15 @@ impl Random {
         self.below(times) == 0
     }
 
-    /// A place in a list of this length; 0 if it is empty.
-    pub fn place(&mut self, length: usize) -> usize {
-        let limit = i64::try_from(length).unwrap_or(i64::MAX);
+    /// A size below this one, as the place in a list of this length; 0 if it is 0.
+    pub fn size_below(&mut self, limit: usize) -> usize {
+        let limit = i64::try_from(limit).unwrap_or(i64::MAX);
         usize::try_from(self.below(limit)).unwrap_or(0)
     }
 
     /// One of a list, if it has any.
     pub fn one_of<'a, T>(&mut self, list: &'a [T]) -> Option<&'a T> {
-        let place = self.place(list.len());
+        let place = self.size_below(list.len());
         list.get(place)
     }
 
@@ -61,7 +61,7 @@ impl Random {
     /// Puts a list in any order.
     pub fn shuffle<T>(&mut self, list: &mut [T]) {
         for last in (1..list.len()).rev() {
-            let other = self.place(last + 1);
+            let other = self.size_below(last + 1);
             list.swap(last, other);
         }
     }

@@ -54,8 +54,8 @@ impl Records {
     pub fn set_name(&mut self, made: Made, at: usize, name: &[u8]) {
         let ended = name.iter().chain(&[0]).take(64);
         let bytes = self.drafts.get_mut(made.0).map(|draft| &mut draft.bytes);
-        let place = bytes.into_iter().flatten().skip(at);
-        place.zip(ended).for_each(|(byte, letter)| *byte = *letter);
+        let rest = bytes.into_iter().flatten().skip(at);
+        rest.zip(ended).for_each(|(byte, letter)| *byte = *letter);
     }
 
     /// A link from a field of one record to another record, or 0.
@@ -81,13 +81,13 @@ impl Records {
             random.shuffle(others);
         }
         let mut file = vec![0xCD, 0xF2, 0x60, 0x02, 0x00, 0x00, 0xFF, 0xFF];
-        let mut placed = Vec::new();
+        let mut starts = Vec::new();
         for number in order {
-            placed.push((number, file.len()));
+            starts.push((number, file.len()));
             file.extend(self.drafts.get(number).iter().flat_map(|draft| &draft.bytes));
         }
-        placed.sort_unstable();
-        let offsets: Vec<usize> = placed.into_iter().map(|(_, offset)| offset).collect();
+        starts.sort_unstable();
+        let offsets: Vec<usize> = starts.into_iter().map(|(_, offset)| offset).collect();
         self.fill_links(&mut file, &offsets);
         let end = file.len();
         put_offset(&mut file, offsets.get(1).map(|gdr| gdr + 20), Some(&end));
@@ -102,7 +102,7 @@ impl Records {
         if random.once_in(2) {
             return (0..count).map(|_| random.byte()).collect();
         }
-        let copies = self.drafts.iter().cycle().skip(random.place(self.drafts.len()));
+        let copies = self.drafts.iter().cycle().skip(random.size_below(self.drafts.len()));
         copies.flat_map(|draft| &draft.bytes).copied().take(count).collect()
     }
 
@@ -125,6 +125,6 @@ fn put_offset(bytes: &mut [u8], at: Option<usize>, offset: Option<&usize>) {
 /// Writes a control field: the low 4 bytes of the number, big-endian.
 pub fn put(bytes: &mut [u8], at: usize, value: i64) {
     let low = value as i32;
-    let place = bytes.iter_mut().skip(at);
-    place.zip(low.to_be_bytes()).for_each(|(byte, new)| *byte = new);
+    let rest = bytes.iter_mut().skip(at);
+    rest.zip(low.to_be_bytes()).for_each(|(byte, new)| *byte = new);
 }

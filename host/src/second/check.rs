@@ -50,7 +50,7 @@ impl End {
     }
 
     /// The file offset of the record at fault, 0 if there is none.
-    pub fn place(self) -> u32 {
+    pub fn location(self) -> u32 {
         match self {
             End::At(_, offset) => u32::try_from(offset).unwrap_or(0),
             _ => 0,
@@ -75,7 +75,7 @@ pub struct Granted {
     /// Steps made in this grant.
     pub steps: u64,
     /// File offset of the record at fault; 0 without a refusal, or where the refusal is of no record.
-    pub place: u64,
+    pub location: u64,
 }
 
 /// A check under way: its saved state, and the steps made since it began or was loaded.
@@ -113,8 +113,8 @@ impl Check {
     }
 
     /// File offset of the record at fault, 0 if there is none.
-    pub fn place(&self) -> u64 {
-        u64::from(state::place(&self.state))
+    pub fn location(&self) -> u64 {
+        u64::from(state::location(&self.state))
     }
 
     /// Steps made since the check began or was loaded, the finishing one included.
@@ -135,7 +135,7 @@ impl Check {
     }
 }
 
-/// The whole check at once: verdict, steps and place.
+/// The whole check at once: verdict, steps and location.
 pub fn run(file: &[u8], marks: &mut [u8]) -> Granted {
     Check::fresh().grant(file, marks, u64::MAX)
 }
@@ -154,17 +154,17 @@ pub fn watched_grant(
     watch: &mut dyn FnMut(&State, Option<End>),
 ) -> Granted {
     let Ok(state) = <&mut State>::try_from(state) else {
-        return Granted { verdict: BAD_STATE, steps: 0, place: 0 };
+        return Granted { verdict: BAD_STATE, steps: 0, location: 0 };
     };
     let is_running = state::verdict(state).is_none();
     if is_running && steps > 0 && is_other_file(file, marks, state) {
-        return Granted { verdict: OTHER_FILE, steps: 0, place: 0 };
+        return Granted { verdict: OTHER_FILE, steps: 0, location: 0 };
     }
     let mut made = 0;
     while made < steps && state::verdict(state).is_none() {
         let after = step(file, marks, state);
         watch(state, after.err());
-        *state = after.unwrap_or_else(|end| state::finished(end.verdict(), end.place()));
+        *state = after.unwrap_or_else(|end| state::finished(end.verdict(), end.location()));
         made += 1;
     }
     said(state, made)
@@ -173,7 +173,7 @@ pub fn watched_grant(
 /// What a state says after so many steps.
 fn said(state: &State, steps: u64) -> Granted {
     let verdict = state::verdict(state).unwrap_or(RUNNING);
-    Granted { verdict, steps, place: u64::from(state::place(state)) }
+    Granted { verdict, steps, location: u64::from(state::location(state)) }
 }
 
 /// 21: looked for once a length is noted.
@@ -205,7 +205,7 @@ fn open(file: &[u8], marks: &[u8]) -> Result<Point, End> {
     Ok(Point::new(length(file), Phase::Sweep, 0, FIRST_RECORD))
 }
 
-/// One step of the sweep over the body of a file: 7, then 14 for types 10 to 13, each of the place that is swept; then the
+/// One step of the sweep over the body of a file: 7, then 14 for types 10 to 13, each at the offset that is swept; then the
 /// record's marks.
 fn sweep(body: &[u8], marks: &mut [u8], now: &Point) -> Result<Point, End> {
     let refused = |number: i32| End::At(number, now.link);

@@ -36,7 +36,7 @@ impl Part {
         first < self.end().min(other.end())
     }
 
-    /// Its places in an area that it lies in.
+    /// Its bytes in an area that it lies in.
     fn range(self) -> std::ops::Range<usize> {
         self.from..self.from + self.length
     }

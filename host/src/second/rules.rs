@@ -49,7 +49,7 @@ impl<'a> Record<'a> {
         Ok(())
     }
 
-    /// The field at this place of the record.
+    /// The field at this offset of the record.
     fn field(&self, at: i64) -> Result<i64, Breach> {
         needed(self.file, self.offset.saturating_add(at), "fields")
     }
@@ -397,7 +397,7 @@ impl Index {
     }
 
     /// The entry of this number: First at least 0 and at least the floor, Last at least First and at most the ceiling;
-    /// then its offset. A negative number of entries gives the places that none gives.
+    /// then its offset. A negative number of entries gives the offsets that none gives.
     pub fn entry(&self, file: &[u8], number: i64, within: Bounds) -> Result<IndexEntry, Breach> {
         let entries = self.entries.max(0);
         let at = |column: i64| self.offset + 20 + 4 * (column * entries + number);

@@ -9,8 +9,8 @@ pub const FIRST_LEVEL: usize = 12;
 pub const LEVEL_LENGTH: usize = 3;
 /// How many index records there may be above the one that is walked.
 pub const MOST_LEVELS: usize = 7;
-/// The number that keeps the place of a refusal; it stands behind the levels.
-pub const PLACE: usize = FIRST_LEVEL + LEVEL_LENGTH * MOST_LEVELS;
+/// The number that keeps the location of a refusal; it stands behind the levels.
+pub const LOCATION: usize = FIRST_LEVEL + LEVEL_LENGTH * MOST_LEVELS;
 
 /// A saved state of the right length.
 pub type State = [u32; STATE_LENGTH];
@@ -22,7 +22,7 @@ pub const FRESH: State = [0; STATE_LENGTH];
 pub const GREATEST_OFFSET: u32 = 2_147_483_647;
 /// The greatest count, and the greatest number + 1.
 pub const GREATEST_COUNT: u32 = 2_147_483_648;
-/// The greatest place where a link stands.
+/// The greatest offset where a link stands.
 pub const GREATEST_LINK: u32 = 2_147_483_711;
 
 /// The shortest file whose length is noted.
@@ -30,11 +30,11 @@ const SHORTEST_FILE: u32 = 372;
 /// The least offset of a record.
 const FIRST_RECORD: u32 = 8;
 
-/// The state of a finished check: its verdict, and the place of its refusal if it has one.
-pub fn finished(verdict: i32, place: u32) -> State {
+/// The state of a finished check: its verdict, and the location of its refusal if it has one.
+pub fn finished(verdict: i32, location: u32) -> State {
     let mut state = FRESH;
     state[0] = u32::try_from(verdict).map_or(u32::MAX, |verdict| verdict + 1);
-    state[PLACE] = place;
+    state[LOCATION] = location;
     state
 }
 
@@ -46,10 +46,10 @@ pub fn verdict(state: &State) -> Option<i32> {
     }
 }
 
-/// The place that a grant gives with a state: of one finished with 7 to 14 or 23 the number that it keeps, of any other 0.
-pub fn place(state: &State) -> u32 {
+/// The location that a grant gives with a state: of one finished with 7 to 14 or 23 the number that it keeps, of any other 0.
+pub fn location(state: &State) -> u32 {
     match verdict(state) {
-        Some(7..=14 | 23) => state[PLACE],
+        Some(7..=14 | 23) => state[LOCATION],
         _ => 0,
     }
 }
@@ -95,7 +95,7 @@ pub const LEVEL_RANGES: [(u32, u32); LEVEL_LENGTH] =
 /// How many levels a state has, by their `next`; nothing if a number of a level is out of its range, or if there is a
 /// level below one that is not there.
 pub fn level_count(state: &State) -> Option<usize> {
-    let levels = state[FIRST_LEVEL..PLACE].chunks_exact(LEVEL_LENGTH);
+    let levels = state[FIRST_LEVEL..LOCATION].chunks_exact(LEVEL_LENGTH);
     let count = levels.clone().take_while(|level| level[1] != 0).count();
     let within = |(number, (least, most)): (&u32, (u32, u32))| (least..=most).contains(number);
     let right = |level: &[u32]| level.iter().zip(LEVEL_RANGES).all(within);
@@ -114,7 +114,7 @@ pub fn is_in_range(state: &State) -> bool {
     let rest = state.iter().skip(4).zip(greatest(phase)).all(|(number, most)| *number <= most);
     let swept = phase != 1 || link >= FIRST_RECORD;
     let levels = level_count(state).is_some_and(|count| count <= most_levels(phase));
-    let unfinished = verdict == 0 && state[PLACE] == 0;
+    let unfinished = verdict == 0 && state[LOCATION] == 0;
     unfinished && phase <= 8 && noted && kinds(phase).contains(&kind) && rest && swept && levels
 }
 
@@ -182,10 +182,10 @@ impl Levels {
     /// The levels that a state says.
     fn load(state: &State) -> Levels {
         let mut levels = Levels::default();
-        let numbers = state[FIRST_LEVEL..PLACE].chunks_exact(LEVEL_LENGTH);
-        for (place, level) in levels.0.iter_mut().zip(numbers) {
+        let numbers = state[FIRST_LEVEL..LOCATION].chunks_exact(LEVEL_LENGTH);
+        for (slot, level) in levels.0.iter_mut().zip(numbers) {
             let [record, next, last] = [level[0], level[1], level[2]].map(i64::from);
-            *place = (next != 0).then_some(Level { record, next, last });
+            *slot = (next != 0).then_some(Level { record, next, last });
         }
         levels
     }
@@ -295,9 +295,8 @@ impl Point {
             i64::from(self.covered),
         ];
         let mut state = FRESH;
-        for (place, number) in state.iter_mut().zip(plain.into_iter().chain(self.levels.numbers()))
-        {
-            *place = u32::try_from(number).unwrap_or(u32::MAX);
+        for (slot, number) in state.iter_mut().zip(plain.into_iter().chain(self.levels.numbers())) {
+            *slot = u32::try_from(number).unwrap_or(u32::MAX);
         }
         state
     }

@@ -43,17 +43,17 @@ struct Step<'a> {
 }
 
 /// The refusal of this number, of the record at an offset, unless the clause is met.
-fn demand(met: bool, number: i32, place: i64) -> Result<(), End> {
+fn demand(met: bool, number: i32, location: i64) -> Result<(), End> {
     if met {
         Ok(())
     } else {
-        Err(End::At(number, place))
+        Err(End::At(number, location))
     }
 }
 
 /// What a record's rule gives; a breach is the fault of the record at an offset.
-fn judged<T>(rule: Result<T, Breach>, place: i64) -> Result<T, End> {
-    rule.map_err(|breach| End::of_record(breach, place))
+fn judged<T>(rule: Result<T, Breach>, location: i64) -> Result<T, End> {
+    rule.map_err(|breach| End::of_record(breach, location))
 }
 
 impl<'a> Step<'a> {
@@ -127,13 +127,13 @@ impl<'a> Step<'a> {
         usize::try_from(offset).ok().and_then(|at| self.marks.get(at)).copied()
     }
 
-    /// The record that a link leads to: 8 for place, 8 for type, 9.
+    /// The record that a link leads to: 8 for its offset, 8 for its type, 9.
     fn record(&self, link: i64, wanted_type: i64) -> Result<Record<'a>, End> {
         let judge = |found: Option<i64>| self.demand(found == Some(wanted_type), 8);
         self.record_of(link, judge)
     }
 
-    /// The record that an index entry leads to: 8 for place, 8 for type, 23, 9.
+    /// The record that an index entry leads to: 8 for its offset, 8 for its type, 23, 9.
     fn named_record(&self, link: i64) -> Result<Record<'a>, End> {
         self.record_of(link, |found| match found {
             Some(record_type::VXR) => demand(!self.now.levels.are_all(), TOO_DEEP, link),
@@ -141,7 +141,7 @@ impl<'a> Step<'a> {
         })
     }
 
-    /// The record that a link leads to, its type being judged between place and 9.
+    /// The record that a link leads to, its type being judged between its offset and 9.
     fn record_of(
         &self,
         link: i64,

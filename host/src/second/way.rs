@@ -11,7 +11,7 @@ use super::vax::VaxFloat;
 /// The way breaks a rule, or is too long.
 pub const BROKEN: u32 = 20;
 /// No such variable or attribute.
-pub const NO_PLACE: u32 = 15;
+pub const NO_OBJECT: u32 = 15;
 /// No such record or entry number.
 pub const NO_NUMBER: u32 = 16;
 /// The record number lies in a gap of the index.
@@ -104,7 +104,7 @@ impl<'a> Way<'a> {
         while left >= 0 {
             let link = self.needed(link_field)?;
             if link == 0 {
-                return Err(NO_PLACE);
+                return Err(NO_OBJECT);
             }
             let record = self.meet(link, record_type)?;
             let found = judge(&record, &self.header)?;
@@ -114,7 +114,7 @@ impl<'a> Way<'a> {
             left -= 1;
             link_field = link + 8;
         }
-        Err(NO_PLACE)
+        Err(NO_OBJECT)
     }
 
     /// The variable of this kind and number: its kind and its VDR.
@@ -123,7 +123,7 @@ impl<'a> Way<'a> {
         kind: i64,
         number: i64,
     ) -> Result<(&'static VariableKind, Variable), u32> {
-        let kind = variable_kind(kind).ok_or(NO_PLACE)?;
+        let kind = variable_kind(kind).ok_or(NO_OBJECT)?;
         let judge = |record: &Record, header: &Header| {
             if rules::is_compressed(record) {
                 return Err(BROKEN);
@@ -142,7 +142,7 @@ impl<'a> Way<'a> {
 
     /// An attribute's entry of this kind.
     pub fn entry(&mut self, attribute: i64, kind: i64, wanted: Wanted) -> Result<Entry, u32> {
-        let kind = entry_kind(kind).ok_or(NO_PLACE)?;
+        let kind = entry_kind(kind).ok_or(NO_OBJECT)?;
         let adr = self.attribute(attribute)?;
         self.listed_entry(adr.offset + kind.head, kind, wanted)
     }

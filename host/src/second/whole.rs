@@ -142,10 +142,10 @@ mod tests {
     fn numbers_of_128_bits() {
         let mut random = Random::seeded(21);
         for _ in 0..20_000 {
-            let shifts = [random.place(64), random.place(64)];
+            let shifts = [random.size_below(64), random.size_below(64)];
             let [one, two] = shifts.map(|shift| u128::from(random.number() >> shift));
             assert_eq!(of(one).times(&of(two)), of(one * two));
-            let (high, low) = (one << random.place(63), two << random.place(63));
+            let (high, low) = (one << random.size_below(63), two << random.size_below(63));
             assert_eq!(sum(&of(high), &of(low)), of(high + low));
             assert_eq!(of(high).distance(&of(low)), of(high.abs_diff(low)));
             assert_eq!(of(high).cmp(&of(low)), high.cmp(&low));

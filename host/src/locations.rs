@@ -1,4 +1,4 @@
-//! The place of a refusal by a plain reading of the file, apart from the check: its records from start to start, the links
+//! The location of a refusal by a plain reading of the file, apart from the check: its records from start to start, the links
 //! that each of them holds, and what these lead to. Where a number can be due to several records, each of them is right.
 
 use crate::second::bytes::field;
@@ -24,7 +24,7 @@ struct Link {
 }
 
 /// A file's records from offset 8 on.
-struct Places<'a> {
+struct Tiling<'a> {
     body: &'a [u8],
     tiles: Vec<Tile>,
     stop: Stop,
@@ -41,9 +41,9 @@ enum Stop {
     Uncarried(i64),
 }
 
-impl<'a> Places<'a> {
-    /// The records of a file, up to the first place where there is none that is carried.
-    fn of(file: &'a [u8]) -> Places<'a> {
+impl<'a> Tiling<'a> {
+    /// The records of a file, up to the first offset where there is none that is carried.
+    fn of(file: &'a [u8]) -> Tiling<'a> {
         let body = body(file);
         let (mut tiles, mut offset) = (Vec::new(), CDR);
         let stop = loop {
@@ -61,7 +61,7 @@ impl<'a> Places<'a> {
                 _ => break Stop::NoRecord(offset),
             }
         };
-        Places { body, tiles, stop }
+        Tiling { body, tiles, stop }
     }
 
     fn field(&self, offset: i64) -> i64 {
@@ -78,7 +78,7 @@ impl<'a> Places<'a> {
 
     /// The links of a record that the walk takes, VXRtail and a UIR's previous not among them.
     fn links(&self, tile: &Tile) -> Vec<Link> {
-        let places: &[(i64, &'static [i64])] = match tile.record_type {
+        let offsets: &[(i64, &'static [i64])] = match tile.record_type {
             1 => &[(8, &[2])],
             2 => &[(8, &[3]), (12, &[8]), (16, &[4]), (44, &[-1])],
             3 => &[(8, &[3]), (20, &[6])],
@@ -90,7 +90,7 @@ impl<'a> Places<'a> {
             -1 => &[(8, &[-1])],
             _ => &[],
         };
-        let plain = places.iter().map(|(at, wanted)| self.link(tile.offset + at, wanted));
+        let plain = offsets.iter().map(|(at, wanted)| self.link(tile.offset + at, wanted));
         let plain = plain.map(|link| Link { may_end: tile.record_type != 1, ..link });
         let entries = if tile.record_type == 6 { self.entries(tile.offset) } else { Vec::new() };
         plain.chain(entries).collect()
@@ -143,7 +143,7 @@ impl<'a> Places<'a> {
         in_use.map(|tile| tile.offset).find(|offset| !reached.contains(offset))
     }
 
-    /// The record at a place is one that the refusal of this number can be due to.
+    /// The record is one that the refusal of this number can be due to.
     fn can_be_due(&self, verdict: i32, tile: &Tile) -> bool {
         match verdict {
             8 => self.holds_broken_link(tile),
@@ -158,21 +158,21 @@ impl<'a> Places<'a> {
         }
     }
 
-    /// The place is right for the verdict of a check from fresh with marks as long as the file.
-    fn is_right(&self, verdict: i32, place: i64) -> bool {
+    /// The location is right for the verdict of a check from fresh with marks as long as the file.
+    fn is_right(&self, verdict: i32, location: i64) -> bool {
         let is_single = self.field(CDR + 24) & 2 != 0;
         match verdict {
-            0..=6 => place == 0,
-            7 => self.stop == Stop::NoRecord(place),
-            13 => Some(place) == self.first_unclaimed(),
-            14 if !is_single => place == 0,
-            14 if self.stop != Stop::AtEnd => self.stop == Stop::Uncarried(place),
-            _ => self.tile_at(place).is_some_and(|tile| self.can_be_due(verdict, tile)),
+            0..=6 => location == 0,
+            7 => self.stop == Stop::NoRecord(location),
+            13 => Some(location) == self.first_unclaimed(),
+            14 if !is_single => location == 0,
+            14 if self.stop != Stop::AtEnd => self.stop == Stop::Uncarried(location),
+            _ => self.tile_at(location).is_some_and(|tile| self.can_be_due(verdict, tile)),
         }
     }
 }
 
-/// The place is right for the verdict of a check from fresh with marks as long as the file.
-pub fn is_right(file: &[u8], verdict: i32, place: u64) -> bool {
-    i64::try_from(place).is_ok_and(|place| Places::of(file).is_right(verdict, place))
+/// The location is right for the verdict of a check from fresh with marks as long as the file.
+pub fn is_right(file: &[u8], verdict: i32, location: u64) -> bool {
+    i64::try_from(location).is_ok_and(|location| Tiling::of(file).is_right(verdict, location))
 }

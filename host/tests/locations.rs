@@ -1,6 +1,6 @@
 //! Where a refusal is due (docs/RULES.md, section 11): files that break one clause each, with the offset of the record at
 //! fault, and single steps of states made up. By both implementations, in one grant and step by step; a grant after the end
-//! says the place again.
+//! says the location again.
 
 use tlepozaluh_host::bindings::{Granted, State, STATE_LENGTH};
 use tlepozaluh_host::build::model::{Attribute, Entry, File, Index, IndexEntry, Lower};
@@ -8,8 +8,8 @@ use tlepozaluh_host::build::model::{Values, Variable};
 use tlepozaluh_host::build::records::put;
 use tlepozaluh_host::build::{self, in_order};
 use tlepozaluh_host::damage;
+use tlepozaluh_host::locations;
 use tlepozaluh_host::pair::{said_again, to_the_end, Compared, Pair};
-use tlepozaluh_host::places;
 use tlepozaluh_host::second::check::{grant, run, Check, FRESH};
 use tlepozaluh_host::second::tables::{data_type, encoding, DataType};
 
@@ -44,39 +44,39 @@ fn changed(file: &[u8], fields: &[(usize, i64)]) -> Vec<u8> {
     changed
 }
 
-/// Fields and their new values; verdict and place.
+/// Fields and their new values; verdict and location.
 type Case = (&'static [(usize, i64)], i32, u64);
 
-/// A file is refused with this number at this place, by both, whatever the marks are at first.
-fn refused(file: &[u8], (verdict, place): (i32, u64), what: &str) {
+/// A file is refused with this number at this location, by both, whatever the marks are at first.
+fn refused(file: &[u8], (verdict, location): (i32, u64), what: &str) {
     let mut compared = Compared::default();
     for marks in [vec![0; file.len()], vec![1; file.len() + 20]] {
         let mut second_state = FRESH;
         let second = grant(file, &mut marks.clone(), &mut second_state, u64::MAX);
-        assert_eq!((second.verdict, second.place), (verdict, place), "second: {what}");
+        assert_eq!((second.verdict, second.location), (verdict, location), "second: {what}");
         let mut pair = Pair::fresh(&marks);
         let granted = pair.grant(file, u64::MAX, &mut compared);
         let granted = granted.unwrap_or_else(|wrong| panic!("{what}: {wrong}"));
-        assert_eq!((granted.0, granted.2), (verdict, place), "{what}");
-        assert_eq!((pair.state()[0] as i32, u64::from(pair.state()[33])), (verdict + 1, place));
+        assert_eq!((granted.0, granted.2), (verdict, location), "{what}");
+        assert_eq!((pair.state()[0] as i32, u64::from(pair.state()[33])), (verdict + 1, location));
         said_again(&pair, granted, &mut compared).unwrap_or_else(|wrong| panic!("{what}: {wrong}"));
         let stepped = to_the_end(file, &FRESH, &marks, &mut || 1, &mut compared);
         assert_eq!(stepped, Ok(verdict), "{what}");
     }
-    assert!(places::is_right(file, verdict, place), "by a plain reading: {what}");
+    assert!(locations::is_right(file, verdict, location), "by a plain reading: {what}");
 }
 
 /// Each case is refused as it says.
 fn all_refused(name: &str, file: &[u8], cases: &[Case]) {
-    for (fields, verdict, place) in cases {
+    for (fields, verdict, location) in cases {
         let what = format!("{name} with {fields:?}");
-        refused(&changed(file, fields), (*verdict, *place), &what);
+        refused(&changed(file, fields), (*verdict, *location), &what);
     }
 }
 
 /// 3 to 6, and 14 of the CDR's Flags, are of no record; nor are 1 and 2.
 #[test]
-fn the_opening_has_no_place() {
+fn the_opening_has_no_location() {
     let cases: [Case; 8] = [
         (&[(0, 0)], 3, 0),
         (&[(4, 0xCCCC_0001)], 4, 0),
@@ -95,9 +95,9 @@ fn the_opening_has_no_place() {
     assert_eq!(Pair::fresh(&[]).grant(&too_long, 5, &mut compared), Ok((1, 1, 0)));
 }
 
-/// 7 and 14 of the sweep: the place that is swept, and where fewer than 8 bytes are left the place where they begin.
+/// 7 and 14 of the sweep: the offset that is swept, and where fewer than 8 bytes are left the one where they begin.
 #[test]
-fn the_swept_place() {
+fn the_swept_offset() {
     let cases: [Case; 14] = [
         (&[(372, 0)], 7, 372),
         (&[(372, 7)], 7, 372),
@@ -119,7 +119,7 @@ fn the_swept_place() {
 
 /// The sweep ends at eof: what begins before it and passes it is at fault, also where the file goes on.
 #[test]
-fn the_swept_place_of_a_padded_file() {
+fn the_swept_offset_of_a_padded_file() {
     let mut file = file_h();
     file.resize(690, 0);
     let cases: [Case; 4] = [
@@ -435,29 +435,29 @@ fn r_variables() {
     all_refused("rVariables", &in_order(&file), &cases);
 }
 
-/// Damaged files of all kinds: the place of each refusal is one that a plain reading of the file has for its number, and
+/// Damaged files of all kinds: the location of each refusal is one that a plain reading of the file has for its number, and
 /// the plain reading has neither 0 nor the offset behind it.
 #[test]
-fn places_of_damaged_files() {
+fn locations_of_damaged_files() {
     let mut refusals = [0; 24];
     for seed in 0..24 {
         let (_, file) = build::with_levels(seed, 1 + seed as usize % 9);
         for damage in damage::all_damages(&file).iter().skip(seed as usize % 3).step_by(3) {
             let damaged = damage::damaged(&file, damage);
             let granted = run(&damaged, &mut vec![0xAA; damaged.len()]);
-            let (verdict, place) = (granted.verdict, granted.place);
+            let (verdict, location) = (granted.verdict, granted.location);
             let what = || format!("seed {seed}, {damage:?}: {granted:?}");
-            assert!(places::is_right(&damaged, verdict, place), "{}", what());
-            if place != 0 {
+            assert!(locations::is_right(&damaged, verdict, location), "{}", what());
+            if location != 0 {
                 refusals[verdict as usize] += 1;
-                assert!(!places::is_right(&damaged, verdict, 0), "{}", what());
-                assert!(!places::is_right(&damaged, verdict, place + 1), "{}", what());
+                assert!(!locations::is_right(&damaged, verdict, 0), "{}", what());
+                assert!(!locations::is_right(&damaged, verdict, location + 1), "{}", what());
             }
         }
     }
     for (verdict, count) in refusals.iter().enumerate() {
-        let has_place = matches!(verdict, 7..=14 | 23);
-        assert_eq!(*count > 20, has_place, "{verdict}: {refusals:?}");
+        let has_location = matches!(verdict, 7..=14 | 23);
+        assert_eq!(*count > 20, has_location, "{verdict}: {refusals:?}");
     }
 }
 
@@ -478,7 +478,7 @@ type Numbers = [u32; 12];
 fn state(numbers: Numbers, level: Option<[u32; 3]>) -> State {
     let mut state = [0; STATE_LENGTH];
     let all = numbers.into_iter().chain(level.into_iter().flatten());
-    state.iter_mut().zip(all).for_each(|(place, number)| *place = number);
+    state.iter_mut().zip(all).for_each(|(slot, number)| *slot = number);
     state
 }
 
@@ -520,12 +520,12 @@ fn holders_in_states_made_up() {
     let file = changed(&file_h(), &[(LINK as usize, 4)]);
     let marks = swept(&file);
     for (numbers, before) in HOLDERS {
-        let place = u64::from(LINK - before);
-        assert_eq!(one_step(&file, &marks, state(numbers, None)), (8, 1, place), "{numbers:?}");
+        let location = u64::from(LINK - before);
+        assert_eq!(one_step(&file, &marks, state(numbers, None)), (8, 1, location), "{numbers:?}");
         let mut early = numbers;
         early[4] = 20;
-        let place = u64::from(20_u32.saturating_sub(before));
-        assert_eq!(one_step(&file, &marks, state(early, None)), (8, 1, place), "{early:?}");
+        let location = u64::from(20_u32.saturating_sub(before));
+        assert_eq!(one_step(&file, &marks, state(early, None)), (8, 1, location), "{early:?}");
         early[4] = 3;
         assert_eq!(one_step(&file, &marks, state(early, None)), (8, 1, 0), "{early:?}");
         let mut late = numbers;
@@ -540,18 +540,18 @@ fn a_lower_next_in_a_state_made_up() {
     let file = changed(&file_h(), &[(LINK as usize, 504)]);
     let marks = swept(&file);
     let level = Some([504, 1, 5]);
-    for (before, place) in [(0, 440), (1, 452), (504, 452)] {
+    for (before, location) in [(0, 440), (1, 452), (504, 452)] {
         let numbers = [0, 550, 4, 8, LINK, 0, 3, 372, before, 0, 0, 0];
-        assert_eq!(one_step(&file, &marks, state(numbers, level)), (11, 1, place), "{before}");
+        assert_eq!(one_step(&file, &marks, state(numbers, level)), (11, 1, location), "{before}");
         let early = [0, 550, 4, 8, 16, 0, 3, 372, before, 0, 0, 0];
-        let place = if before == 0 { 0 } else { 8 };
-        assert_eq!(one_step(&file, &marks, state(early, level)), (11, 1, place), "{before}");
+        let location = if before == 0 { 0 } else { 8 };
+        assert_eq!(one_step(&file, &marks, state(early, level)), (11, 1, location), "{before}");
     }
 }
 
-/// The CDR, the VXR of an entry, the swept place and the first unclaimed record in states made up.
+/// The CDR, the VXR of an entry, the swept offset and the first unclaimed record in states made up.
 #[test]
-fn other_places_in_states_made_up() {
+fn other_locations_in_states_made_up() {
     let file = file_h();
     let mut marks = swept(&file);
     let step =
@@ -577,9 +577,9 @@ fn other_places_in_states_made_up() {
     assert_eq!(step(&changed(&file, &[(536, 15)]), &marks, unused), (20, 1, 0));
 }
 
-/// A place is given with the refusing step and after it; before it, with 21, and with a grant of nothing, there is none.
+/// A location is given with the refusing step and after it; before it, with 21, and with a grant of nothing, there is none.
 #[test]
-fn places_come_with_the_refusal() {
+fn locations_come_with_the_refusal() {
     let file = changed(&file_h(), &[(388, 3)]);
     let mut compared = Compared::default();
     let mut pair = Pair::fresh(&[0; 550]);
