@@ -3,7 +3,7 @@
  *
  *     bench            builds large files and prints median times and their ratio, proved / C, and those of epochs and dates;
  *                      then rounds over eight files, the clearing of marks by itself, and how the time grows
- *     bench FILE..     no times: compares verdict, steps, place and marks, in one grant and in several, and the answers to many
+ *     bench FILE..     no times: compares verdict, steps, location and marks, in one grant and in several, and the answers to many
  *                      reads, on each file; then epochs and dates, of each day of all years and drawn by chance
  */
 #include "check.h"
@@ -33,7 +33,7 @@ static int32_t proved_check(const uint8_t *file, size_t file_len, uint8_t *marks
     return tlz_check_grant(file, file_len, marks, marks_len, state, TLZ_STATE_LEN, UINT64_MAX, steps, where);
 }
 
-/* The two agree on a file in verdict, steps, place and marks; gives the verdict, or -1 if they do not. */
+/* The two agree on a file in verdict, steps, location and marks; gives the verdict, or -1 if they do not. */
 static int32_t agreed(const struct file *file, const char *name)
 {
     uint8_t *marks = allocated(file->length), *other = allocated(file->length);
@@ -207,7 +207,7 @@ static size_t leap(size_t record, size_t n)
     return (33797 * record + 12345) % n;
 }
 
-static uint64_t proved_places(const struct file *file, size_t n)
+static uint64_t proved_leaps(const struct file *file, size_t n)
 {
     uint64_t sum = 0, kind = 0, bits = 0, offset = 0;
     size_t r = 0;
@@ -219,7 +219,7 @@ static uint64_t proved_places(const struct file *file, size_t n)
     return sum;
 }
 
-static uint64_t plain_places(const struct file *file, size_t n)
+static uint64_t plain_leaps(const struct file *file, size_t n)
 {
     uint64_t sum = 0, kind = 0, bits = 0, offset = 0;
     size_t r = 0;
@@ -309,7 +309,7 @@ int main(int count, char **names)
     timed_vax("every value of 1,000,000 records of D_FLOAT", 1000000, 14);
     timed_vax("every value of 1,000,000 records of G_FLOAT", 1000000, 15);
     timed_reads("one value of each of 20,000 zVariables", variables(20000), 20000, 1, proved_variables, plain_variables);
-    timed_reads("single reads through eight levels", tree(8, 4, 4), 65536, REPEATS, proved_places, plain_places);
+    timed_reads("single reads through eight levels", tree(8, 4, 4), 65536, REPEATS, proved_leaps, plain_leaps);
     dates();
     rounds();
     clearing();

@@ -1,5 +1,5 @@
 /*
- * The whole check in plain C: opening, sweep, walk, with the numbers, places and steps of the rules. It takes no grants and
+ * The whole check in plain C: opening, sweep, walk, with the numbers, locations and steps of the rules. It takes no grants and
  * keeps no state; where it stands is kept in locals.
  */
 #include "check.h"

@@ -8,13 +8,13 @@
 #include <stdlib.h>
 #include <string.h>
 
-enum { WAYS = 3, PLACES = 4, TURNS = 15 };
+enum { WAYS = 3, OFFSETS = 4, TURNS = 15 };
 
 /* Clears the marks of records of these sizes, one after the other, as far as they have 8 bytes or more and fit; as the sweep
    does, or all singly. Gives where that ends. */
 typedef size_t clear_records(uint8_t *marks, size_t marks_len, const size_t *sizes, size_t count, uint32_t singly);
 
-/* The proved call (crates/clearing), at four places in a cache line. */
+/* The proved call (crates/clearing), at four offsets in a cache line. */
 clear_records clearing_records_0, clearing_records_16, clearing_records_32, clearing_records_48;
 
 static size_t by_memset(uint8_t *marks, size_t marks_len, const size_t *sizes, size_t count, uint32_t singly)
@@ -30,18 +30,18 @@ static size_t by_memset(uint8_t *marks, size_t marks_len, const size_t *sizes, s
     return at;
 }
 
-static clear_records *const proved[PLACES] = { clearing_records_0, clearing_records_16, clearing_records_32, clearing_records_48 };
+static clear_records *const proved[OFFSETS] = { clearing_records_0, clearing_records_16, clearing_records_32, clearing_records_48 };
 
-/* A way at a place: as the sweep does now, singly as before, by memset, which has one place. */
-static clear_records *call(int way, int place)
+/* A way at one of the offsets: as the sweep does now, singly as before, by memset, which has one. */
+static clear_records *call(int way, int which)
 {
-    return way < 2 ? proved[place] : by_memset;
+    return way < 2 ? proved[which] : by_memset;
 }
 
 /* Each way clears exactly the first so many of the marks; ends the program if one does not. */
 static void compared(uint8_t *marks, size_t length, const size_t *sizes, size_t count)
 {
-    for (int i = 0; i < WAYS * PLACES; i++) {
+    for (int i = 0; i < WAYS * OFFSETS; i++) {
         int way = i % WAYS;
         memset(marks, 0x55, length + 1);
         int wrong = call(way, i / WAYS)(marks, length, sizes, count, way == 1) != length || marks[length] != 0x55;
@@ -54,24 +54,24 @@ static void compared(uint8_t *marks, size_t length, const size_t *sizes, size_t 
     }
 }
 
-/* Times the three ways by turns, each as often first, on so many records of a size: the mean over the places of the medians. */
+/* Times the three ways by turns, each as often first, on so many records of a size: the mean over the offsets of the medians. */
 static void timed_clearing(size_t count, size_t size)
 {
-    double times[WAYS][PLACES][TURNS], mean[WAYS] = { 0 };
+    double times[WAYS][OFFSETS][TURNS], mean[WAYS] = { 0 };
     size_t length = count * size;
     uint8_t *marks = allocated(length);
     size_t *sizes = allocated(count * sizeof *sizes);
     for (size_t i = 0; i < count; i++)
         sizes[i] = size;
     compared(marks, length, sizes, count);
-    for (int i = 0; i < TURNS * PLACES * WAYS; i++) {
-        int turn = i / (PLACES * WAYS), place = i / WAYS % PLACES, way = (i + turn) % WAYS;
+    for (int i = 0; i < TURNS * OFFSETS * WAYS; i++) {
+        int turn = i / (OFFSETS * WAYS), which = i / WAYS % OFFSETS, way = (i + turn) % WAYS;
         double start = now();
-        call(way, place)(marks, length, sizes, count, way == 1);
-        times[way][place][turn] = now() - start;
+        call(way, which)(marks, length, sizes, count, way == 1);
+        times[way][which][turn] = now() - start;
     }
-    for (int i = 0; i < WAYS * PLACES; i++)
-        mean[i % WAYS] += median(times[i % WAYS][i / WAYS], TURNS) / PLACES;
+    for (int i = 0; i < WAYS * OFFSETS; i++)
+        mean[i % WAYS] += median(times[i % WAYS][i / WAYS], TURNS) / OFFSETS;
     printf("%9zu of %8zu bytes  now %6.3f ms  before %6.3f ms  memset %6.3f ms  now/before %.2f  now/memset %.2f\n",
            count, size, 1e3 * mean[0], 1e3 * mean[1], 1e3 * mean[2], mean[0] / mean[1], mean[0] / mean[2]);
     free(marks);

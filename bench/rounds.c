@@ -16,7 +16,7 @@ static int stand_alike(const uint32_t *state, const struct plain_state *plain)
 {
     uint32_t wanted[TLZ_STATE_LEN] = { (uint32_t)(plain->verdict + 1), plain->length, plain->phase, plain->kind, plain->link };
     wanted[8] = plain->before;
-    wanted[TLZ_STATE_LEN - 1] = plain->place;
+    wanted[TLZ_STATE_LEN - 1] = plain->location;
     return memcmp(state, wanted, sizeof wanted) == 0;
 }
 
@@ -32,7 +32,7 @@ static int32_t agreed_on(const struct file *file, uint64_t q, uint8_t *marks, ui
         int32_t plain_answer = plain_grant(file->bytes, file->length, other, file->length, &plain, q, &other_steps);
         if (plain_answer == NOT_HERE)
             return NOT_HERE;
-        if (answer != plain_answer || steps != other_steps || where != plain.place || !stand_alike(state, &plain))
+        if (answer != plain_answer || steps != other_steps || where != plain.location || !stand_alike(state, &plain))
             return -1;
     }
     return memcmp(marks, other, file->length) == 0 ? answer : -1;

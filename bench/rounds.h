@@ -8,7 +8,7 @@
 
 /*
  * Grants of q steps by the plain check and by the proved one, to the verdict: they agree after each in answer, steps, state and
- * place, and at the end in the marks. Gives the verdict; NOT_HERE if they agree as far as the plain one carries the file; -1 if
+ * location, and at the end in the marks. Gives the verdict; NOT_HERE if they agree as far as the plain one carries the file; -1 if
  * they differ.
  */
 int32_t agreed_by_grants(const struct file *file, uint64_t q);

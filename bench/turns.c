@@ -1,6 +1,6 @@
 /*
  * A check in plain C that can be put down after any step: opening, sweep, and the walk along the CDR's link, the GDR's heads and
- * the list of unused records, with the numbers, places and steps of the rules. It carries files whose lists of variables and
+ * the list of unused records, with the numbers, locations and steps of the rules. It carries files whose lists of variables and
  * attributes are empty; where one is not, the grant ends with NOT_HERE. It does less than the proved check in each grant: it
  * believes its state, which is its own and has eight numbers, and keeps the file's end in it, while the proved check looks at
  * the ranges of 34 numbers and finds the end anew.
@@ -28,9 +28,9 @@ struct plain_state plain_begin(void)
     return (struct plain_state){ .verdict = TLZ_RUNNING };
 }
 
-static void finish(struct turn *t, int32_t verdict, int64_t place)
+static void finish(struct turn *t, int32_t verdict, int64_t location)
 {
-    t->s = (struct plain_state){ .verdict = verdict, .place = (uint32_t)place };
+    t->s = (struct plain_state){ .verdict = verdict, .location = (uint32_t)location };
 }
 
 static void stand(struct turn *t, uint32_t phase, uint32_t kind, int64_t link)
@@ -148,20 +148,20 @@ static void walk_unused(struct turn *t)
 {
     const uint8_t *f = t->f;
     uint8_t *m = t->m;
-    int64_t link = t->s.link, before = t->s.before, end = t->s.end, place = 0;
+    int64_t link = t->s.link, before = t->s.before, end = t->s.end, location = 0;
     uint64_t left = t->left;
     int32_t number = TLZ_RUNNING;
     while (left > 0) {
         int64_t u = field(f, link);
         left--;
         if (u == 0) {
-            place = unclaimed(f, m, end);
-            number = place != 0 ? 13 : 0;
+            location = unclaimed(f, m, end);
+            number = location != 0 ? 13 : 0;
             break;
         }
         number = next_unused(f, m, end, u, before);
         if (number != TLZ_RUNNING) {
-            place = number >= 10 ? u : before != 0 ? before : field(f, 16);
+            location = number >= 10 ? u : before != 0 ? before : field(f, 16);
             break;
         }
         m[u] = 2;
@@ -172,7 +172,7 @@ static void walk_unused(struct turn *t)
     t->s.link = (uint32_t)link;
     t->s.before = (uint32_t)before;
     if (number != TLZ_RUNNING)
-        finish(t, number, place);
+        finish(t, number, location);
 }
 
 int32_t plain_grant(const uint8_t *file, size_t file_len, uint8_t *marks, size_t marks_len, struct plain_state *state,

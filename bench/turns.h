@@ -10,11 +10,11 @@ enum { NOT_HERE = 99 };
 
 /*
  * Where a check stands between grants: of the numbers of docs/STATE.md those that it needs, with the verdict as it is answered
- * (-1 while it is not finished), and the file's end. All are 0 in a finished state but verdict and place.
+ * (-1 while it is not finished), and the file's end. All are 0 in a finished state but verdict and location.
  */
 struct plain_state {
     int32_t verdict;
-    uint32_t length, end, phase, kind, link, before, place;
+    uint32_t length, end, phase, kind, link, before, location;
 };
 
 /* A row of a list of jobs, as tlz_job. */

@@ -23,23 +23,23 @@ static int32_t read_attribute(const struct source *s, int64_t number, struct att
 {
     static const uint64_t fields[] = { TLZ_ATTRIBUTE_SCOPE, TLZ_ATTRIBUTE_NUMBER, TLZ_ATTRIBUTE_GR_ENTRIES,
                                        TLZ_ATTRIBUTE_Z_ENTRIES };
-    int32_t *places[] = { &a->scope, &a->num, &a->counts[0], &a->counts[1] };
+    int32_t *targets[] = { &a->scope, &a->num, &a->counts[0], &a->counts[1] };
     int32_t answer = tlz_read_attribute_name(s->file, s->length, number, &a->name, &a->name_length);
 
     a->number = number;
     for (size_t i = 0; i < sizeof fields / sizeof *fields && answer == 0; i++)
-        answer = tlz_read_attribute(s->file, s->length, number, fields[i], places[i]);
+        answer = tlz_read_attribute(s->file, s->length, number, fields[i], targets[i]);
     return answer;
 }
 
 static int32_t read_fields(const struct source *s, struct entry *e)
 {
     static const uint64_t fields[] = { TLZ_ENTRY_NUMBER, TLZ_ENTRY_TYPE, TLZ_ENTRY_ELEMENTS };
-    int32_t *places[] = { &e->number, &e->type, &e->elements };
+    int32_t *targets[] = { &e->number, &e->type, &e->elements };
     int32_t answer = 0;
 
     for (size_t i = 0; i < sizeof fields / sizeof *fields && answer == 0; i++)
-        answer = tlz_read_entry_at(s->file, s->length, e->of->number, e->kind, e->place, fields[i], places[i]);
+        answer = tlz_read_entry_at(s->file, s->length, e->of->number, e->kind, e->place, fields[i], targets[i]);
     return answer;
 }
 

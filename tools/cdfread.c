@@ -76,12 +76,12 @@ struct said {
 
 static int32_t read_said(const struct source *source, struct said *said)
 {
-    int32_t *places[] = { &said->majority,   &said->encoding,   &said->r_variables, &said->z_variables,
-                          &said->attributes, &said->dimensions, &said->padding };
+    int32_t *targets[] = { &said->majority,   &said->encoding,   &said->r_variables, &said->z_variables,
+                           &said->attributes, &said->dimensions, &said->padding };
     int32_t answer = 0;
 
     for (uint64_t what = TLZ_FILE_MAJORITY; what <= TLZ_FILE_PADDING && answer == 0; what++)
-        answer = tlz_read_file(source->file, source->length, what, places[what]);
+        answer = tlz_read_file(source->file, source->length, what, targets[what]);
     for (int32_t d = 0; answer == 0 && d < said->dimensions && d < MOST_DIMENSIONS; d++)
         answer = tlz_read_dimension(source->file, source->length, d, &said->sizes[d]);
     return answer;

@@ -17,7 +17,7 @@ static void set(struct job *job, enum outcome outcome, int32_t number, const cha
 {
     job->outcome = outcome;
     job->number = number;
-    job->place = 0;
+    job->location = 0;
     job->record = NULL;
     snprintf(job->why, sizeof job->why, "%s", why);
 }
@@ -117,8 +117,8 @@ uint64_t job_due(const struct job *job, const struct manner *manner)
     return left < manner->grant ? left : manner->grant;
 }
 
-/* What an answer says, and its place. 20, 21 and 24 speak of state and round and not of the file, so it was not checked. */
-static void judge(struct job *job, int32_t answer, uint64_t place)
+/* What an answer says, and its location. 20, 21 and 24 speak of state and round and not of the file, so it was not checked. */
+static void judge(struct job *job, int32_t answer, uint64_t location)
 {
     if (answer == TLZ_RUNNING)
         say_where(job);
@@ -128,9 +128,9 @@ static void judge(struct job *job, int32_t answer, uint64_t place)
         set(job, REFUSED, answer, words_of_number(answer));
     else
         set(job, UNCHECKED, answer, words_of_number(answer));
-    if (place != 0 && job->outcome == REFUSED) {
-        job->place = place;
-        job->record = record_words(job->input.bytes, body(job), place);
+    if (location != 0 && job->outcome == REFUSED) {
+        job->location = location;
+        job->record = record_words(job->input.bytes, body(job), location);
     }
 }
 
@@ -149,7 +149,7 @@ static void show(const struct job *job, const struct manner *manner)
 
 void job_take(struct job *job, const struct manner *manner, const struct turn *turn)
 {
-    judge(job, turn->answer, turn->place);
+    judge(job, turn->answer, turn->location);
     job->steps += turn->steps;
     job->seconds += turn->seconds;
     show(job, manner);
@@ -164,7 +164,7 @@ void job_grant(struct job *job, const struct manner *manner)
     size_t length = job->input.length;
 
     turn.answer = tlz_check_grant(job->input.bytes, length, job->marks, length, job->state, TLZ_STATE_LEN,
-                                  job_due(job, manner), &turn.steps, &turn.place);
+                                  job_due(job, manner), &turn.steps, &turn.location);
     turn.seconds = window_clock() - start;
     job_take(job, manner, &turn);
 }

@@ -30,7 +30,7 @@ struct job {
     enum outcome outcome;
     int32_t number;
     char why[WHY_ROOM]; /* in words, unless it is accepted */
-    uint64_t place;     /* of a refusal: the file offset of the record at fault, or 0 .. */
+    uint64_t location;  /* of a refusal: the file offset of the record at fault, or 0 .. */
     const char *record; /* .. and in words what stands there; NULL where it is 0 */
     uint64_t marks_sum; /* of the marks at the end, if asked for */
     bool open;          /* can be granted steps */
@@ -39,9 +39,9 @@ struct job {
 /* What a turn of a job came to. */
 struct turn {
     int32_t answer;
-    uint64_t place; /* of a refusal */
-    uint64_t steps; /* those made; of a round, which does not tell them, those granted: the same where the answer is -1 */
-    double seconds; /* of the grant, or of the whole round */
+    uint64_t location; /* of a refusal */
+    uint64_t steps;    /* those made; of a round, which does not tell them, those granted: the same where the answer is -1 */
+    double seconds;    /* of the grant, or of the whole round */
 };
 
 /* How checks are made, for all files of a run. */

@@ -13,7 +13,7 @@
 
 enum { FOLDERS_OPEN = 16 };
 
-/* What nftw has found so far; it hands its function no place of the caller's. */
+/* What nftw has found so far; it hands its function nothing of the caller's. */
 static struct found *list = NULL;
 static size_t length = 0, room = 0, base = 0;
 

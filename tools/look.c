@@ -100,7 +100,7 @@ static void judge_entries(struct look *l)
 }
 
 /* Notes what is wrong with where the record stands and ends. */
-static void judge_place(struct look *l)
+static void judge_bounds(struct look *l)
 {
     uint64_t length = l->source->length, eof = l->eof;
 
@@ -136,7 +136,7 @@ static void judge(struct look *l)
     l->size = number_at(l, 0);
     l->type = number_at(l, 4);
     l->kind = record_kind(l->type);
-    judge_place(l);
+    judge_bounds(l);
     if (l->kind == NULL)
         note(l, "no record has this type");
     if (l->size >= RECORD_HEAD) {
@@ -278,7 +278,7 @@ static void dump_line(const struct look *l, uint64_t at, uint64_t count)
     printf("\n");
 }
 
-/* The bytes from a place on, which are no fields. */
+/* The bytes from an offset on, which are no fields. */
 static void show_bytes(const struct look *l, uint64_t at)
 {
     uint64_t count = l->have - at, some = count < MOST_BYTES ? count : MOST_BYTES;

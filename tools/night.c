@@ -54,13 +54,13 @@ static tlz_job row_of(const struct found *file)
     return row;
 }
 
-/* A grant of 0 says a row's verdict again, and its place. If it says another, row and state do not belong to each other. */
+/* A grant of 0 says a row's verdict again, and its location. If it says another, row and state do not belong to each other. */
 static void say_again(struct job *job, struct turn *turn)
 {
     uint64_t steps = 0;
     size_t length = job->input.length;
     int32_t again = tlz_check_grant(job->input.bytes, length, job->marks, length, job->state, TLZ_STATE_LEN, 0, &steps,
-                                    &turn->place);
+                                    &turn->location);
 
     if (again != turn->answer)
         turn->answer = TLZ_BAD_STATE;

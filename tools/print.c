@@ -18,8 +18,8 @@ void print_line(const struct job *job, const char *counted, bool marks)
     if (job->padding > 0)
         printf(" (%" PRId32 " byte%s of padding)", job->padding, job->padding == 1 ? "" : "s");
     printf("%s%s", job->why[0] == '\0' ? "" : ": ", job->why);
-    if (job->place != 0)
-        printf(": %s at 0x%" PRIx64 " (%" PRIu64 ")", job->record, job->place, job->place);
+    if (job->location != 0)
+        printf(": %s at 0x%" PRIx64 " (%" PRIu64 ")", job->record, job->location, job->location);
     printf("\n");
 }
 
@@ -33,12 +33,12 @@ static void print_number(const char *name, int32_t number, int32_t none)
 }
 
 /* The location of a refusal, in both forms, and what stands there. */
-static void print_place(const struct job *job)
+static void print_location(const struct job *job)
 {
-    if (job->place == 0)
+    if (job->location == 0)
         printf(", \"place\": null, \"place_hex\": null, \"record\": null");
     else
-        printf(", \"place\": %" PRIu64 ", \"place_hex\": \"0x%" PRIx64 "\", \"record\": \"%s\"", job->place, job->place,
+        printf(", \"place\": %" PRIu64 ", \"place_hex\": \"0x%" PRIx64 "\", \"record\": \"%s\"", job->location, job->location,
                job->record);
 }
 
@@ -54,7 +54,7 @@ void print_json(const struct job *job, const char *counted, bool marks)
     print_number("number", job->number, NO_NUMBER);
     printf(", \"words\": ");
     text_json(stdout, job->why);
-    print_place(job);
+    print_location(job);
     printf(", \"%s\": %" PRIu64 ", \"steps_before\": %" PRIu64, counted, job->steps, job->before);
     printf(", \"seconds\": %.6f", job->seconds);
     print_number("padding", job->padding, NO_PADDING);

@@ -6,7 +6,7 @@
 
 /*
  * One line: outcome, number, steps, seconds, name, padding if there is any, and in words why it is not accepted, with the
- * record at fault and its place if there is one. `counted` is the word for the job's steps: "steps", or "granted".
+ * record at fault and its location if there is one. `counted` is the word for the job's steps: "steps", or "granted".
  */
 void print_line(const struct job *job, const char *counted, bool marks);
 

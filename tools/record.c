@@ -108,12 +108,12 @@ const struct kind *record_kind(int32_t type)
     return NULL;
 }
 
-const char *record_words(const uint8_t *file, size_t end, uint64_t place)
+const char *record_words(const uint8_t *file, size_t end, uint64_t offset)
 {
     const struct kind *kind = NULL;
 
-    if (place > end || end - place < RECORD_HEAD)
+    if (offset > end || end - offset < RECORD_HEAD)
         return "fewer than 8 bytes";
-    kind = record_kind(record_field(file + place + 4));
+    kind = record_kind(record_field(file + offset + 4));
     return kind == NULL ? "bytes of no record type" : kind->words;
 }

@@ -48,7 +48,7 @@ int32_t record_field(const uint8_t *bytes);
 /* The kind of a type, NULL if there is no such type. */
 const struct kind *record_kind(int32_t type);
 
-/* In plain words what stands at a place of a file that ends at `end`: a record by its type, or bytes that are none. */
-const char *record_words(const uint8_t *file, size_t end, uint64_t place);
+/* In plain words what stands at an offset of a file that ends at `end`: a record by its type, or bytes that are none. */
+const char *record_words(const uint8_t *file, size_t end, uint64_t offset);
 
 #endif

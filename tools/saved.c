@@ -16,8 +16,8 @@
 static const char magic[] = "TLZSAVE1";
 static const char damaged[] = "the saved check is damaged";
 
-/* How many numbers a state had before indexes had levels, and before refusals had places. */
-enum { STATE_WITHOUT_LEVELS = 12, STATE_WITHOUT_PLACE = 33 };
+/* How many numbers a state had before indexes had levels, and before refusals had locations. */
+enum { STATE_WITHOUT_LEVELS = 12, STATE_WITHOUT_LOCATION = 33 };
 
 enum { MAGIC = 8, SUM = 8, HEADER = MAGIC + 4 + 4 * TLZ_STATE_LEN + 6 * 8, ROOM = 4096, PIECE = 65536 };
 
@@ -80,10 +80,10 @@ static void unpack(const uint8_t *bytes, struct header *header)
 }
 
 /* The name of the kept check of a path, seen from the root. */
-static const char *place_of(const char *folder, const char *real, char *place)
+static const char *name_of(const char *folder, const char *real, char *name)
 {
     uint64_t sum = sum_with(SUM_OF_NOTHING, real, strlen(real));
-    int length = snprintf(place, ROOM, "%s/%016" PRIx64 ".tlz", folder, sum);
+    int length = snprintf(name, ROOM, "%s/%016" PRIx64 ".tlz", folder, sum);
 
     return length < 0 || length >= ROOM ? strerror(ENAMETOOLONG) : NULL;
 }
@@ -160,16 +160,16 @@ static const char *write_under(const char *name, const struct job *job, const ch
 /* Writes a job whose path from the root is known. */
 static const char *write_real(const char *folder, const struct job *job, const char *real)
 {
-    char place[ROOM], temporary[ROOM + 32];
-    const char *why = place_of(folder, real, place);
+    char name[ROOM], temporary[ROOM + 32];
+    const char *why = name_of(folder, real, name);
 
     if (why != NULL)
         return why;
     if (mkdir(folder, 0700) != 0 && errno != EEXIST)
         return strerror(errno);
-    snprintf(temporary, sizeof temporary, "%s.%ld.tmp", place, (long)getpid());
+    snprintf(temporary, sizeof temporary, "%s.%ld.tmp", name, (long)getpid());
     why = write_under(temporary, job, real);
-    if (why == NULL && rename(temporary, place) != 0)
+    if (why == NULL && rename(temporary, name) != 0)
         why = strerror(errno);
     if (why != NULL) {
         unlink(temporary);
@@ -209,7 +209,7 @@ static const char *other_state(uint32_t count)
 {
     if (count == STATE_WITHOUT_LEVELS)
         return "the saved check is of an older form, with a state of 12 numbers";
-    if (count == STATE_WITHOUT_PLACE)
+    if (count == STATE_WITHOUT_LOCATION)
         return "the saved check is of an older form, with a state of 33 numbers";
     return count == TLZ_STATE_LEN ? NULL : "the saved check has a state of another length";
 }
@@ -276,9 +276,9 @@ static const char *read_job(FILE *in, struct job *job, const char *real)
 /* Goes on with the kept check of a path from the root. */
 static const char *read_real(const char *folder, struct job *job, const char *real)
 {
-    char place[ROOM];
-    const char *why = place_of(folder, real, place);
-    FILE *in = why == NULL ? fopen(place, "rb") : NULL;
+    char name[ROOM];
+    const char *why = name_of(folder, real, name);
+    FILE *in = why == NULL ? fopen(name, "rb") : NULL;
 
     if (why != NULL)
         return why;
@@ -301,13 +301,13 @@ const char *saved_read(const char *folder, struct job *job)
 const char *saved_remove(const char *folder, const char *path)
 {
     char *real = realpath(path, NULL);
-    char place[ROOM];
-    const char *why = real == NULL ? strerror(errno) : place_of(folder, real, place);
+    char name[ROOM];
+    const char *why = real == NULL ? strerror(errno) : name_of(folder, real, name);
 
     free(real);
     if (why != NULL)
         return why;
-    if (unlink(place) != 0)
+    if (unlink(name) != 0)
         return errno == ENOENT ? NULL : strerror(errno);
     return flush_folder(folder);
 }

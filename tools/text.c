@@ -28,7 +28,7 @@ static int following(unsigned char first)
     return first >= 0xf0 && first <= 0xf4 ? 3 : -1;
 }
 
-/* Length of the UTF-8 character at a place, 0 if there is none: too long a form, a surrogate, above U+10FFFF, cut. */
+/* Length of the UTF-8 character that begins here, 0 if there is none: too long a form, a surrogate, above U+10FFFF, cut. */
 static int utf8_length(const unsigned char *at)
 {
     int more = following(at[0]);

@@ -32,10 +32,10 @@ int32_t variable_read(const struct source *source, int64_t kind, int64_t number,
     int32_t answer = 0;
 
     *variable = (struct variable){ .kind = kind, .number = number };
-    int32_t *places[] = { &variable->type,       &variable->max_rec,  &variable->flags,
-                          &variable->sparseness, &variable->elements, &variable->num };
+    int32_t *targets[] = { &variable->type,       &variable->max_rec,  &variable->flags,
+                           &variable->sparseness, &variable->elements, &variable->num };
     for (size_t i = 0; i < sizeof fields / sizeof *fields && answer == 0; i++)
-        answer = tlz_read_variable(source->file, source->length, kind, number, fields[i], places[i]);
+        answer = tlz_read_variable(source->file, source->length, kind, number, fields[i], targets[i]);
     if (answer == 0)
         answer = tlz_read_variable_name(source->file, source->length, kind, number, &variable->name, &variable->name_length);
     return answer == 0 ? read_dimensions(source, variable) : answer;
@@ -185,7 +185,7 @@ static bool advance(struct asked *asked, int32_t below)
 }
 
 /* What stands before a row of values in text: the record, and the indices of all dimensions but the last. */
-static void print_place(const struct asked *asked)
+static void print_indices(const struct asked *asked)
 {
     const struct variable *v = asked->variable;
 
@@ -210,7 +210,7 @@ static int32_t print_values(struct source *source, struct asked *asked)
 
     while (more && answer == 0) {
         if (!source->json && begins)
-            print_place(asked);
+            print_indices(asked);
         fputs(source->json ? (begins ? "" : ", ") : " ", stdout);
         answer = values_print(source, &value, " ");
         more = advance(asked, v->dimensions);

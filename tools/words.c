@@ -83,7 +83,7 @@ const char *words_of_encoding(int32_t encoding)
     return found(encodings, sizeof encodings / sizeof *encodings, encoding, "no encoding");
 }
 
-/* Places of a state; a level has three numbers, and its second is 0 where there is none. */
+/* Places of numbers in a state; a level has three numbers, and its second is 0 where there is none. */
 enum { PHASE = 2, KIND = 3, LINK = 4, COUNT = 5, ENTRY = 9, LEVELS = 12, OF_A_LEVEL = 3, BEHIND_LEVELS = 33 };
 
 /* Phases of a check. */

@@ -1,7 +1,7 @@
 /*
  * boundary ROUNDS FILE..: calls the library with heap buffers of exactly the lengths that it is told, to be run under a memory
  * checker. Fresh checks get marks that were never written; made-up states get made-up marks. Files are also damaged and padded;
- * their padding was never written. Prints how many grants were made; exits with 1 if an answer, the steps, the place or a byte
+ * their padding was never written. Prints how many grants were made; exits with 1 if an answer, the steps, the location or a byte
  * that must not change is wrong.
  */
 #include "states.h"
@@ -56,13 +56,13 @@ static void expect(int right, const char *what)
     fprintf(stderr, "wrong: %s\n", what);
 }
 
-/* Verdicts that a finished state has a place for; 14 may have none. */
-static int has_place(int32_t answer)
+/* Verdicts that a finished state has a location for; 14 may have none. */
+static int has_location(int32_t answer)
 {
     return (answer >= TLZ_NOT_TILED && answer <= TLZ_NOT_CARRIED) || answer == TLZ_TOO_DEEP;
 }
 
-/* A grant whose answer, steps and place are what they can be. */
+/* A grant whose answer, steps and location are what they can be. */
 static int32_t grant(struct lent *lent, uint64_t steps)
 {
     int32_t answer = tlz_check_grant(lent->file, lent->length, lent->marks, lent->marks_len, lent->state, lent->state_len, steps,
@@ -74,11 +74,11 @@ static int32_t grant(struct lent *lent, uint64_t steps)
            "answer");
     expect(*lent->steps <= steps, "steps");
     expect(answer != TLZ_RUNNING || *lent->steps == steps, "fewer steps and not finished");
-    expect(*lent->where == (has_place(answer) ? lent->state[PLACE] : 0), "place");
+    expect(*lent->where == (has_location(answer) ? lent->state[LOCATION] : 0), "location");
     return answer;
 }
 
-/* A finished check gives its verdict and place again, in 0 steps. */
+/* A finished check gives its verdict and location again, in 0 steps. */
 static void repeats(struct lent *lent, int32_t verdict)
 {
     uint64_t where = *lent->where;
@@ -97,8 +97,8 @@ static void fresh_check(const uint8_t *file, size_t length, uint64_t most)
     while (answer == TLZ_RUNNING)
         answer = grant(&lent, 1 + any(most));
     expect(answer != TLZ_OTHER_FILE && answer != TLZ_BAD_STATE, "a fresh check's verdict");
-    expect(!has_place(answer) || (*lent.where >= 8 && *lent.where < lent.end) || (answer == TLZ_NOT_CARRIED && *lent.where == 0),
-           "a fresh check's place");
+    expect(!has_location(answer) || (*lent.where >= 8 && *lent.where < lent.end) || (answer == TLZ_NOT_CARRIED && *lent.where == 0),
+           "a fresh check's location");
     repeats(&lent, answer);
     expect(memcmp(lent.file, file, lent.end) == 0, "the file was written");
     give_back(&lent);
@@ -138,7 +138,7 @@ static void other_lengths(const uint8_t *file, size_t length)
     }
 }
 
-/* Finished states with any other numbers: they repeat verdict and place, and stay as they are. */
+/* Finished states with any other numbers: they repeat verdict and location, and stay as they are. */
 static void finished(const uint8_t *file, size_t length)
 {
     for (size_t k = 0; k < sizeof firsts / sizeof *firsts; k++) {
@@ -154,16 +154,16 @@ static void finished(const uint8_t *file, size_t length)
     }
 }
 
-/* An unfinished state with a place is out of range. */
-static void place_too_early(const uint8_t *file, size_t length)
+/* An unfinished state with a location is out of range. */
+static void location_too_early(const uint8_t *file, size_t length)
 {
     struct lent lent = lend(file, length, length, TLZ_STATE_LEN);
 
     memset(lent.state, 0, TLZ_STATE_LEN * sizeof *lent.state);
-    lent.state[PLACE] = 1 + (uint32_t)any(UINT32_MAX);
-    expect(grant(&lent, 0) == TLZ_RUNNING, "a place in an unfinished state, not looked at");
-    expect(grant(&lent, 1 + any(9)) == TLZ_BAD_STATE && *lent.steps == 1, "a place in an unfinished state");
-    expect(lent.state[0] == TLZ_BAD_STATE + 1 && lent.state[PLACE] == 0, "20 has no place");
+    lent.state[LOCATION] = 1 + (uint32_t)any(UINT32_MAX);
+    expect(grant(&lent, 0) == TLZ_RUNNING, "a location in an unfinished state, not looked at");
+    expect(grant(&lent, 1 + any(9)) == TLZ_BAD_STATE && *lent.steps == 1, "a location in an unfinished state");
+    expect(lent.state[0] == TLZ_BAD_STATE + 1 && lent.state[LOCATION] == 0, "20 has no location");
     repeats(&lent, TLZ_BAD_STATE);
     give_back(&lent);
 }
@@ -241,7 +241,7 @@ static void try_file(const uint8_t *bytes, size_t length, uint64_t rounds)
     short_marks(bytes, length);
     other_lengths(bytes, length);
     finished(bytes, length);
-    place_too_early(bytes, length);
+    location_too_early(bytes, length);
     for (uint64_t i = 0; i < rounds; i++) {
         memcpy(copy, bytes, length);
         size_t padded = pad(copy, length);

@@ -213,7 +213,7 @@ static const struct pair {
     { { 39, 1 }, { 0, 40 }, 0 },
     { { 0, 40 }, { 40, 0 }, 1 },           /* empty, at the area's end */
     { { 0, 40 }, { 17, 0 }, 1 },           /* empty, in the midst of the other */
-    { { 17, 0 }, { 17, 0 }, 1 },           /* both empty, at one place */
+    { { 17, 0 }, { 17, 0 }, 1 },           /* both empty, at one offset */
     { { 0, 0 }, { 41, 0 }, 0 },            /* empty, past the end */
     { { 39, 1 }, { 0, 0 }, 1 },            /* the last byte */
     { { 39, 2 }, { 0, 0 }, 0 },            /* one byte too far */

@@ -5,13 +5,13 @@
 #include "common.h"
 #include "tlepozaluh.h"
 
-/* How many numbers of a state come before its levels; which number is the place. */
-enum { PLAIN = 12, PLACE = 33 };
+/* How many numbers of a state come before its levels; which number is the location. */
+enum { PLAIN = 12, LOCATION = 33 };
 
 /* What number 0 of a finished state may be. */
 static const uint32_t firsts[] = { 1, 2, 3, 4, 5, 6, 7, 8, 9, 10, 11, 12, 13, 14, 15, 21, 24 };
 
-/* A number near the file's places, at an edge, or any. */
+/* An edge, a number about the file's length, a small one, or an offset in the file. */
 static uint32_t made_up_number(size_t length)
 {
     static const uint32_t edges[] = { 0, 1, 3, 5, 8, 9, 312, 372, 2147483647, 2147483648, 2147483711, UINT32_MAX };
@@ -56,7 +56,7 @@ static void make_up(uint32_t *state, size_t length, size_t end)
     state[1] = phase == 0 ? 0 : (uint32_t)length;
     state[2] = phase;
     state[11] &= 1;
-    state[PLACE] = any(50) == 0 ? made_up_number(end) : 0;
+    state[LOCATION] = any(50) == 0 ? made_up_number(end) : 0;
     if (phase >= 3 && phase <= 5)
         state[3] = any(2) ? 3 : 8;
     if (phase == 7)

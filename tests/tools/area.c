@@ -28,7 +28,7 @@ static size_t first_free(size_t length)
     return LENGTH;
 }
 
-/* Takes a part into an empty place, or gives the one there back. Gives 0 if the area does what the map says. */
+/* Takes a part where the area is free, or gives the one there back. Gives 0 if the area does what the map says. */
 static int turn(struct area *area, struct gap *part, size_t length)
 {
     size_t wanted = length > 0 ? first_free(length) : 0;

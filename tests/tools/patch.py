@@ -16,14 +16,14 @@ def fnv1a(data):
 name, words = sys.argv[1], sys.argv[2:]
 with open(name, "rb") as saved:
     body = bytearray(saved.read()[:-8])
-for place, value in zip(words[::2], words[1::2]):
-    if place == "cut":
+for word, value in zip(words[::2], words[1::2]):
+    if word == "cut":
         del body[len(body) - int(value):]
-    elif place == "older":
+    elif word == "older":
         kept = int(value)
         body[8:12 + 4 * int.from_bytes(body[8:12], "little")] = kept.to_bytes(4, "little") + body[12:12 + 4 * kept]
     else:
         new = bytes.fromhex(value)
-        body[int(place):int(place) + len(new)] = new
+        body[int(word):int(word) + len(new)] = new
 with open(name, "wb") as saved:
     saved.write(body + fnv1a(body).to_bytes(8, "little"))

@@ -116,9 +116,9 @@ def compare_text(path, offset, record, found, entries, at):
     name, words = KINDS[number(record, 4)][:2]
     lines = out.splitlines()
     assert status == 0 and lines.pop(0) == f"{words} ({name}) at {hex(offset)} ({offset})", (path, offset, out)
-    for place, field, value, text in found:
+    for within, field, value, text in found:
         line = lines.pop(0)
-        start = f"{place:5} {field:15} "
+        start = f"{within:5} {field:15} "
         assert line.startswith(start), (path, offset, line, start)
         if text is not None:
             assert line == start + text, (path, offset, line)

@@ -31,7 +31,7 @@ def index(level, first, at):
 vdr = fields(132, 8, 0, 2, records - 1, 504, 504, 1, 0, 0, 0, 0, 1, 0, 0, 0) + b"tree".ljust(64, b"\0") + fields(0)
 tree = index(1, 0, 504)
 data = bytearray(opening(6, 504 + len(tree), 1) + vdr + tree)
-for place, number in zip(changes[::2], changes[1::2]):
-    data[place:place + 4] = fields(number)
+for offset, number in zip(changes[::2], changes[1::2]):
+    data[offset:offset + 4] = fields(number)
 with open(out, "wb") as file:
     file.write(data)

@@ -31,16 +31,16 @@ def form_of(encoding, kind):
 def bytes_of(form, **parts):
     """The bytes of a float with this sign s, exponent e and mantissa m."""
     data = bytearray(4 if form is FORMS["F"] else 8)
-    for place, low, high, name, first in form[0]:
-        data[place] |= (parts[name] >> first) % 2**(high - low + 1) << low
+    for byte, low, high, name, first in form[0]:
+        data[byte] |= (parts[name] >> first) % 2**(high - low + 1) << low
     return bytes(data)
 
 
 def exact(form, data):
     """The value of a float's bytes, None if it is the reserved operand."""
     parts = {"s": 0, "e": 0, "m": 0}
-    for place, low, high, name, first in form[0]:
-        parts[name] |= (data[place] >> low) % 2**(high - low + 1) << first
+    for byte, low, high, name, first in form[0]:
+        parts[name] |= (data[byte] >> low) % 2**(high - low + 1) << first
     _, _, width, offset = form
     if parts["e"] == 0:
         return None if parts["s"] else fractions.Fraction(0)

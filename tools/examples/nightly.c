@@ -52,7 +52,7 @@ static int add(struct night *night, uint32_t owner, const char *name)
 
 /*
  * Accepted is 0 and nothing else; -1 is no verdict; 20 and 21 speak of the state and not of the file. A grant of 0 says a
- * refusal's place. Gives 0 if the file is accepted.
+ * refusal's location. Gives 0 if the file is accepted.
  */
 static int report(const struct night *night, tlz_job *job, const char *name)
 {
