@@ -19,7 +19,6 @@ use Rattle.walk.specs.Bounds.{Within}
 use Rattle.walk.specs.Levels.{noLevels, roomBelow}
 use Rattle.walk.specs.Walk.{walkStep}
 use Rattle.walk.specs.declared.positions.Levels.{Levels}
-use Rattle.walk.specs.declared.positions.Walk as W
 use Rattle.walk.specs.declared.positions.Walk.the-variants.{Start}
 use Rattle.walk.specs.declared.positions.Step as T
 use Rattle.walk.specs.declared.positions.Step.the-variants.{Over, End, Take, Down, Up}

@@ -6,7 +6,7 @@ use mathlib.Core.List.{List}
 use Prim.Native.Nat.{ℕ, _+_, max}
 use lib.Dec.{ltb, eqb}
 use borrow.Author.Tests.{le-ltb, eqb-false}
-use Rattle.format.specs.Fields.{endOf, linkAt, afterAt}
+use Rattle.format.specs.Fields.{endOf, afterAt}
 use Rattle.records.specs.Opening.{gdrAt}
 use Rattle.records.specs.Index.{usedAt, indexAt, entryOf}
 use Rattle.records.specs.declared.index.Entry as E

@@ -6,20 +6,13 @@ use Rattle.format.proofs.Widths.{swap-four}
 use borrow.Author.Needs.{needs}
 use Rattle.format.proofs.bytes.big4.Statement.{statement}
 use Rattle.format.proofs.bytes.big4.Tie as tie
-use Rattle.format.proofs.bytes.big4.Reads as reads
-use Rattle.format.proofs.bytes.big4.Lts as lts
-use Rattle.format.proofs.bytes.little4.Reads as little4-reads
-use Rattle.format.proofs.bytes.swapped.Reads as swapped-reads
 
--- src/bytes.rt:39:13
 little4-requires : tie.Need-little4-requires
 little4-requires c κs = search needs
 
--- src/bytes.rt:39:5
 swapped-requires : tie.Need-swapped-requires
 swapped-requires c κs = search needs
 
--- src/bytes.rt:35:1
 returns : tie.Need-returns
 returns c =
     let a = c .before .before .before .args in

@@ -2,32 +2,22 @@ use borrow.Author.Tests.{lt-leb, le-leb}
 use borrow.Author.Needs.{needs}
 use Rattle.records.proofs.index.is_index.Statement.{statement}
 use Rattle.records.proofs.index.is_index.Tie as tie
-use Rattle.records.proofs.index.is_index.Reads as reads
-use Rattle.records.proofs.index.is_index.Lts as lts
-use Rattle.format.proofs.fields.end.Reads as end-reads
-use Rattle.format.proofs.fields.is_nat.Reads as is-nat-reads
 
--- src/index.rt:239:8
 end-requires : tie.Need-end-requires
 end-requires c κs = search needs
 
--- src/index.rt:239:25
 add-if1 : tie.Need-add-if1
 add-if1 c = search needs
 
--- src/index.rt:240:9
 returns : tie.Need-returns
 returns c = simp (← c .before .end .ensures .0, lt-leb _ _ (c .if1 .taken))
 
--- src/index.rt:242:23
 add-is-nat : tie.Need-add-is-nat
 add-is-nat c = search needs
 
--- src/index.rt:242:5
 is-nat-requires : tie.Need-is-nat-requires
 is-nat-requires c κs = search needs
 
--- src/index.rt:236:1
 returns-2 : tie.Need-returns-2
 returns-2 c = simp (← c .before .before .end .ensures .0, le-leb _ _ (c .before .if1 .left), c .is-nat .ensures)
 

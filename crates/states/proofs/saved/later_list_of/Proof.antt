@@ -1,5 +1,4 @@
 use borrow.Author.Tests.{eq-eqb, ne-eqb}
-use Rattle.states.specs.Saved.{laterBy}
 use borrow.Author.Needs.{needs}
 use Rattle.states.proofs.saved.later_list_of.Statement.{statement}
 use Rattle.states.proofs.saved.later_list_of.Tie as tie
@@ -14,7 +13,6 @@ walking-requires : tie.Need-walking-requires
 walking-requires c κs = search needs
 
 returns : tie.Need-returns
-unfolding laterBy
 returns c = simp (c .walking .ensures, eq-eqb _ _ (c .before .before .before .if1 .taken))
 
 shared-slice-read-t10 : tie.Need-shared-slice-read-t10
@@ -39,7 +37,6 @@ walking-requires-2 : tie.Need-walking-requires-2
 walking-requires-2 c κs = search needs
 
 returns-2 : tie.Need-returns-2
-unfolding laterBy
 returns-2 c =
     let at-shared-slice-known7 = c .before .before .before in let at-if2 = at-shared-slice-known7 .before .before .before .before in
     simp (c .walking2 .ensures, eq-eqb _ _ (at-if2 .if2 .taken), ne-eqb _ _ (at-if2 .before .if1 .left))
@@ -54,13 +51,11 @@ walking-requires-3 : tie.Need-walking-requires-3
 walking-requires-3 c κs = search needs
 
 returns-3 : tie.Need-returns-3
-unfolding laterBy
 returns-3 c =
     let at-if3 = c .before .before .before in let at-if2 = at-if3 .before in
     simp (c .walking3 .ensures, eq-eqb _ _ (at-if3 .if3 .taken), ne-eqb _ _ (at-if2 .if2 .left), ne-eqb _ _ (at-if2 .before .if1 .left))
 
 returns-4 : tie.Need-returns-4
-unfolding laterBy
 returns-4 c = simp (ne-eqb _ _ (c .if3 .left), ne-eqb _ _ (c .before .if2 .left), ne-eqb _ _ (c .before .before .if1 .left))
 
 pub later-list-of-spec : {M : Type 1} → statement M

@@ -1,5 +1,4 @@
 use borrow.Author.Tests.{eq-eqb, ne-eqb}
-use Rattle.states.specs.Saved.{listBy}
 use borrow.Author.Needs.{needs}
 use Rattle.states.proofs.saved.list_of.Statement.{statement}
 use Rattle.states.proofs.saved.list_of.Tie as tie
@@ -20,7 +19,6 @@ walking-requires : tie.Need-walking-requires
 walking-requires c κs = search needs
 
 returns : tie.Need-returns
-unfolding listBy
 returns c =
     let at-shared-slice-known2 = c .before .before .before .before in
     simp (c .walking .ensures, eq-eqb _ _ (at-shared-slice-known2 .before .if1 .taken))
@@ -44,7 +42,6 @@ walking-requires-2 : tie.Need-walking-requires-2
 walking-requires-2 c κs = search needs
 
 returns-2 : tie.Need-returns-2
-unfolding listBy
 returns-2 c =
     let at-shared-slice-known9 = c .before in let at-var-of = at-shared-slice-known9 .before .before .before .before in let at-if2 = at-var-of .before in
     simp (c .walking2 .ensures, at-var-of .var-of .ensures, eq-eqb _ _ (at-if2 .if2 .taken), ne-eqb _ _ (at-if2 .before .if1 .left))
@@ -68,7 +65,6 @@ walking-requires-3 : tie.Need-walking-requires-3
 walking-requires-3 c κs = search needs
 
 returns-3 : tie.Need-returns-3
-unfolding listBy
 returns-3 c =
     let at-shared-slice-known13 = c .before in let at-var-of2 = at-shared-slice-known13 .before .before .before .before in let at-if3 = at-var-of2 .before in
     let at-if2 = at-if3 .before in

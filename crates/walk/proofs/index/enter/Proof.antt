@@ -1,5 +1,4 @@
-use borrow.Author.Tests.{lt-ltb, le-ltb, lt-leb, le-leb}
-use Rattle.walk.specs.Walk.{entered}
+use borrow.Author.Tests.{lt-ltb, le-ltb}
 use borrow.Author.Needs.{needs}
 use Rattle.walk.proofs.index.enter.Statement.{statement}
 use Rattle.walk.proofs.index.enter.Tie as tie
@@ -11,15 +10,13 @@ nat-at-requires : tie.Need-nat-at-requires
 nat-at-requires c κs = search needs
 
 returns : tie.Need-returns
-unfolding entered
-returns c = simp (lt-ltb _ _ (c .if1 .taken), lt-leb _ _ (c .if1 .taken), ← c .before .nat-at .ensures .0)
+returns c = simp (lt-ltb _ _ (c .if1 .taken), ← c .before .nat-at .ensures .0)
 
 add-t7 : tie.Need-add-t7
 add-t7 c = search needs
 
 returns-2 : tie.Need-returns-2
-unfolding entered
-returns-2 c = simp (le-ltb _ _ (c .if1 .left), le-leb _ _ (c .if1 .left), ← c .before .nat-at .ensures .0)
+returns-2 c = simp (le-ltb _ _ (c .if1 .left), ← c .before .nat-at .ensures .0)
 
 pub enter-spec : {M : Type 1} → statement M
 enter-spec = tie.close (tie.spec add-nat-at nat-at-requires returns add-t7 returns-2)
