@@ -136,15 +136,23 @@ module _ {Position : Type 0} (Step : (Position → List ℕ → Type 0) → Posi
 
 -- ---- nothing, one piece after another, and one link
 module _ {Position : Type 0} (Step : (Position → List ℕ → Type 0) → Position → List ℕ → Type 0) where
-  pub claims-as : {B : Type 0} {w : Position} {R : B → Type 0} {c : B → List ℕ} (d : B → List ℕ) {to : B → Option Position} → ((b : B) → c b ≡ d b)
-      → Leads Step w R c to → Leads Step w R d to
-  claims-as {B} {w} {R} {c} d {to} e x = record {
+  -- what is read off, in other words: of a C, with its own rule and claims
+  pub leads-as : {B C : Type 0} {w : Position} {R : B → Type 0} {Q : C → Type 0} {c : B → List ℕ} {d : C → List ℕ} {to : Option Position} (into : B → C)
+      (back : C → B) → ((b : B) → R b → Q (into b)) → ((x : C) → Q x → R (back x)) → ((b : B) → c b ≡ d (into b)) → ((x : C) → c (back x) ≡ d x)
+      → Leads Step w R c (λ b. to) → Leads Step w Q d (λ x. to)
+  leads-as {w = w} into back obeys obeyed e g x = record {
     reads = λ k cs h.
         let r = x .reads k cs h in
         let split = r .split ∙ ap (λ (l : List ℕ). l ++ r .rest) (e (r .what)) in
-        record { what = r .what; obeys = r .obeys; left = r .left; rest = r .rest; fewer = r .fewer; split = split; ends = r .ends };
-    makes = λ b k cs o h. let s = x .makes b k cs o h in (s .0, subst (λ (l : List ℕ). Ends Step (s .0) w (l ++ cs)) (e b) (s .1));
+        record { what = into (r .what); obeys = obeys (r .what) (r .obeys); left = r .left; rest = r .rest; fewer = r .fewer; split = split; ends = r .ends };
+    makes = λ y k cs o h.
+        let s = x .makes (back y) k cs (obeyed y o) h in
+        (s .0, subst (λ (l : List ℕ). Ends Step (s .0) w (l ++ cs)) (g y) (s .1));
   }
+
+  pub claims-as : {B : Type 0} {w : Position} {R : B → Type 0} {c : B → List ℕ} (d : B → List ℕ) {to : Option Position} → ((b : B) → c b ≡ d b)
+      → Leads Step w R c (λ b. to) → Leads Step w R d (λ b. to)
+  claims-as d e x = leads-as (λ b. b) (λ b. b) (λ b o. o) (λ b o. o) e e x
 
   pub none-leads : (w : Position) → Leads Step {B = Unit {0}} w (λ u. Unit {0}) (λ u. []) (λ u. some w)
   none-leads w = record {

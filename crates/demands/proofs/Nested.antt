@@ -35,7 +35,7 @@ use Rattle.walk.specs.declared.positions.Step.the-variants.{Over, End, Down}
 use Rattle.demands.specs.Acceptance.{ListedVdr, ListedAdr, offsets, indexOffsets, variableOffsets, attributeOffsets}
 use Rattle.records.proofs.Fielded.{vxr-law}
 use Rattle.demands.proofs.Goes.{Ends, Goes, goes-from, goes-to, takes-link, passes-link}
-use Rattle.demands.proofs.Lists.{EndsAt, Leads, Rules, Listed, LinkGoes, LinkEnds, list-leads, none-leads, then-leads, take-leads, claims-as, goes-leads}
+use Rattle.demands.proofs.Lists.{EndsAt, Leads, Rules, Listed, LinkGoes, LinkEnds, list-leads, none-leads, then-leads, take-leads, claims-as, leads-as, goes-leads}
 use Rattle.demands.proofs.Positions.{Position, position, top, StepEnds, Steps}
 use Rattle.demands.proofs.Trees.{slot, nextSlot, Row, rowAfter, TreeRules, afterSlot, SlotGood, rows-go}
 use Rattle.demands.proofs.Levels.{levelOf, levelsOf, level-there, room-there, down-up, room-gone}
@@ -154,19 +154,24 @@ unusedRules f = record {
   tally = λ bs. Unit {0};
 }
 
--- rVariables, zVariables, attributes, unused
-abbrev pub Layout : Type 0
-Layout = List ListedVdr × (List ListedVdr × (List ListedAdr × List ℕ))
+-- the lists of a file
+pub record FileLists : Type 0 where
+  pub rVariables : List ListedVdr
+  pub zVariables : List ListedVdr
+  pub attributes : List ListedAdr
+  pub unused : List ℕ
 
-abbrev pub claimsOf : List ℕ → Layout → List ℕ
-claimsOf f y = gdrAt f ∷ (variableOffsets f (y .0) ++ (variableOffsets f (y .1 .0) ++ (attributeOffsets (y .1 .1 .0) ++ y .1 .1 .1)))
+abbrev pub claimsOf : List ℕ → FileLists → List ℕ
+claimsOf f y =
+    gdrAt f ∷ (variableOffsets f (y .rVariables) ++ (variableOffsets f (y .zVariables) ++ (attributeOffsets (y .attributes) ++ y .unused)))
 
-abbrev pub NestedObeys : List ℕ → Layout → Type 0
-NestedObeys f y =
-    ((gdrNamed f ≡ true) × (typeNumber f (gdrAt f) (pos 2) ≡ 0))
-    × (Listed f (varsRules f 3) [] (gdrAt f + 8) (y .0)
-    × (Listed f (varsRules f 8) [] (gdrAt f + 12) (y .1 .0)
-    × (Listed f (attrsRules f) [] (gdrAt f + 16) (y .1 .1 .0) × Listed f (unusedRules f) [] (gdrAt f + 44) (y .1 .1 .1))))
+pub record NestedObeys (f : List ℕ) (y : FileLists) : Type 0 where
+  pub gdr-named : gdrNamed f ≡ true
+  pub gdr-typed : typeNumber f (gdrAt f) (pos 2) ≡ 0
+  pub rVariables : Listed f (varsRules f 3) [] (gdrAt f + 8) (y .rVariables)
+  pub zVariables : Listed f (varsRules f 8) [] (gdrAt f + 12) (y .zVariables)
+  pub attributes : Listed f (attrsRules f) [] (gdrAt f + 16) (y .attributes)
+  pub unused : Listed f (unusedRules f) [] (gdrAt f + 44) (y .unused)
 
 -- ---- a step that ends well, shape by shape
 module _ (f : List ℕ) (E : Position → List ℕ → Type 0) (up : Levels) where
@@ -580,7 +585,16 @@ module _ (f : List ℕ) where
   -- THE WALK reads off the nested rules
   pub walk-lead : Leads (Steps f) (top Start) (NestedObeys f) (claimsOf f) (λ y. none)
   walk-lead =
-      take-leads (Steps f) (top Start) (top (Vars 3 (gdrAt f + 8) 0 0)) (gdrAt f) ((gdrNamed f ≡ true) × (typeNumber f (gdrAt f) (pos 2) ≡ 0)) start-steps
+      leads-as (Steps f) {C = FileLists} {Q = NestedObeys f} {d = claimsOf f} (λ p. record { rVariables = p .0; zVariables = p .1 .0; attributes = p .1 .1 .0; unused = p .1 .1 .1 })
+      (λ y. (y .rVariables, (y .zVariables, (y .attributes, y .unused)))) (λ p o. record {
+        gdr-named = o .0 .0;
+        gdr-typed = o .0 .1;
+        rVariables = o .1 .0;
+        zVariables = o .1 .1 .0;
+        attributes = o .1 .1 .1 .0;
+        unused = o .1 .1 .1 .1;
+      }) (λ y o. ((o .gdr-named, o .gdr-typed), (o .rVariables, (o .zVariables, (o .attributes, o .unused))))) (λ p. refl) (λ y. refl)
+      (take-leads (Steps f) (top Start) (top (Vars 3 (gdrAt f + 8) 0 0)) (gdrAt f) ((gdrNamed f ≡ true) × (typeNumber f (gdrAt f) (pos 2) ≡ 0)) start-steps
       (then-leads (Steps f) (λ y. top (Vars 8 (gdrAt f + 12) 0 0)) (vars-lead 3 (gdrAt f + 8))
       (λ y. then-leads (Steps f) (λ y. top (Attrs (gdrAt f + 16) 0)) (vars-lead 8 (gdrAt f + 12))
-      (λ y. then-leads (Steps f) (λ y. top (Unused (gdrAt f + 44) 0)) (attrs-lead (gdrAt f + 16)) (λ y. unused-lead (gdrAt f + 44)))))
+      (λ y. then-leads (Steps f) (λ y. top (Unused (gdrAt f + 44) 0)) (attrs-lead (gdrAt f + 16)) (λ y. unused-lead (gdrAt f + 44))))))

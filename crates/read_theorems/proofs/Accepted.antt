@@ -23,7 +23,7 @@ use Rattle.lookup.specs.declared.lists.Way.the-variants.{Found, Stopped}
 use Rattle.demands.specs.Acceptance.{_∈_, Each, Linked, ListedVdr, ListedAdr, variableOffsets, attributeOffsets}
 use Rattle.demands.proofs.Opened.{opening-makes}
 use Rattle.demands.proofs.Records.{Stands}
-use Rattle.demands.proofs.Nested.{Layout, claimsOf, entriesRules}
+use Rattle.demands.proofs.Nested.{FileLists, claimsOf, entriesRules}
 use Rattle.demands.proofs.NestedDemand.{NestedAccepted}
 use Rattle.demands.proofs.Splits.{in-left, in-right, listed-reads, length-earlier, mem-in, in-mem}
 use Rattle.demands.proofs.AttributeFacts.{attrs-reads}
@@ -51,20 +51,20 @@ module _ (f : List ℕ) (n : NestedAccepted f) where
   abbrev body : List ℕ
   body = bodyOf f
 
-  abbrev pub lay : Layout
+  abbrev pub lay : FileLists
   lay = n .valid .layout
 
   abbrev rs : List ℕ
-  rs = variableOffsets body (lay .0)
+  rs = variableOffsets body (lay .rVariables)
 
   abbrev zs : List ℕ
-  zs = variableOffsets body (lay .1 .0)
+  zs = variableOffsets body (lay .zVariables)
 
   abbrev ads : List ℕ
-  ads = attributeOffsets (lay .1 .1 .0)
+  ads = attributeOffsets (lay .attributes)
 
   abbrev us : List ℕ
-  us = lay .1 .1 .1
+  us = lay .unused
 
   pub opens : opened f ≡ true
   unfolding opened tooLong
@@ -91,7 +91,7 @@ module _ (f : List ℕ) (n : NestedAccepted f) where
 
   -- ---- variables: kind 3 where b is true, else 8
   abbrev pub varsOf : Bool → List ListedVdr
-  varsOf b = cond b (lay .0) (lay .1 .0)
+  varsOf b = cond b (lay .rVariables) (lay .zVariables)
 
   -- there is no such place in a list
   abbrev pub NoPlace : {X : Type 0} → List X → ℤ → Type 0
@@ -106,18 +106,18 @@ module _ (f : List ℕ) (n : NestedAccepted f) where
   vars-on b (negsuc j) = (refl, inl refl)
   vars-on true (pos j) =
       go (sought body 3 (Place j) (headOfRVariables (gdrAt body)) 0 (allowance f))
-      (variables-way body true (Place j) (headOfRVariables (gdrAt body)) (allowance f) (lay .0) (n .valid .obeys .1 .0) r-standing (omega (arith, enough)))
+      (variables-way body true (Place j) (headOfRVariables (gdrAt body)) (allowance f) (lay .rVariables) (n .valid .obeys .rVariables) r-standing (omega (arith, enough)))
     where
-      go : (s : Way) → OnVariables body 3 (Place j) (allowance f) (lay .0) s → VarsOn true (pos j) s
+      go : (s : Way) → OnVariables body 3 (Place j) (allowance f) (lay .rVariables) s → VarsOn true (pos j) s
       go (Found v rest) a = a
-      go (Stopped m) a = (a .number, inr (omega (arith, none-placed (lay .0) 0 j (omega arith) (a .none))))
+      go (Stopped m) a = (a .number, inr (omega (arith, none-placed (lay .rVariables) 0 j (omega arith) (a .none))))
   vars-on false (pos j) =
       go (sought body 8 (Place j) (headOfZVariables (gdrAt body)) 0 (allowance f))
-      (variables-way body false (Place j) (headOfZVariables (gdrAt body)) (allowance f) (lay .1 .0) (n .valid .obeys .1 .1 .0) z-standing (omega (arith, enough)))
+      (variables-way body false (Place j) (headOfZVariables (gdrAt body)) (allowance f) (lay .zVariables) (n .valid .obeys .zVariables) z-standing (omega (arith, enough)))
     where
-      go : (s : Way) → OnVariables body 8 (Place j) (allowance f) (lay .1 .0) s → VarsOn false (pos j) s
+      go : (s : Way) → OnVariables body 8 (Place j) (allowance f) (lay .zVariables) s → VarsOn false (pos j) s
       go (Found v rest) a = a
-      go (Stopped m) a = (a .number, inr (omega (arith, none-placed (lay .1 .0) 0 j (omega arith) (a .none))))
+      go (Stopped m) a = (a .number, inr (omega (arith, none-placed (lay .zVariables) 0 j (omega arith) (a .none))))
 
   -- ---- "counts equal lengths"
   abbrev countAt : Bool → ℕ
@@ -125,13 +125,13 @@ module _ (f : List ℕ) (n : NestedAccepted f) where
 
   vars-count : (b : Bool) → fieldAt body (countAt b) ≡ pos (length (varsOf b))
   unfolding isAt
-  vars-count true = eqZ-true (fieldAt body (countAt true)) (pos (length (lay .0))) (r-reads body (lay .0) (headOfRVariables (gdrAt body)) (n .valid .obeys .1 .0) .0 .counted)
-  vars-count false = eqZ-true (fieldAt body (countAt false)) (pos (length (lay .1 .0))) (z-reads body (lay .1 .0) (headOfZVariables (gdrAt body)) (n .valid .obeys .1 .1 .0) .counted)
+  vars-count true = eqZ-true (fieldAt body (countAt true)) (pos (length (lay .rVariables))) (r-reads body (lay .rVariables) (headOfRVariables (gdrAt body)) (n .valid .obeys .rVariables) .0 .counted)
+  vars-count false = eqZ-true (fieldAt body (countAt false)) (pos (length (lay .zVariables))) (z-reads body (lay .zVariables) (headOfZVariables (gdrAt body)) (n .valid .obeys .zVariables) .counted)
 
-  attrs-count : fieldAt body (numAttrAt (gdrAt body)) ≡ pos (length (lay .1 .1 .0))
+  attrs-count : fieldAt body (numAttrAt (gdrAt body)) ≡ pos (length (lay .attributes))
   unfolding isAt
   attrs-count =
-      eqZ-true (fieldAt body (numAttrAt (gdrAt body))) (pos (length (lay .1 .1 .0))) (attrs-reads body (headOfAttributes (gdrAt body)) (lay .1 .1 .0) (n .valid .obeys .1 .1 .1 .0) .counted)
+      eqZ-true (fieldAt body (numAttrAt (gdrAt body))) (pos (length (lay .attributes))) (attrs-reads body (headOfAttributes (gdrAt body)) (lay .attributes) (n .valid .obeys .attributes) .counted)
 
   no-place : (p len : ℕ) (j : ℤ) → fieldAt body p ≡ pos len → (leZ (pos 0) j ≡ false) ⊎ (len ≤ natOr 0 j) → placeThere body p j ≡ false
   no-place p len j e (inl h) = rw h
@@ -171,19 +171,19 @@ module _ (f : List ℕ) (n : NestedAccepted f) where
 
   -- ---- attributes
   abbrev pub AttributeOn : ℤ → Way → Type 0
-  AttributeOn j (Found a rest) = AttributeIn body (Place (natOr 0 j)) (allowance f) (lay .1 .1 .0) a rest
-  AttributeOn j (Stopped m) = (m ≡ 15) × NoPlace (lay .1 .1 .0) j
+  AttributeOn j (Found a rest) = AttributeIn body (Place (natOr 0 j)) (allowance f) (lay .attributes) a rest
+  AttributeOn j (Stopped m) = (m ≡ 15) × NoPlace (lay .attributes) j
 
   attrs-on : (j : ℤ) → AttributeOn j (fileWay f 4 j)
   unfolding placeWay
   attrs-on (negsuc j) = (refl, inl refl)
   attrs-on (pos j) =
       go (sought body 4 (Place j) (headOfAttributes (gdrAt body)) 0 (allowance f))
-      (attributes-way body (Place j) (headOfAttributes (gdrAt body)) (allowance f) (lay .1 .1 .0) (n .valid .obeys .1 .1 .1 .0) ads-standing (omega (arith, enough)))
+      (attributes-way body (Place j) (headOfAttributes (gdrAt body)) (allowance f) (lay .attributes) (n .valid .obeys .attributes) ads-standing (omega (arith, enough)))
     where
-      go : (s : Way) → OnAttributes body (Place j) (allowance f) (lay .1 .1 .0) s → AttributeOn (pos j) s
+      go : (s : Way) → OnAttributes body (Place j) (allowance f) (lay .attributes) s → AttributeOn (pos j) s
       go (Found a rest) w = w
-      go (Stopped m) w = (w .number, inr (omega (arith, none-placed (lay .1 .1 .0) 0 j (omega arith) (w .none))))
+      go (Stopped m) w = (w .number, inr (omega (arith, none-placed (lay .attributes) 0 j (omega arith) (w .none))))
 
   -- THE WAY TO AN ATTRIBUTE comes to it, or to 15
   pub attribute-on : (j : ℤ) → AttributeOn j (attributeWay f j)
@@ -197,24 +197,24 @@ module _ (f : List ℕ) (n : NestedAccepted f) where
   pub record EntryIn (b : Bool) (j : ℤ) (w : Wanted) (e rest : ℕ) : Type 0 where
     pub adr : ℕ
     pub left : ℕ
-    pub attribute : AttributeIn body (Place (natOr 0 j)) (allowance f) (lay .1 .1 .0) adr left
+    pub attribute : AttributeIn body (Place (natOr 0 j)) (allowance f) (lay .attributes) adr left
     pub entry : FoundIn body (cond b 5 9) w (λ e. e) 0 left (entriesIn b (attribute .found .here)) e rest
 
   pub record EntryLacks (b : Bool) (j : ℤ) (w : Wanted) (m : ℕ) : Type 0 where
     pub adr : ℕ
     pub left : ℕ
     pub way : fileWay f 4 j ≡ Found adr left
-    pub attribute : AttributeIn body (Place (natOr 0 j)) (allowance f) (lay .1 .1 .0) adr left
+    pub attribute : AttributeIn body (Place (natOr 0 j)) (allowance f) (lay .attributes) adr left
     pub entry : NoneIn body (cond b 5 9) w (λ e. e) 0 (entriesIn b (attribute .found .here)) m
 
-  pub entries-linked : (b : Bool) (j : ℤ) (a left : ℕ) (i : AttributeIn body (Place (natOr 0 j)) (allowance f) (lay .1 .1 .0) a left)
+  pub entries-linked : (b : Bool) (j : ℤ) (a left : ℕ) (i : AttributeIn body (Place (natOr 0 j)) (allowance f) (lay .attributes) a left)
       → Linked body (λ e. e) (headOfEntries a (cond b 5 9)) (entriesIn b (i .found .here))
   entries-linked true j a left i = listed-reads body (entriesRules body 5 a) (headOfGrEntries a) (i .found .here .grEntries) (i .gr) .linked
   entries-linked false j a left i = listed-reads body (entriesRules body 9 a) (headOfZEntries a) (i .found .here .zEntries) (i .z) .linked
 
   abbrev EntriesOn : Bool → ℤ → Wanted → Way → Type 0
   EntriesOn b j w (Found e rest) = EntryIn b j w e rest
-  EntriesOn b j w (Stopped m) = ((m ≡ 15) × NoPlace (lay .1 .1 .0) j) ⊎ ((m ≡ 16) × EntryLacks b j w m)
+  EntriesOn b j w (Stopped m) = ((m ≡ 15) × NoPlace (lay .attributes) j) ⊎ ((m ≡ 16) × EntryLacks b j w m)
 
   entries-on : (b : Bool) (j : ℤ) (w : Wanted) → EntriesOn b j w (entriesOf body (cond b 5 9) w (fileWay f 4 j))
   entries-on b j w = go b (fileWay f 4 j) refl (attrs-on j)
@@ -240,23 +240,23 @@ module _ (f : List ℕ) (n : NestedAccepted f) where
           on (Found e rest) i = record { adr = d; left = left; attribute = a; entry = i }
           on (Stopped m) i = inr (i .number, record { adr = d; left = left; way = q; attribute = a; entry = i })
 
-  pub attribute-not-there : (j k : ℤ) → (ofKinds 5 9 k ≡ false) ⊎ NoPlace (lay .1 .1 .0) j → attributeThere body j k ≡ false
+  pub attribute-not-there : (j k : ℤ) → (ofKinds 5 9 k ≡ false) ⊎ NoPlace (lay .attributes) j → attributeThere body j k ≡ false
   attribute-not-there j k (inl e) = rw e
-  attribute-not-there j k (inr h) = rw (no-place (numAttrAt (gdrAt body)) (length (lay .1 .1 .0)) j attrs-count h) (and-false (ofKinds 5 9 k))
+  attribute-not-there j k (inr h) = rw (no-place (numAttrAt (gdrAt body)) (length (lay .attributes)) j attrs-count h) (and-false (ofKinds 5 9 k))
 
   pub attribute-is-there : (j k : ℤ) (a rest : ℕ) → ofKinds 5 9 k ≡ true → leZ (pos 0) j ≡ true
-      → AttributeIn body (Place (natOr 0 j)) (allowance f) (lay .1 .1 .0) a rest → attributeThere body j k ≡ true
+      → AttributeIn body (Place (natOr 0 j)) (allowance f) (lay .attributes) a rest → attributeThere body j k ≡ true
   attribute-is-there j k a rest e h i =
       let b = i .found in
       let q : 0 + length (b .earlier) ≡ natOr 0 j = eqb-true (0 + length (b .earlier)) (natOr 0 j) (b .wanted) in
-      let s = length-earlier (lay .1 .1 .0) (b .earlier) (b .later) (b .here) (b .split) in
-      rw (e, a-place (numAttrAt (gdrAt body)) (length (lay .1 .1 .0)) j attrs-count h (omega (arith, q, s)))
+      let s = length-earlier (lay .attributes) (b .earlier) (b .later) (b .here) (b .split) in
+      rw (e, a-place (numAttrAt (gdrAt body)) (length (lay .attributes)) j attrs-count h (omega (arith, q, s)))
 
   -- THE WAY TO AN ENTRY comes to it, to 15 or to 16
   abbrev pub EntryOn : ℤ → ℤ → Wanted → Way → Type 0
   EntryOn j k w (Found e rest) = (ofKinds 5 9 k ≡ true) × EntryIn (eqZ k (pos 5)) j w e rest
   EntryOn j k w (Stopped m) =
-      ((m ≡ 15) × ((ofKinds 5 9 k ≡ false) ⊎ NoPlace (lay .1 .1 .0) j))
+      ((m ≡ 15) × ((ofKinds 5 9 k ≡ false) ⊎ NoPlace (lay .attributes) j))
       ⊎ ((m ≡ 16) × (ofKinds 5 9 k ≡ true) × EntryLacks (eqZ k (pos 5)) j w m)
 
   pub entry-on : (j k : ℤ) (w : Wanted) → EntryOn j k w (entryWay f j k w)

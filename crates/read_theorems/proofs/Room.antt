@@ -63,14 +63,14 @@ tiles-many f (s ∷ ss) o t = omega (arith, fits f o (t .1) .wide, tiles-many f 
 
 -- after the GDR: the records of the three lists and all that is below them
 pub room : (f : List ℕ) (v : Valid f 0 0 (NestedObeys f) (claimsOf f))
-    → length (variableOffsets f (v .layout .0)) + length (variableOffsets f (v .layout .1 .0)) + length (attributeOffsets (v .layout .1 .1 .0)) ≤ allowance f
+    → length (variableOffsets f (v .layout .rVariables)) + length (variableOffsets f (v .layout .zVariables)) + length (attributeOffsets (v .layout .attributes)) ≤ allowance f
 unfolding allowance
 room f v =
     let y = v .layout in
-    let rs = variableOffsets f (y .0) in
-    let zs = variableOffsets f (y .1 .0) in
-    let ads = attributeOffsets (y .1 .1 .0) in
-    let us = y .1 .1 .1 in
+    let rs = variableOffsets f (y .rVariables) in
+    let zs = variableOffsets f (y .zVariables) in
+    let ads = attributeOffsets (y .attributes) in
+    let us = y .unused in
     omega (
       arith,
       end-is f,
