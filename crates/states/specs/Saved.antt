@@ -99,7 +99,7 @@ levelsRange up w = levelsBelong up (indexed w)
 
 abbrev pub stageRange : ℕ → Stage → Bool
 stageRange l Fresh = eqb l 0
-stageRange l (Sweep o) = inRange (lengthRange l && leb 8 o) (offset o)
+stageRange l (Sweep o) = lengthRange l && leb 8 o && inRange (offset o)
 stageRange l (Walking w up) = lengthRange l && walkRange w && levelsRange up w
 stageRange l (Done v p) = false
 stageRange l OutOfRange = false

@@ -1,7 +1,7 @@
 -- The numbers of a position of the walk stay in their ranges. Assumes nothing.
-use mathlib.Core.Path.{_≡_, refl}
+use mathlib.Core.Path.{_≡_, refl, sym, _∙_}
 use mathlib.Core.Logic.{_⊎_, inl, inr}
-use mathlib.Core.Bool.{Bool, true, false, cond, or-true, _&&_, _||_}
+use mathlib.Core.Bool.{Bool, true, false, cond, or-true, and-true, and-assoc, _&&_, _||_}
 use mathlib.Core.List.{List, [], _∷_}
 use Prim.Native.Nat.{ℕ, _+_, _≤_, max}
 use native.Mathlib.Omega.{arith}
@@ -20,7 +20,7 @@ use Rattle.format.proofs.Tests.{both, either, cond-keeps}
 use Rattle.format.proofs.Numbers.{unless-zero, zeros}
 use Rattle.format.proofs.FieldRanges.{nat-small, after-small, num-small}
 use Rattle.walk.specs.Walk.{typeNumber, valuesNumber, gdrNamed, fieldNumber, overBy, takes, varsTally, afterVars, varNumber, intoIndex, varsList, entered, lowerOver, lowerNext, chainList, covers, lowerNumber, lowerStep, attrNumber, attrsList, afterEntries, oneMore, entriesList, unusedList, Listing, listStep, walkStepBy}
-use Rattle.walk.specs.Ranges.{Range, upTo, oneOf, absent, varKind, rowOf, rangesOf, inRange, allAfter, allIn}
+use Rattle.walk.specs.Ranges.{Range, upTo, oneOf, absent, varKind, rowOf, rangesOf, inRange, allIn}
 use Rattle.walk.specs.Bounds.{InRange, AllIn, SmallLevel, Within}
 use Rattle.walk.specs.declared.positions.Var.{Var}
 use Rattle.walk.specs.declared.positions.Level.{Level}
@@ -57,34 +57,48 @@ within w kind link count greatest owner before entry floor = record {
 pub start-within : Within Start
 start-within = within Start tt tt tt tt tt tt tt tt
 
-in-one : (r : Range) → InRange r → inRange true r ≡ true
-in-one (upTo n m) h = le-leb n m h
-in-one (oneOf n a b) (inl e) = rw (eq-eqb n a e)
-in-one (oneOf n a b) (inr e) = rw (eq-eqb n b e) (or-true (eqb n a))
-in-one absent h = refl
-
-one-in : (b : Bool) (r : Range) → inRange b r ≡ true → (b ≡ true) × InRange r
-one-in b (upTo n m) e = let p = both b (leb n m) e in (p .0, leb-true n m (p .1))
-one-in b (oneOf n x y) e = let p = both b (eqb n x || eqb n y) e in (p .0, go (either (eqb n x) (eqb n y) (p .1)))
-  where
-    go : ((eqb n x ≡ true) ⊎ (eqb n y ≡ true)) → (n ≡ x) ⊎ (n ≡ y)
-    go (inl h) = inl (eqb-true n x h)
-    go (inr h) = inr (eqb-true n y h)
-one-in b absent e = (e, tt)
-
 pub all-in : (rs : List Range) → AllIn rs → allIn rs ≡ true
 all-in [] h = refl
-all-in (r ∷ rs) h = rw (in-one r (h .0)) (all-in rs (h .1))
+all-in (r ∷ rs) h = rw (in-range r (h .0), all-in rs (h .1))
+  where
+    in-range : (r : Range) → InRange r → inRange r ≡ true
+    in-range (upTo n m) h = le-leb n m h
+    in-range (oneOf n a b) (inl e) = rw (eq-eqb n a e)
+    in-range (oneOf n a b) (inr e) = rw (eq-eqb n b e) (or-true (eqb n a))
+    in-range absent h = refl
 
 pub in-all : (rs : List Range) → allIn rs ≡ true → AllIn rs
-in-all rs e = after true rs e .1
+in-all [] e = tt
+in-all (r ∷ rs) e = let p = both (inRange r) (allIn rs) e in (range-in r (p .0), in-all rs (p .1))
   where
-    after : (b : Bool) (rs : List Range) → allAfter b rs ≡ true → (b ≡ true) × AllIn rs
-    after b [] e = (e, tt)
-    after b (r ∷ rs) e =
-        let p = after (inRange b r) rs e in
-        let q = one-in b r (p .0) in
-        (q .0, (q .1, p .1))
+    range-in : (r : Range) → inRange r ≡ true → InRange r
+    range-in (upTo n m) e = leb-true n m e
+    range-in (oneOf n a b) e = go (either (eqb n a) (eqb n b) e)
+      where
+        go : ((eqb n a ≡ true) ⊎ (eqb n b ≡ true)) → (n ≡ a) ⊎ (n ≡ b)
+        go (inl h) = inl (eqb-true n a h)
+        go (inr h) = inr (eqb-true n b h)
+    range-in absent e = tt
+
+-- the tests of all numbers that have a meaning, each put to those before it, as code does
+abbrev pub allBehind : Bool → List Range → Bool
+allBehind b [] = b
+allBehind b (upTo n m ∷ rs) = allBehind (b && leb n m) rs
+allBehind b (oneOf n x y ∷ rs) = allBehind (b && (eqb n x || eqb n y)) rs
+allBehind b (absent ∷ rs) = allBehind b rs
+
+pub one-by-one : (rs : List Range) → allBehind true rs ≡ allIn rs
+one-by-one rs = behind true rs
+  where
+    behind : (b : Bool) (rs : List Range) → allBehind b rs ≡ (b && allIn rs)
+    behind b [] = sym (and-true b)
+    behind b (upTo n m ∷ rs) = behind (b && leb n m) rs ∙ and-assoc b (leb n m) (allIn rs)
+    behind b (oneOf n x y ∷ rs) = behind (b && (eqb n x || eqb n y)) rs ∙ and-assoc b (eqb n x || eqb n y) (allIn rs)
+    behind b (absent ∷ rs) = behind b rs
+
+-- so code tests the row of a position v, which w was found to be
+pub row-tests : {w v : W.Walk} → w ≡ v → allBehind true (rangesOf (rowOf v)) ≡ allIn (rangesOf (rowOf w))
+row-tests {w} {v} e = rw e (one-by-one (rangesOf (rowOf v)))
 
 pub within-in : (w : W.Walk) → Within w → allIn (rangesOf (rowOf w)) ≡ true
 within-in w h =

@@ -55,8 +55,8 @@ changesLevel (Down w o typed l) = true
 changesLevel (Up w) = true
 
 -- ---- where they stand
--- the variable of a position: none; the one that its link leads to, if any, of a kind and from where the link stands; the one whose index
--- is walked
+-- the variable of a position: none; the one that its link may lead to, of a kind and from where the link stands, which only the code asks
+-- for (specs/Bounds.antt); the one whose index is walked
 pub data OfVariable : Type 0 where
   noVariable : OfVariable
   leadingTo : ℕ → ℕ → OfVariable

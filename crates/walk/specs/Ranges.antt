@@ -31,7 +31,7 @@ varKind k = oneOf k 3 8
 abbrev pub entryKind : ℕ → Range
 entryKind k = oneOf k 5 9
 
--- 10.2: "kind, link, count, greatest, owner, before, entry, floor, covered"
+-- 10.2: "kind, link, count, greatest, owner, before, entry, floor, covered"; covered is false where it has no meaning
 pub record Row : Type 0 where
   pub phase : ℕ
   pub kind : Range
@@ -83,16 +83,12 @@ numberOf (upTo n most) = n
 numberOf (oneOf n a b) = n
 numberOf absent = 0
 
--- b, and a number is in its range
-abbrev pub inRange : Bool → Range → Bool
-inRange b (upTo n most) = b && leb n most
-inRange b (oneOf n x y) = b && (eqb n x || eqb n y)
-inRange b absent = b
+abbrev pub inRange : Range → Bool
+inRange (upTo n most) = leb n most
+inRange (oneOf n a b) = eqb n a || eqb n b
+inRange absent = true
 
 -- each number is in its range
-abbrev pub allAfter : Bool → List Range → Bool
-allAfter b [] = b
-allAfter b (r ∷ rs) = allAfter (inRange b r) rs
-
 abbrev pub allIn : List Range → Bool
-allIn rs = allAfter true rs
+allIn [] = true
+allIn (r ∷ rs) = inRange r && allIn rs

@@ -1,3 +1,4 @@
+use Rattle.walk.proofs.Closed.{row-tests}
 use borrow.Author.Needs.{needs}
 use Rattle.states.proofs.saved.walk_range.Statement.{statement}
 use Rattle.states.proofs.saved.walk_range.Tie as tie
@@ -27,22 +28,22 @@ returns : tie.Need-returns
 returns c = search needs
 
 returns-2 : tie.Need-returns-2
-returns-2 c = rw (c .before .w .given .1)
+returns-2 c = row-tests (c .before .w .given .1)
 
 returns-3 : tie.Need-returns-3
-returns-3 c = let at-kind = c .before .before .before .before in rw (at-kind .before .before .w2 .given .1)
+returns-3 c = let at-kind = c .before .before .before .before in row-tests (at-kind .before .before .w2 .given .1)
 
 returns-4 : tie.Need-returns-4
-returns-4 c = let at-kind = c .before .before .before .before in rw (at-kind .before .before .w3 .given .1)
+returns-4 c = let at-kind = c .before .before .before .before in row-tests (at-kind .before .before .w3 .given .1)
 
 returns-5 : tie.Need-returns-5
-returns-5 c = rw (c .before .w4 .given .1)
+returns-5 c = row-tests (c .before .w4 .given .1)
 
 returns-6 : tie.Need-returns-6
-returns-6 c = rw (c .before .w5 .given .1)
+returns-6 c = row-tests (c .before .w5 .given .1)
 
 returns-7 : tie.Need-returns-7
-returns-7 c = rw (c .before .w6 .given .1)
+returns-7 c = row-tests (c .before .w6 .given .1)
 
 pub walk-range-spec : {M : Type 1} → statement M
 walk-range-spec =
