@@ -10,6 +10,7 @@ use Rattle.records.specs.Opening.{bodyOf}
 use Rattle.variables.specs.Vdr.{variableOf}
 use Rattle.lookup.specs.Lists.{kindAmong, variableWay, entryWay}
 use Rattle.lookup.specs.Bounds.{Opened}
+use Rattle.lookup.specs.declared.refusals.Refusal.{Refusal}
 use Rattle.lookup.specs.declared.lists.Wanted.{Wanted}
 use Rattle.lookup.specs.declared.lists.Way.the-variants.{Found, Stopped}
 use Rattle.lookup.proofs.Sought.{Finds}
@@ -20,15 +21,15 @@ use Rattle.answers.specs.Bounds.{Inside}
 
 -- a way that stopped
 module _ (f : List ℕ) where
-  pub value-stopped : (k n r : ℤ) (is : List ℤ) (x : ℤ) (v : ℕ) → variableWay f k n ≡ Stopped v → valueRead f k n r is x ≡ Refused v
+  pub value-stopped : (k n r : ℤ) (is : List ℤ) (x : ℤ) (v : Refusal) → variableWay f k n ≡ Stopped v → valueRead f k n r is x ≡ Refused v
   unfolding valueRead
   value-stopped k n r is x v e = rw e
 
-  pub entry-stopped : (a k : ℤ) (w : Wanted) (x : ℤ) (v : ℕ) → entryWay f a k w ≡ Stopped v → entryValue f a k w x ≡ Refused v
+  pub entry-stopped : (a k : ℤ) (w : Wanted) (x : ℤ) (v : Refusal) → entryWay f a k w ≡ Stopped v → entryValue f a k w x ≡ Refused v
   unfolding entryValue
   entry-stopped a k w x v e = rw e
 
-  pub pad-stopped : (k n x : ℤ) (v : ℕ) → variableWay f k n ≡ Stopped v → padRead f k n x ≡ Refused v
+  pub pad-stopped : (k n x : ℤ) (v : Refusal) → variableWay f k n ≡ Stopped v → padRead f k n x ≡ Refused v
   unfolding padRead
   pad-stopped k n x v e = rw e
 

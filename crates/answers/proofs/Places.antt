@@ -10,7 +10,8 @@ use Rattle.variables.specs.Place.{elementPlace, placed, placeOf}
 use Rattle.variables.specs.declared.vdr.Variable.{Variable}
 use Rattle.variables.specs.declared.place.Place.{Place}
 use Rattle.variables.specs.declared.place.Place.the-variants.{At, Wrong}
-use Rattle.answers.specs.Answers.{rowMajority, atPlace, inRecord}
+use Rattle.answers.specs.Offsets.{rowMajority}
+use Rattle.answers.specs.Answers.{atPlace, inRecord}
 
 capped-small : (n : ℕ) → capped n ≤ 2147483648
 unfolding capped

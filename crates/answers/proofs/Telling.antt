@@ -19,12 +19,15 @@ use Rattle.values.specs.declared.value.Decoded.the-variants.{Given, Reserved, N
 use Rattle.values.proofs.Elements.{lies}
 use Rattle.values.proofs.Agreeing.{Decodes, decodes}
 use Rattle.format.proofs.Tests.{both}
-use Rattle.answers.specs.Answers.{answered, fileEncoding, elementThere, elementAt, elementOf, elementRead}
+use Rattle.lookup.specs.declared.refusals.Refusal.{Refusal}
+use Rattle.lookup.specs.declared.refusals.Refusal.the-variants.{OutOfRange, Operand}
+use Rattle.answers.specs.Offsets.{elementAt}
+use Rattle.answers.specs.Answers.{answered, fileEncoding, elementThere, elementOf, elementRead}
 use Rattle.answers.specs.declared.Read.{Read}
 use Rattle.answers.specs.declared.Read.the-variants.{Value, Refused}
 
--- a fact of the answer, or of the number of the refusal
-abbrev pub Tells : (Answer → Type 0) → (ℕ → Type 0) → Read → Type 0
+-- a fact of the answer, or of the refusal
+abbrev pub Tells : (Answer → Type 0) → (Refusal → Type 0) → Read → Type 0
 Tells Fact Meaning (Value a) = Fact a
 Tells Fact Meaning (Refused v) = Meaning v
 
@@ -39,7 +42,7 @@ unfolding elementThere natAt
 element-below f p x e = below x (fieldAt f p) e
 
 -- ---- ELEMENT x of the values at an offset that all lie in the file: a value; 18 if it is not there; 22 if it is a reserved operand
-module _ (f : List ℕ) (at t c : ℕ) (x : ℤ) (Fact : Answer → Type 0) (Meaning : ℕ → Type 0) where
+module _ (f : List ℕ) (at t c : ℕ) (x : ℤ) (Fact : Answer → Type 0) (Meaning : Refusal → Type 0) where
   abbrev place : ℕ
   place = elementAt f at t x
 
@@ -49,8 +52,8 @@ module _ (f : List ℕ) (at t c : ℕ) (x : ℤ) (Fact : Answer → Type 0) (Mea
   abbrev float : ℕ
   float = encodingOf (fileEncoding f) .float
 
-  module _ (wrong : elementThere f c x ≡ false → Meaning 18)
-      (operand : elementThere f c x ≡ true → reservedFloat f place kind float ≡ true → Meaning 22)
+  module _ (wrong : elementThere f c x ≡ false → Meaning OutOfRange)
+      (operand : elementThere f c x ≡ true → reservedFloat f place kind float ≡ true → Meaning Operand)
       (sized : 1 ≤ elementSize f t) (ordered : 1 ≤ encodingOf (fileEncoding f) .order)
       (within : elementThere f c x ≡ true → place + elementSize f t ≤ endOf f)
       (fact : (a : Answer) → elementThere f c x ≡ true → elementOf f place t ≡ Given a → Fact a)
@@ -67,6 +70,6 @@ module _ (f : List ℕ) (at t c : ℕ) (x : ℤ) (Fact : Answer → Type 0) (Mea
       unfolding elementRead
       element-tells = go (elementThere f c x) refl
         where
-          go : (b : Bool) → elementThere f c x ≡ b → Tells Fact Meaning (cond b (answered (elementOf f place t)) (Refused 18))
+          go : (b : Bool) → elementThere f c x ≡ b → Tells Fact Meaning (cond b (answered (elementOf f place t)) (Refused OutOfRange))
           go true h = decoded-tells h (elementOf f place t) refl (decodes f place (natAt f t) (fileEncoding f))
           go false h = wrong h

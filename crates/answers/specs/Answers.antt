@@ -4,13 +4,12 @@ use mathlib.Core.Bool.{Bool, cond, _&&_}
 use mathlib.Core.List.{List}
 use lib.IntN.{ℤ, pos}
 use lib.Signed.{leZ, ltZ}
-use Rattle.format.specs.Fields.{fieldAt, natAt, natOr, bitAt}
+use Rattle.format.specs.Fields.{fieldAt, natAt, bitAt}
 use Rattle.values.specs.declared.value.Decoded.{Decoded}
 use Rattle.values.specs.declared.value.Decoded.the-variants.{Given, Reserved, Nothing}
 use Rattle.values.specs.Values.{decodedOf}
-use Rattle.records.specs.Layout.{encodingAt, cdrFlagsAt, entryTypeAt, entryElementsAt, entryValueAt, dataTypeAt, varFlagsAt, elementsAt}
+use Rattle.records.specs.Layout.{encodingAt, entryTypeAt, entryElementsAt, entryValueAt, dataTypeAt, varFlagsAt, elementsAt}
 use Rattle.records.specs.Opening.{bodyOf}
-use Rattle.records.specs.Attributes.{elementSize}
 use Rattle.variables.specs.Vdr.{variableOf}
 use Rattle.variables.specs.Place.{placeOf}
 use Rattle.variables.specs.declared.vdr.Variable.{Variable}
@@ -18,40 +17,29 @@ use Rattle.variables.specs.declared.place.Place.{Place}
 use Rattle.variables.specs.declared.place.Place.the-variants.{At, Wrong}
 use Rattle.lookup.specs.Lists.{kindAmong, variableWay, entryWay}
 use Rattle.lookup.specs.Indexes.{recordWay}
+use Rattle.lookup.specs.declared.refusals.Refusal.the-variants.{Breach, OutOfRange, Operand}
 use Rattle.lookup.specs.declared.lists.Wanted.{Wanted}
-use Rattle.lookup.specs.declared.lists.Wanted.the-variants.{Number}
 use Rattle.lookup.specs.declared.lists.Way.{Way}
 use Rattle.lookup.specs.declared.lists.Way.the-variants.{Found, Stopped}
 use Rattle.lookup.specs.declared.indexes.Values.{Values}
 use Rattle.lookup.specs.declared.indexes.Values.the-variants.{Record, Refused as NoRecord}
+use Rattle.answers.specs.Offsets.{rowMajority, elementAt}
 use Rattle.answers.specs.declared.Read.{Read}
 use Rattle.answers.specs.declared.Read.the-variants.{Value, Refused}
-
--- the number that comes back: 0, "value given" (2.1), or the refusal's
-abbrev pub numberOf : Read → ℕ
-numberOf (Value a) = 0
-numberOf (Refused v) = v
 
 -- 15.4: "it is the reserved operand, refused with 22"; an element that is not before the file's end would be 20
 abbrev pub answered : Decoded → Read
 answered (Given a) = Value a
-answered Reserved = Refused 22
-answered Nothing = Refused 20
+answered Reserved = Refused Operand
+answered Nothing = Refused Breach
 
--- 4.4: "encoding 20"; flags (24): "bit 0 row majority" (4.4); the CDR stands at 8
+-- 4.4: "encoding 20"; the CDR stands at 8
 abbrev pub fileEncoding : List ℕ → ℕ
 fileEncoding f = natAt f encodingAt
-
-abbrev pub rowMajority : List ℕ → Bool
-rowMajority f = bitAt f cdrFlagsAt 1
 
 -- an element of those that the field at p counts; else 18, "element out of range" (14.2)
 unfoldable pub elementThere : List ℕ → ℕ → ℤ → Bool
 elementThere f p x = leZ (pos 0) x && ltZ x (fieldAt f p)
-
--- the offset of element x of the values from an offset on, whose data type stands at t: "+ element × element size" (14.7)
-abbrev pub elementAt : List ℕ → ℕ → ℕ → ℤ → ℕ
-elementAt f at t x = at + natOr 0 x * elementSize f t
 
 -- what data type and encoding make of the bytes at an offset
 abbrev pub elementOf : List ℕ → ℕ → ℕ → Decoded
@@ -59,13 +47,13 @@ elementOf f at t = decodedOf f at (natAt f t) (fileEncoding f)
 
 -- element x of those values, whose count stands at c
 unfoldable pub elementRead : List ℕ → ℕ → ℕ → ℕ → ℤ → Read
-elementRead f at t c x = cond (elementThere f c x) (answered (elementOf f (elementAt f at t x) t)) (Refused 18)
+elementRead f at t c x = cond (elementThere f c x) (answered (elementOf f (elementAt f at t x) t)) (Refused OutOfRange)
 
 -- of a record that begins at an offset: the value at a place, the VDR at v saying its data type and elements; 14.7: "place × elements ×
 -- element size"
 abbrev pub atPlace : List ℕ → ℕ → ℕ → ℕ → ℤ → Place → Read
 atPlace f v bytes at x (At p) = elementRead f (at + p * bytes) (dataTypeAt v) (elementsAt v) x
-atPlace f v bytes at x Wrong = Refused 18
+atPlace f v bytes at x Wrong = Refused OutOfRange
 
 unfoldable pub inRecord : List ℕ → ℕ → Variable → ℕ → List ℤ → ℤ → Read
 inRecord f v u at is x = atPlace f v (u .value) at x (placeOf f u (rowMajority f) is)
@@ -95,16 +83,12 @@ entryOn f x (Stopped n) = Refused n
 unfoldable pub entryValue : List ℕ → ℤ → ℤ → Wanted → ℤ → Read
 entryValue f a k w x = entryOn (bodyOf f) x (entryWay f a k w)
 
--- 14.1: "by attribute, kind, entry number (or place) and element"
-abbrev pub entryRead : List ℕ → ℤ → ℤ → ℤ → ℤ → Read
-entryRead f a k n x = entryValue f a k (Number n) x
-
 -- 4.9: "A pad value comes last, if bit 1 is set"; 14.7: "a pad value's behind the variances"
 abbrev pub padValueAt : Variable → ℕ
 padValueAt u = u .dimensions .variances + 4 * u .dimensions .count
 
 unfoldable pub padIn : List ℕ → ℕ → Variable → ℤ → Read
-padIn f v u x = cond (bitAt f (varFlagsAt v) 2) (elementRead f (padValueAt u) (dataTypeAt v) (elementsAt v) x) (Refused 18)
+padIn f v u x = cond (bitAt f (varFlagsAt v) 2) (elementRead f (padValueAt u) (dataTypeAt v) (elementsAt v) x) (Refused OutOfRange)
 
 abbrev pub padOn : List ℕ → ℕ → ℤ → Way → Read
 padOn f k x (Found v left) = padIn f v (variableOf f k v) x

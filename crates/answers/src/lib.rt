@@ -16,6 +16,7 @@ use lookup::indexes::Values;
 use lookup::lists;
 use lookup::lists::Wanted;
 use lookup::lists::Way;
+use lookup::refusals::Refusal;
 use records::layout;
 use records::opening;
 use values::value;
@@ -26,10 +27,10 @@ use variables::place::Place;
 use variables::vdr;
 use variables::vdr::Variable;
 
-// A value, or the number of a refusal.
+// A value, or a refusal.
 pub enum Read {
     Value(Answer),
-    Refused(u8),
+    Refused(Refusal),
 }
 
 // What was decoded, as an answer.
@@ -38,8 +39,8 @@ fn answer(d: Decoded) -> Read
 {
     match d {
         Decoded::Given(a) => Read::Value(a),
-        Decoded::Reserved => Read::Refused(22),
-        Decoded::Nothing => Read::Refused(20),
+        Decoded::Reserved => Read::Refused(Refusal::Operand),
+        Decoded::Nothing => Read::Refused(Refusal::Breach),
     }
 }
 
@@ -49,7 +50,7 @@ fn decode_at(f: &[u8], at: u64, t: u32, e: u32) -> Read
     ensures { λ r. ⌜ r ≡ answered (decodedOf (now (f .entry)) at t e) ⌝ }
 {
     if (fields::end(f) as u64) < at {
-        return Read::Refused(20);
+        return Read::Refused(Refusal::Breach);
     }
     answer(value::decode(f, at as u32, t, e))
 }
@@ -72,7 +73,7 @@ fn element(f: &[u8], at: u64, t: usize, c: usize, x: i64) -> Read
     ensures { λ r. ⌜ r ≡ elementRead (now (f .entry)) at t c x ⌝ }
 {
     if !element_there(f, c, x) {
-        return Read::Refused(18);
+        return Read::Refused(Refusal::OutOfRange);
     }
     let n = fields::nat_at(f, t);
     let size = types::size_of(n) as u64;
@@ -98,7 +99,7 @@ fn in_record(f: &[u8], v: u32, u: Variable, at: u64, indices: &[i64], x: i64) ->
             v as usize + layout::ELEMENTS,
             x,
         ),
-        Place::Wrong => Read::Refused(18),
+        Place::Wrong => Read::Refused(Refusal::OutOfRange),
     }
 }
 
@@ -110,7 +111,7 @@ fn in_variable(f: &[u8], v: u32, left: u32, u: Variable, r: i64, indices: &[i64]
     let values = indexes::to_record(f, v, u.bytes as u32, r, left);
     match values {
         Values::Record(at) => in_record(f, v, u, at, indices, x),
-        Values::Refused(number) => Read::Refused(number),
+        Values::Refused(refusal) => Read::Refused(refusal),
     }
 }
 
@@ -125,7 +126,7 @@ pub fn read_value(f: &[u8], kind: i64, number: i64, r: i64, indices: &[i64], x: 
             let u = vdr::known_at(b, lists::kind_among(3, 8, kind), at);
             in_variable(b, at, left, u, r, indices, x)
         }
-        Way::Stopped { number } => Read::Refused(number),
+        Way::Stopped(refusal) => Read::Refused(refusal),
     }
 }
 
@@ -146,7 +147,7 @@ pub fn read_entry(f: &[u8], attribute: i64, kind: i64, w: Wanted, x: i64) -> Rea
                 x,
             )
         }
-        Way::Stopped { number } => Read::Refused(number),
+        Way::Stopped(refusal) => Read::Refused(refusal),
     }
 }
 
@@ -156,7 +157,7 @@ fn in_pad(f: &[u8], kind: i64, v: u32, x: i64) -> Read
     ensures { λ r. ⌜ r ≡ padIn (now (f .entry)) v (variableOf (now (f .entry)) (kindAmong 3 8 kind) v) x ⌝ }
 {
     if !fields::bit(f, v as usize + layout::VAR_FLAGS, 2) {
-        return Read::Refused(18);
+        return Read::Refused(Refusal::OutOfRange);
     }
     let u = vdr::known_at(f, lists::kind_among(3, 8, kind), v);
     let l = u.dimensions;
@@ -177,6 +178,6 @@ pub fn read_pad(f: &[u8], kind: i64, number: i64, x: i64) -> Read
     let way = lists::to_variable(f, b, kind, number);
     match way {
         Way::Found { at, left: _ } => in_pad(b, kind, at, x),
-        Way::Stopped { number } => Read::Refused(number),
+        Way::Stopped(refusal) => Read::Refused(refusal),
     }
 }

@@ -13,6 +13,7 @@ use Rattle.records.specs.Opening.{bodyOf}
 use Rattle.variables.specs.Vdr.{numDimsAt, layoutAt, layoutOf, variableOf}
 use Rattle.variables.proofs.Rule.{vdr-reads, of-variable}
 use Rattle.lookup.specs.Lists.{kindAmong, meets, variableWay, attributeWay, entryWay}
+use Rattle.lookup.specs.declared.refusals.Refusal.{Refusal}
 use Rattle.lookup.specs.declared.lists.Wanted.{Wanted}
 use Rattle.lookup.specs.declared.lists.Way.{Way}
 use Rattle.lookup.specs.declared.lists.Way.the-variants.{Found, Stopped}
@@ -78,6 +79,6 @@ module _ (f b : List ℕ) (part : b ≡ bodyOf f) where
     pub dimensions-lie : (o left : ℕ) → variableWay f k n ≡ Found o left → Lie b (Are (variableOf b (kindAmong 3 8 k) o .dimensions))
     dimensions-lie o left e = (of-variable b (kindAmong 3 8 k) o .rows, found-short k n o left e)
 
-    pub dimensions-unknown : (v : ℕ) → variableWay f k n ≡ Stopped v → Unknown v ≡ variableDimensions f k n
+    pub dimensions-unknown : (v : Refusal) → variableWay f k n ≡ Stopped v → Unknown v ≡ variableDimensions f k n
     unfolding variableDimensions
     dimensions-unknown v e = rw e

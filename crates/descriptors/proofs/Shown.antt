@@ -11,7 +11,8 @@ use Rattle.format.specs.Fields.{natOr}
 use Rattle.lookup.specs.Lists.{isEntryKind}
 use Rattle.variables.specs.Place.{indexRight}
 use Rattle.format.proofs.Tests.{both}
-use Rattle.descriptors.specs.Descriptors.{among, attributeFields, entryFields, variableFields, isShown}
+use Rattle.lookup.specs.Refusals.{among}
+use Rattle.descriptors.specs.Descriptors.{attributeFields, entryFields, variableFields, isShown}
 use Rattle.descriptors.specs.Bounds.{fieldBytes}
 
 -- each of some fields ends within n bytes

@@ -1,6 +1,6 @@
 -- Descriptors: what the CDR, the GDR, a VDR, an ADR and an AEDR say. Section 16 of docs/RULES.md. Assumes nothing.
 use Prim.Native.Nat.{ℕ, zero, suc, _+_, _-_, _*_}
-use mathlib.Core.Bool.{Bool, false, cond, _&&_, _||_}
+use mathlib.Core.Bool.{Bool, cond, _&&_, _||_}
 use mathlib.Core.List.{List, [], _∷_}
 use lib.ListN.{length, getD}
 use lib.Dec.{leb, eqb}
@@ -10,7 +10,9 @@ use Rattle.records.specs.Layout.{encodingAt, cdrFlagsAt, nrVarsAt, numAttrAt, r
 use Rattle.records.specs.Opening.{gdrAt, rNumDims, fileEnd, bodyOf}
 use Rattle.variables.specs.Vdr.{variableOf}
 use Rattle.variables.specs.Place.{indexRight}
+use Rattle.lookup.specs.Refusals.{among}
 use Rattle.lookup.specs.Lists.{opened, isEntryKind, kindAmong, variableWay, attributeWay, entryWay}
+use Rattle.lookup.specs.declared.refusals.Refusal.the-variants.{Breach, OutOfRange}
 use Rattle.lookup.specs.declared.lists.Wanted.{Wanted}
 use Rattle.lookup.specs.declared.lists.Way.{Way}
 use Rattle.lookup.specs.declared.lists.Way.the-variants.{Found, Stopped}
@@ -24,20 +26,7 @@ use Rattle.descriptors.specs.declared.Dimensions.the-variants.{Are, Unkn
 use Rattle.descriptors.specs.declared.Name.{Name}
 use Rattle.descriptors.specs.declared.Name.the-variants.{Bytes, Nameless}
 
--- the number that comes back
-abbrev pub fieldNumber : Field → ℕ
-fieldNumber (Is x) = 0
-fieldNumber (Refused v) = v
-
-abbrev pub nameNumber : Name → ℕ
-nameNumber (Bytes o n) = 0
-nameNumber (Nameless v) = v
-
 -- ---- a field of a record, asked by its offset in the record
-abbrev pub among : List ℕ → ℕ → Bool
-among [] x = false
-among (y ∷ ys) x = eqb x y || among ys x
-
 -- 16.2: "fields other than size, record type, links, tail, compression offset, blocking and rfu": of an ADR scope, Num, both counts and
 -- maxima; of an AEDR Num, data type, entry number, elements; of a VDR data type, MaxRec, flags, sRecords, elements, Num
 abbrev pub attributeFields : List ℕ
@@ -57,7 +46,7 @@ isShown t field =
 
 -- of the record of type t at the end of a way
 abbrev pub fieldOn : List ℕ → ℕ → ℕ → Way → Field
-fieldOn f t field (Found o left) = cond (isShown t field) (Is (fieldAt f (o + field))) (Refused 18)
+fieldOn f t field (Found o left) = cond (isShown t field) (Is (fieldAt f (o + field))) (Refused OutOfRange)
 fieldOn f t field (Stopped v) = Refused v
 
 unfoldable pub variableField : List ℕ → ℤ → ℤ → ℕ → Field
@@ -71,14 +60,14 @@ entryField f a k w field = fieldOn (bodyOf f) (kindAmong 5 9 k) field (entryWay 
 
 -- ---- dimensions: the d-th of n fields from p on; 16.3: "a dimension that is not there is 18"
 unfoldable pub rowField : List ℕ → ℕ → ℕ → ℤ → Field
-rowField f p n d = cond (indexRight d n) (Is (fieldAt f (p + 4 * natOr 0 d))) (Refused 18)
+rowField f p n d = cond (indexRight d n) (Is (fieldAt f (p + 4 * natOr 0 d))) (Refused OutOfRange)
 
 -- the GDR's, of the rVariables: "sizes 60" (4.5)
 abbrev pub gdrSize : List ℕ → ℤ → Field
 gdrSize f d = rowField f (rDimSizesAt (gdrAt f)) (rNumDims f (gdrAt f)) d
 
 unfoldable pub dimensionSize : List ℕ → ℤ → Field
-dimensionSize f d = cond (opened f) (gdrSize (bodyOf f) d) (Refused 20)
+dimensionSize f d = cond (opened f) (gdrSize (bodyOf f) d) (Refused Breach)
 
 -- the dimensions of the VDR that a way has found, or where the way stopped
 abbrev pub dimensionsOn : List ℕ → ℕ → Way → Dimensions
@@ -90,7 +79,7 @@ variableDimensions f k n = dimensionsOn (bodyOf f) (kindAmong 3 8 k) (variableWa
 
 -- a zVariable's own sizes; an rVariable has none
 abbrev pub sizeOn : List ℕ → ℕ → ℤ → Dimensions → Field
-sizeOn f k d (Are l) = cond (eqb k 8) (rowField f (l .sizes) (l .count) d) (Refused 18)
+sizeOn f k d (Are l) = cond (eqb k 8) (rowField f (l .sizes) (l .count) d) (Refused OutOfRange)
 sizeOn f k d (Unknown v) = Refused v
 
 unfoldable pub variableSize : List ℕ → ℤ → ℤ → ℤ → Field
@@ -147,11 +136,11 @@ fileFieldAt f what =
 
 abbrev pub fileFieldIn : List ℕ → ℕ → Field
 fileFieldIn f what =
-    cond (eqb what 0) (Is (majority (bitAt f cdrFlagsAt 1))) (cond (leb what 5) (Is (fieldAt f (fileFieldAt f what))) (Refused 18))
+    cond (eqb what 0) (Is (majority (bitAt f cdrFlagsAt 1))) (cond (leb what 5) (Is (fieldAt f (fileFieldAt f what))) (Refused OutOfRange))
 
 -- 16.1: "its length less its end"
 abbrev pub padding : List ℕ → ℤ
 padding f = pos (length f - fileEnd f)
 
 unfoldable pub fileField : List ℕ → ℕ → Field
-fileField f what = cond (opened f) (cond (eqb what 6) (Is (padding f)) (fileFieldIn (bodyOf f) what)) (Refused 20)
+fileField f what = cond (opened f) (cond (eqb what 6) (Is (padding f)) (fileFieldIn (bodyOf f) what)) (Refused Breach)

@@ -12,28 +12,29 @@ use lookup::indexes::Levels;
 use lookup::lists;
 use lookup::lists::Wanted;
 use lookup::lists::Way;
+use lookup::refusals::Refusal;
 use records::layout;
 use records::opening;
 use variables::place;
 use variables::vdr;
 use variables::vdr::Layout;
 
-// A control field, or the number of a refusal.
+// A control field, or a refusal.
 pub enum Field {
     Is(i32),
-    Refused(u8),
+    Refused(Refusal),
 }
 
-// The dimensions of a variable, or the number of a refusal.
+// The dimensions of a variable, or a refusal.
 pub enum Dimensions {
     Are(Layout),
-    Unknown(u8),
+    Unknown(Refusal),
 }
 
-// Where a name stands and its length, or the number of a refusal.
+// Where a name stands and its length, or a refusal.
 pub enum Name {
     Bytes { offset: u64, length: u64 },
-    Nameless(u8),
+    Nameless(Refusal),
 }
 
 // A field of a record of a type is shown, by its offset in the record.
@@ -70,10 +71,10 @@ fn field_on(f: &[u8], t: u32, field: u64, way: Way) -> Field
             if shows(t, field) {
                 Field::Is(fields::field(f, at as usize + field as usize))
             } else {
-                Field::Refused(18)
+                Field::Refused(Refusal::OutOfRange)
             }
         }
-        Way::Stopped { number } => Field::Refused(number),
+        Way::Stopped(refusal) => Field::Refused(refusal),
     }
 }
 
@@ -117,7 +118,7 @@ fn row_field(f: &[u8], p: usize, n: u32, d: i64) -> Field
     ensures { λ r. ⌜ r ≡ rowField (now (f .entry)) p n d ⌝ }
 {
     if !place::index_right(d, n) {
-        return Field::Refused(18);
+        return Field::Refused(Refusal::OutOfRange);
     }
     let i = place::nat_of(d) as usize;
     Field::Is(fields::field(f, p + 4 * i))
@@ -128,7 +129,7 @@ pub fn dimension_size(f: &[u8], d: i64) -> Field
     ensures { λ r. ⌜ r ≡ dimensionSize (now (f .entry)) d ⌝ }
 {
     if !lists::opens(f) {
-        return Field::Refused(20);
+        return Field::Refused(Refusal::Breach);
     }
     let b = opening::body(f);
     let g = fields::link_at(b, layout::GDR_LINK) as usize;
@@ -152,7 +153,7 @@ fn dimensions_of(f: &[u8], b: &[u8], kind: i64, number: i64) -> Dimensions
             let l = v.dimensions;
             Dimensions::Are(l)
         }
-        Way::Stopped { number } => Dimensions::Unknown(number),
+        Way::Stopped(refusal) => Dimensions::Unknown(refusal),
     }
 }
 
@@ -167,10 +168,10 @@ pub fn variable_size(f: &[u8], kind: i64, number: i64, d: i64) -> Field
             if lists::kind_among(3, 8, kind) == 8 {
                 row_field(b, l.sizes, l.count as u32, d)
             } else {
-                Field::Refused(18)
+                Field::Refused(Refusal::OutOfRange)
             }
         }
-        Dimensions::Unknown(number) => Field::Refused(number),
+        Dimensions::Unknown(refusal) => Field::Refused(refusal),
     }
 }
 
@@ -182,7 +183,7 @@ pub fn variable_variance(f: &[u8], kind: i64, number: i64, d: i64) -> Field
     let dimensions = dimensions_of(f, b, kind, number);
     match dimensions {
         Dimensions::Are(l) => row_field(b, l.variances, l.count as u32, d),
-        Dimensions::Unknown(number) => Field::Refused(number),
+        Dimensions::Unknown(refusal) => Field::Refused(refusal),
     }
 }
 
@@ -193,7 +194,7 @@ fn levels_field(l: Levels) -> Field
 {
     match l {
         Levels::Are(n) => Field::Is(n as i32),
-        Levels::Unknown(number) => Field::Refused(number),
+        Levels::Unknown(refusal) => Field::Refused(refusal),
     }
 }
 
@@ -205,7 +206,7 @@ pub fn variable_levels(f: &[u8], kind: i64, number: i64, r: i64) -> Field
     let way = lists::to_variable(f, b, kind, number);
     match way {
         Way::Found { at, left } => levels_field(indexes::to_levels(b, at, r, left)),
-        Way::Stopped { number } => Field::Refused(number),
+        Way::Stopped(refusal) => Field::Refused(refusal),
     }
 }
 
@@ -237,7 +238,7 @@ fn name_on(f: &[u8], field: usize, way: Way) -> Name
                 length: until_nul(f, p, 64) as u64,
             }
         }
-        Way::Stopped { number } => Name::Nameless(number),
+        Way::Stopped(refusal) => Name::Nameless(refusal),
     }
 }
 
@@ -294,7 +295,7 @@ fn file_field_in(f: &[u8], what: u64) -> Field
         return Field::Is(majority_of(fields::bit(f, layout::CDR_FLAGS, 1)));
     }
     if 5 < what {
-        return Field::Refused(18);
+        return Field::Refused(Refusal::OutOfRange);
     }
     Field::Is(fields::field(f, file_field_at(f, what)))
 }
@@ -305,7 +306,7 @@ pub fn file_field(f: &[u8], what: u64) -> Field
     ensures { λ r. ⌜ r ≡ fileField (now (f .entry)) what ⌝ }
 {
     if !lists::opens(f) {
-        return Field::Refused(20);
+        return Field::Refused(Refusal::Breach);
     }
     let b = opening::body(f);
     if what == 6 {

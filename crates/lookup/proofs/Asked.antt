@@ -1,6 +1,5 @@
 -- Kinds as they are asked for. Assumes nothing.
-use mathlib.Core.Path.{_≡_, refl, sym, _∙_}
-use mathlib.Core.Logic.{_≢_}
+use mathlib.Core.Path.{_≡_, refl, sym, ap, _∙_}
 use mathlib.Core.Bool.{Bool, true, false, cond, _||_}
 use mathlib.Core.List.{List}
 use Prim.Native.Nat.{ℕ}
@@ -11,7 +10,11 @@ use mir.Syntax.{w64}
 use mir.Val.{SFits, ofZ}
 use Rattle.format.specs.Fields.{eqZ}
 use Rattle.format.proofs.SignedTests.{equal-is}
-use Rattle.lookup.specs.Lists.{opened, ofKinds, kindAmong, kindNumber}
+use Rattle.lookup.specs.Lists.{opened, ofKinds, kindAmong, kindAsked}
+use Rattle.lookup.specs.declared.refusals.Refusal.{Refusal}
+use Rattle.lookup.specs.declared.refusals.Refusal.the-variants.{Breach, NoSuch}
+use Rattle.lookup.specs.declared.lists.Asked.{Asked}
+use Rattle.lookup.specs.declared.lists.Asked.the-variants.{Kind, Refused}
 use Rattle.lookup.specs.declared.lists.Way.{Way}
 use Rattle.lookup.specs.declared.lists.Way.the-variants.{Stopped}
 
@@ -31,26 +34,29 @@ among-is a b k = go (eqZ k (pos a)) refl
     go true e = sym e
     go false e = refl
 
--- a question for a record of one of two kinds, by the number that it is refused with
+no-kind-refused : (r : Refusal) (t : ℕ) → Refused r ≡ Kind t → ⊥
+no-kind-refused r t e = let z : _≡_ {A = ℕ} 0 1 = cc in absurd (omega arith)
+
+-- a question for a record of one of two kinds, by what is asked for
 module _ (f : List ℕ) (a b : ℕ) (k : ℤ) (s : Way) where
   abbrev asked : Bool → Bool → Way
-  asked o c = cond o (cond c s (Stopped 15)) (Stopped 20)
+  asked o c = cond o (cond c s (Stopped NoSuch)) (Stopped Breach)
 
-  abbrev number : Bool → Bool → ℕ
-  number o c = cond o (cond c 0 15) 20
+  abbrev kind : Bool → Bool → Asked
+  kind o c = cond o (cond c (Kind (kindAmong a b k)) (Refused NoSuch)) (Refused Breach)
 
-  pub asked-wrong : {r : ℕ} → r ≡ kindNumber f a b k → r ≢ 0 → Stopped r ≡ asked (opened f) (ofKinds a b k)
-  asked-wrong e n = rw e (go (opened f) (ofKinds a b k) (λ z. n (e ∙ z)))
+  pub asked-wrong : (r : Refusal) → Refused r ≡ kindAsked f a b k → Stopped r ≡ asked (opened f) (ofKinds a b k)
+  asked-wrong r e = go (opened f) (ofKinds a b k) e
     where
-      go : (o c : Bool) → number o c ≢ 0 → Stopped (number o c) ≡ asked o c
-      go true true h = absurd (h refl)
-      go true false h = refl
-      go false c h = refl
+      go : (o c : Bool) → Refused r ≡ kind o c → Stopped r ≡ asked o c
+      go true true h = absurd (no-kind-refused _ _ h)
+      go true false h = let e : r ≡ NoSuch = cc in ap Stopped e
+      go false c h = let e : r ≡ Breach = cc in ap Stopped e
 
-  pub asked-right : {r : ℕ} → r ≡ kindNumber f a b k → r ≡ 0 → s ≡ asked (opened f) (ofKinds a b k)
-  asked-right e z = go (opened f) (ofKinds a b k) (sym e ∙ z)
+  pub asked-right : (t : ℕ) → Kind t ≡ kindAsked f a b k → (t ≡ kindAmong a b k) × (s ≡ asked (opened f) (ofKinds a b k))
+  asked-right t e = go (opened f) (ofKinds a b k) e
     where
-      go : (o c : Bool) → number o c ≡ 0 → s ≡ asked o c
-      go true true h = refl
-      go true false h = absurd (omega arith)
-      go false c h = absurd (omega arith)
+      go : (o c : Bool) → Kind t ≡ kind o c → (t ≡ kindAmong a b k) × (s ≡ asked o c)
+      go true true h = (cc, refl)
+      go true false h = absurd (no-kind-refused _ _ (sym h))
+      go false c h = absurd (no-kind-refused _ _ (sym h))

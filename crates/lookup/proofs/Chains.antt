@@ -1,8 +1,8 @@
 -- What a way through an index finds, in any file. Assumes nothing.
-use mathlib.Core.Path.{_≡_, refl}
+use mathlib.Core.Path.{_≡_, refl, sym, ap, _∙_, subst}
 use mathlib.Core.Bool.{Bool, true, false, cond, _&&_}
-use mathlib.Core.List.{List}
-use Prim.Native.Nat.{ℕ, zero, suc, _+_, _-_, _≤_, _<_}
+use mathlib.Core.List.{List, [], _∷_, _++_, append-assoc}
+use Prim.Native.Nat.{ℕ, zero, suc, _+_, _-_, _≤_}
 use native.Mathlib.Omega.{arith}
 use lib.Dec.{leb, eqb}
 use lib.IntN.{ℤ}
@@ -10,11 +10,12 @@ use borrow.Author.Tests.{eqb-true}
 use Rattle.format.specs.Fields.{linkAt}
 use Rattle.records.specs.Layout.{nextAt, headOfIndex}
 use Rattle.records.specs.Index.{usedAt, indexAt, noLimit, entryOf, entryCovers, vvrRule}
-use Rattle.records.specs.Tree.{levelsBelow}
+use Rattle.records.specs.Tree.{Slot, slotsOf, usedEntries, lastOf, levelsBelow}
 use Rattle.format.proofs.Tests.{both}
 use Rattle.records.specs.declared.index.Entry.{Entry}
 use Rattle.lookup.specs.Lists.{landsOn}
 use Rattle.lookup.specs.Indexes.{scanned, indexMet, lowerMet, lowerScan, afterLower, lowered, lowestOf, afterScan, lastIndex, indexed, valuesMet, recordAt, valuesOf, valuesBy, recordThere, recordRead, recordNumber, recordWay, levelsFrom, levelsTold, levelsOf, levelsBy, levelsWay}
+use Rattle.lookup.specs.declared.refusals.Refusal.the-variants.{Breach, Gap}
 use Rattle.lookup.specs.declared.indexes.RecordNumber.the-variants.{There, Missing}
 use Rattle.lookup.specs.declared.indexes.Scan.{Scan}
 use Rattle.lookup.specs.declared.indexes.Scan.the-variants.{Covering, Passed, Broken}
@@ -24,96 +25,139 @@ use Rattle.lookup.specs.declared.indexes.Values.{Values}
 use Rattle.lookup.specs.declared.indexes.Values.the-variants.{Record, Refused}
 use Rattle.lookup.specs.declared.indexes.Levels.{Levels}
 use Rattle.lookup.specs.declared.indexes.Levels.the-variants.{Are, Unknown}
-use Rattle.lookup.proofs.Sought.{nth}
+use Rattle.lookup.specs.Entries.{All, records, slotEntry}
+use Rattle.lookup.proofs.Scans.{scanAlong, scan-along}
 
--- the entry e of the VXR x is the one at the place i or behind it, of n, keeps its rule, ends at most or below and covers r
-pub record Scanned (f : List ℕ) (x r most n i : ℕ) (e : Entry) : Type 0 where
-  pub entry : ℕ
-  pub floor : ℕ
-  pub behind : i ≤ entry
-  pub before : entry < i + n
-  pub is : entryOf f x entry floor most ≡ e
-  pub right : e .fault ≡ 0
-  pub covers : entryCovers e r ≡ true
+-- ss keep their rules, none begins below floor or ends above most, and none covers r; the next one may begin at upper
+abbrev pub Passes : List ℕ → ℕ → ℕ → ℕ → List Slot → ℕ → Type 0
+Passes f r most floor [] upper = upper ≡ floor
+Passes f r most floor (s ∷ ss) upper =
+    (entryOf f (s .vxr) (s .entry) floor most .fault ≡ 0) × (entryCovers (slotEntry f s) r ≡ false) × Passes f r most (suc (lastOf f s)) ss upper
 
-abbrev pub Scans : (Entry → Type 0) → Scan → Type 0
-Scans Fact (Covering e) = Fact e
-Scans Fact (Passed floor) = Unit {0}
-Scans Fact Broken = Unit {0}
+-- the entry e is that of one of ss, keeps its rule and covers r; those before it are passed
+pub record Scanned (f : List ℕ) (r most floor : ℕ) (ss : List Slot) (e : Entry) : Type 0 where
+  pub earlier : List Slot
+  pub slot : Slot
+  pub later : List Slot
+  pub split : ss ≡ earlier ++ (slot ∷ later)
+  pub upper : ℕ
+  pub passed : Passes f r most floor earlier upper
+  pub right : entryOf f (slot .vxr) (slot .entry) upper most .fault ≡ 0
+  pub covers : entryCovers (slotEntry f slot) r ≡ true
+  pub is : e ≡ slotEntry f slot
 
-pub scanned-covers : (f : List ℕ) (x r most n i floor : ℕ) → Scans (Scanned f x r most n i) (scanned f x r most n i floor)
-unfolding scanned
-scanned-covers f x r most zero i floor = tt
-scanned-covers f x r most (suc n) i floor =
-    go (entryOf f x i floor most) refl (eqb (entryOf f x i floor most .fault) 0) refl (entryCovers (entryOf f x i floor most) r) refl
-    (scanned f x r most n (suc i) (suc (entryOf f x i floor most .last))) (scanned-covers f x r most n (suc i) (suc (entryOf f x i floor most .last)))
-  where
-    go : (e : Entry) → entryOf f x i floor most ≡ e → (b : Bool) → eqb (e .fault) 0 ≡ b → (c : Bool) → entryCovers e r ≡ c → (s : Scan)
-        → Scans (Scanned f x r most n (suc i)) s
-        → Scans (Scanned f x r most (suc n) i) (cond b (cond c (Covering e) s) Broken)
-    go e h true q true d s w = record {
-      entry = i;
-      floor = floor;
-      behind = omega arith;
-      before = omega arith;
-      is = h;
-      right = eqb-true (e .fault) 0 q;
-      covers = d;
-    }
-    go e h true q false d (Covering y) w = record {
-      entry = w .entry;
-      floor = w .floor;
-      behind = omega (arith, w .behind);
-      before = omega (arith, w .before);
-      is = w .is;
-      right = w .right;
-      covers = w .covers;
-    }
-    go e h true q false d (Passed l) w = tt
-    go e h true q false d Broken w = tt
-    go e h false q c d s w = tt
+-- a fact of the entry that is found, and one of where the next may begin if all were passed
+abbrev pub Scans : (Entry → Type 0) → (ℕ → Type 0) → Scan → Type 0
+Scans Fact Through (Covering e) = Fact e
+Scans Fact Through (Passed upper) = Through upper
+Scans Fact Through Broken = Unit {0}
 
--- the entry e is a used entry of a VXR of the chain whose head link stands at p; that VXR and all before it can be met; the entry keeps its
--- rule and covers r
-pub record Chained (f : List ℕ) (r p : ℕ) (e : Entry) : Type 0 where
-  pub vxr : ℕ
-  pub place : ℕ
-  pub on : nth f p place ≡ vxr
-  pub met : (h : ℕ) → h ≤ place → indexMet f (nth f p h) ≡ true
-  pub used : Scanned f vxr r noLimit (usedAt f vxr) 0 e
+module _ (f : List ℕ) (r most : ℕ) where
+  -- what is found among ss is the first that covers r, or all of them are passed
+  abbrev First : ℕ → List Slot → Scan → Type 0
+  First floor ss = Scans (Scanned f r most floor ss) (Passes f r most floor ss)
+
+  along-first : (ss : List Slot) (floor : ℕ) → First floor ss (scanAlong f r most floor ss)
+  along-first [] floor = refl
+  along-first (s ∷ ss) floor =
+      go (eqb fault 0) refl (entryCovers (slotEntry f s) r) refl (scanAlong f r most (suc (lastOf f s)) ss) (along-first ss (suc (lastOf f s)))
+    where
+      fault : ℕ
+      fault = entryOf f (s .vxr) (s .entry) floor most .fault
+
+      go : (b : Bool) → eqb fault 0 ≡ b → (c : Bool) → entryCovers (slotEntry f s) r ≡ c → (q : Scan) → First (suc (lastOf f s)) ss q
+          → First floor (s ∷ ss) (cond b (cond c (Covering (slotEntry f s)) q) Broken)
+      go true h true d q w =
+          record { earlier = []; slot = s; later = ss; split = refl; upper = floor; passed = refl; right = eqb-true fault 0 h; covers = d; is = refl }
+      go true h false d (Covering y) w = record {
+        earlier = s ∷ w .earlier;
+        slot = w .slot;
+        later = w .later;
+        split = ap (λ (l : List Slot). s ∷ l) (w .split);
+        upper = w .upper;
+        passed = (eqb-true fault 0 h, d, w .passed);
+        right = w .right;
+        covers = w .covers;
+        is = w .is;
+      }
+      go true h false d (Passed upper) w = (eqb-true fault 0 h, d, w)
+      go true h false d Broken w = tt
+      go false h c d q w = tt
+
+  -- the used entries of a VXR
+  pub scanned-first : (x floor : ℕ) → First floor (slotsOf f x) (scanned f x r most (usedAt f x) 0 floor)
+  scanned-first x floor = subst (First floor (slotsOf f x)) (sym (scan-along f x r most (usedAt f x) 0 floor)) (along-first (slotsOf f x) floor)
+
+  passes-join : (ss ts : List Slot) (floor middle upper : ℕ) → Passes f r most floor ss middle → Passes f r most middle ts upper → Passes f r most floor (ss ++ ts) upper
+  passes-join [] ts floor middle upper a b = subst (λ (l : ℕ). Passes f r most l ts upper) a b
+  passes-join (s ∷ ss) ts floor middle upper a b = (a .0, a .1, passes-join ss ts (suc (lastOf f s)) middle upper (a .2) b)
+
+  -- an entry found among ss is found among more, and one found behind ss that were passed
+  more-behind : (ss ts : List Slot) (floor : ℕ) (e : Entry) → Scanned f r most floor ss e → Scanned f r most floor (ss ++ ts) e
+  more-behind ss ts floor e w = record {
+    earlier = w .earlier;
+    slot = w .slot;
+    later = w .later ++ ts;
+    split = ap (λ (l : List Slot). l ++ ts) (w .split) ∙ append-assoc (w .earlier) (w .slot ∷ w .later) ts;
+    upper = w .upper;
+    passed = w .passed;
+    right = w .right;
+    covers = w .covers;
+    is = w .is;
+  }
+
+  more-before : (ss ts : List Slot) (floor middle : ℕ) (e : Entry) → Passes f r most floor ss middle → Scanned f r most middle ts e → Scanned f r most floor (ss ++ ts) e
+  more-before ss ts floor middle e a w = record {
+    earlier = ss ++ w .earlier;
+    slot = w .slot;
+    later = w .later;
+    split = ap (λ (l : List Slot). ss ++ l) (w .split) ∙ sym (append-assoc ss (w .earlier) (w .slot ∷ w .later));
+    upper = w .upper;
+    passed = passes-join ss (w .earlier) floor middle (w .upper) a (w .passed);
+    right = w .right;
+    covers = w .covers;
+    is = w .is;
+  }
+
+-- the chain whose head link stands at p: so many of its VXRs can be met, and the entry e is found among their used entries
+pub record Chained (f : List ℕ) (r p floor : ℕ) (e : Entry) : Type 0 where
+  pub many : ℕ
+  pub met : All (λ x. indexMet f x ≡ true) (records f p many)
+  pub first : Scanned f r noLimit floor (usedEntries f (records f p many)) e
 
 abbrev pub Covers : (Entry → Type 0) → Index → Type 0
 Covers Fact (Covered e left) = Fact e
 Covers Fact (Halted v) = Unit {0}
 
-pub indexed-chained : (f : List ℕ) (r left p floor : ℕ) → Covers (Chained f r p) (indexed f r p floor left)
+pub indexed-chained : (f : List ℕ) (r left p floor : ℕ) → Covers (Chained f r p floor) (indexed f r p floor left)
 unfolding indexed lastIndex
 indexed-chained f r zero p floor = go (eqb (linkAt f p) 0)
   where
-    go : (b : Bool) → Covers (Chained f r p) (cond b (Halted 17) (Halted 20))
+    go : (b : Bool) → Covers (Chained f r p floor) (cond b (Halted Gap) (Halted Breach))
     go true = tt
     go false = tt
 indexed-chained f r (suc left) p floor =
-    go (eqb (linkAt f p) 0) (indexMet f (linkAt f p)) refl
-    (scanned f (linkAt f p) r noLimit (usedAt f (linkAt f p)) 0 floor) (scanned-covers f (linkAt f p) r noLimit (usedAt f (linkAt f p)) 0 floor)
-    (λ upper. indexed-chained f r left (nextAt (linkAt f p)) upper)
+    go (eqb x 0) (indexMet f x) refl (scanned f x r noLimit (usedAt f x) 0 floor) (scanned-first f r noLimit x floor)
+    (λ upper. indexed-chained f r left (nextAt x) upper)
   where
-    all : indexMet f (linkAt f p) ≡ true → (n : ℕ) → ((h : ℕ) → h ≤ n → indexMet f (nth f (nextAt (linkAt f p)) h) ≡ true)
-        → (h : ℕ) → h ≤ suc n → indexMet f (nth f p h) ≡ true
-    all m n g zero l = m
-    all m n g (suc h) l = g h (omega arith)
+    x : ℕ
+    x = linkAt f p
 
-    further : indexMet f (linkAt f p) ≡ true → (s : Index) → Covers (Chained f r (nextAt (linkAt f p))) s → Covers (Chained f r p) s
-    further m (Covered e n) w = record { vxr = w .vxr; place = suc (w .place); on = w .on; met = all m (w .place) (w .met); used = w .used }
-    further m (Halted v) w = tt
+    further : indexMet f x ≡ true → (upper : ℕ) → Passes f r noLimit floor (slotsOf f x) upper → (s : Index) → Covers (Chained f r (nextAt x) upper) s → Covers (Chained f r p floor) s
+    further m upper a (Covered e n) w = record {
+      many = suc (w .many);
+      met = (m, w .met);
+      first = more-before f r noLimit (slotsOf f x) (usedEntries f (records f (nextAt x) (w .many))) floor upper e a (w .first);
+    }
+    further m upper a (Halted v) w = tt
 
-    go : (b c : Bool) → indexMet f (linkAt f p) ≡ c → (s : Scan) → Scans (Scanned f (linkAt f p) r noLimit (usedAt f (linkAt f p)) 0) s
-        → ((upper : ℕ) → Covers (Chained f r (nextAt (linkAt f p))) (indexed f r (nextAt (linkAt f p)) upper left))
-        → Covers (Chained f r p) (cond b (Halted 17) (cond c (afterScan s left (λ upper. indexed f r (nextAt (linkAt f p)) upper left)) (Halted 20)))
+    go : (b c : Bool) → indexMet f x ≡ c → (s : Scan) → First f r noLimit floor (slotsOf f x) s
+        → ((upper : ℕ) → Covers (Chained f r (nextAt x) upper) (indexed f r (nextAt x) upper left))
+        → Covers (Chained f r p floor) (cond b (Halted Gap) (cond c (afterScan s left (λ upper. indexed f r (nextAt x) upper left)) (Halted Breach)))
     go true c m s w ih = tt
     go false false m s w ih = tt
-    go false true m (Covering e) w ih = record { vxr = linkAt f p; place = 0; on = refl; met = λ h l. let z : h ≡ 0 = omega arith in rw z m; used = w }
-    go false true m (Passed upper) w ih = further m (indexed f r (nextAt (linkAt f p)) upper left) (ih upper)
+    go false true m (Covering e) w ih = record { many = 1; met = (m, tt); first = more-behind f r noLimit (slotsOf f x) [] floor e w }
+    go false true m (Passed upper) w ih = further m upper w (indexed f r (nextAt x) upper left) (ih upper)
     go false true m Broken w ih = tt
 
 -- ---- down from an entry: d is the lowest entry, m levels below e
@@ -121,7 +165,7 @@ abbrev pub Under : List ℕ → ℕ → ℕ → Entry → Entry → Type 0
 Under f r zero e d = (d ≡ e) × (indexAt f (e .link) ≡ false)
 Under f r (suc m) e d =
     (indexAt f (e .link) ≡ true) × (lowerMet f (e .link) ≡ true)
-    × (c : Entry) × Scanned f (e .link) r (e .last) (usedAt f (e .link)) 0 c × Under f r m c d
+    × (c : Entry) × Scanned f r (e .last) (e .first) (slotsOf f (e .link)) c × Under f r m c d
 
 -- by n levels at most, as many as are told
 pub record Down (f : List ℕ) (r n : ℕ) (e d : Entry) : Type 0 where
@@ -134,23 +178,23 @@ lowered-down : (n : ℕ) (f : List ℕ) (r : ℕ) (e : Entry) (left : ℕ) → C
 unfolding lowered levelsFrom
 lowered-down zero f r e left = go (indexAt f (e .link)) refl
   where
-    go : (b : Bool) → indexAt f (e .link) ≡ b → Covers (Down f r zero e) (cond b (Halted 20) (Covered e left))
+    go : (b : Bool) → indexAt f (e .link) ≡ b → Covers (Down f r zero e) (cond b (Halted Breach) (Covered e left))
     go true l = tt
     go false l = record { depth = 0; few = omega arith; told = refl; under = (refl, l) }
 lowered-down (suc n) f r e left =
     go (indexAt f (e .link)) refl (leb 1 left && lowerMet f (e .link)) refl (lowerScan f r e) refl
-    (scanned-covers f (e .link) r (e .last) (usedAt f (e .link)) 0 (e .first)) (λ d. lowered-down n f r d (left - 1))
+    (scanned-first f r (e .last) (e .link) (e .first)) (λ d. lowered-down n f r d (left - 1))
   where
     further : indexAt f (e .link) ≡ true → lowerMet f (e .link) ≡ true → (c : Entry) → lowerScan f r e ≡ Covering c
-        → Scanned f (e .link) r (e .last) (usedAt f (e .link)) 0 c
+        → Scanned f r (e .last) (e .first) (slotsOf f (e .link)) c
         → (s : Index) → Covers (Down f r n c) s → Covers (Down f r (suc n) e) s
     further l m c q w (Covered d k) u =
         record { depth = suc (u .depth); few = omega (arith, u .few); told = rw (l, q) (omega (arith, u .told)); under = (l, m, c, w, u .under) }
     further l m c q w (Halted v) u = tt
 
     go : (b : Bool) → indexAt f (e .link) ≡ b → (c : Bool) → (leb 1 left && lowerMet f (e .link)) ≡ c → (s : Scan) → lowerScan f r e ≡ s
-        → Scans (Scanned f (e .link) r (e .last) (usedAt f (e .link)) 0) s → ((d : Entry) → Covers (Down f r n d) (lowered n f r d (left - 1)))
-        → Covers (Down f r (suc n) e) (cond b (cond c (afterLower s (λ d. lowered n f r d (left - 1))) (Halted 20)) (Covered e left))
+        → First f r (e .last) (e .first) (slotsOf f (e .link)) s → ((d : Entry) → Covers (Down f r n d) (lowered n f r d (left - 1)))
+        → Covers (Down f r (suc n) e) (cond b (cond c (afterLower s (λ d. lowered n f r d (left - 1))) (Halted Breach)) (Covered e left))
     go false l c m s q w ih = record { depth = 0; few = omega arith; told = rw l; under = (refl, l) }
     go true l false m s q w ih = tt
     go true l true m (Covering d) q w ih = further l (both (leb 1 left) (lowerMet f (e .link)) m .1) d q w (lowered n f r d (left - 1)) (ih d)
@@ -161,7 +205,7 @@ lowered-down (suc n) f r e left =
 pub record ToLowest (f : List ℕ) (v : ℕ) (r : ℤ) (entry : Entry) : Type 0 where
   pub there : recordThere f v r ≡ true
   pub top : Entry
-  pub chained : Chained f (recordRead f v r) (headOfIndex v) top
+  pub chained : Chained f (recordRead f v r) (headOfIndex v) 0 top
   pub down : Down f (recordRead f v r) levelsBelow top entry
 
 abbrev pub Leads : (ℕ → Type 0) → Values → Type 0
@@ -185,12 +229,12 @@ module _ (f : List ℕ) (v : ℕ) (r : ℤ) where
   unfolding recordWay recordNumber valuesMet
   record-found bytes left = go (recordThere f v r) refl
     where
-      values : recordThere f v r ≡ true → (top : Entry) → Chained f (recordRead f v r) (headOfIndex v) top → (s : Index)
+      values : recordThere f v r ≡ true → (top : Entry) → Chained f (recordRead f v r) (headOfIndex v) 0 top → (s : Index)
           → Covers (Down f (recordRead f v r) levelsBelow top) s → Leads (ToRecord bytes) (valuesOf f (recordRead f v r) bytes s)
       values h top t (Halted n) w = tt
       values h top t (Covered e n) w = met (valuesMet f e bytes n) refl
         where
-          met : (b : Bool) → valuesMet f e bytes n ≡ b → Leads (ToRecord bytes) (cond b (Record (recordAt e (recordRead f v r) bytes)) (Refused 20))
+          met : (b : Bool) → valuesMet f e bytes n ≡ b → Leads (ToRecord bytes) (cond b (Record (recordAt e (recordRead f v r) bytes)) (Refused Breach))
           met true q =
               let a = both (leb 1 n) (landsOn f 7 (e .link) && eqb (vvrRule f (e .link) (e .last - e .first + 1) bytes) 0) q in
               let b = both (landsOn f 7 (e .link)) (eqb (vvrRule f (e .link) (e .last - e .first + 1) bytes) 0) (a .1) in
@@ -203,7 +247,7 @@ module _ (f : List ℕ) (v : ℕ) (r : ℤ) where
               }
           met false q = tt
 
-      chain : recordThere f v r ≡ true → (s : Index) → Covers (Chained f (recordRead f v r) (headOfIndex v)) s
+      chain : recordThere f v r ≡ true → (s : Index) → Covers (Chained f (recordRead f v r) (headOfIndex v) 0) s
           → Leads (ToRecord bytes) (valuesOf f (recordRead f v r) bytes (lowestOf f (recordRead f v r) s))
       chain h (Halted n) w = tt
       chain h (Covered e n) w = values h e w (lowered levelsBelow f (recordRead f v r) e n) (lowered-down levelsBelow f (recordRead f v r) e n)
@@ -222,12 +266,12 @@ module _ (f : List ℕ) (v : ℕ) (r : ℤ) where
   unfolding levelsWay recordNumber
   levels-found left = go (recordThere f v r) refl
     where
-      told : recordThere f v r ≡ true → (top : Entry) → Chained f (recordRead f v r) (headOfIndex v) top → (s : Index)
+      told : recordThere f v r ≡ true → (top : Entry) → Chained f (recordRead f v r) (headOfIndex v) 0 top → (s : Index)
           → Covers (Down f (recordRead f v r) levelsBelow top) s → Counts ToLevels (levelsTold f (recordRead f v r) top s)
       told h top t (Covered e n) w = record { entry = e; way = record { there = h; top = top; chained = t; down = w }; is = w .told }
       told h top t (Halted n) w = tt
 
-      chain : recordThere f v r ≡ true → (s : Index) → Covers (Chained f (recordRead f v r) (headOfIndex v)) s
+      chain : recordThere f v r ≡ true → (s : Index) → Covers (Chained f (recordRead f v r) (headOfIndex v) 0) s
           → Counts ToLevels (levelsOf f (recordRead f v r) s)
       chain h (Halted n) w = tt
       chain h (Covered e n) w = told h e w (lowered levelsBelow f (recordRead f v r) e n) (lowered-down levelsBelow f (recordRead f v r) e n)

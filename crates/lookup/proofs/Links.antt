@@ -13,6 +13,7 @@ use lib.Signed.{ltZ}
 use Rattle.format.specs.Fields.{linkAt, natOr}
 use Rattle.records.specs.Layout.{nextAt}
 use Rattle.lookup.specs.Lists.{meets, wantedAt, overOf, lastLink, sought, headOfList, placeWay}
+use Rattle.lookup.specs.declared.refusals.Refusal.the-variants.{Breach, NoSuch}
 use Rattle.lookup.specs.declared.lists.Wanted.{Wanted}
 use Rattle.lookup.specs.declared.lists.Wanted.the-variants.{Place}
 use Rattle.lookup.specs.declared.lists.Way.the-variants.{Found, Stopped}
@@ -34,7 +35,7 @@ module _ {f : List ℕ} {t : ℕ} {w : Wanted} {link allowed p i left : ℕ} (q 
     over-here z = one-link ∙ simp (← e, eq-eqb o 0 z)
 
     module _ (n : o ≡ 0 → ⊥) where
-      pub broken-here : meets f t o ≡ false → sought f t w link 0 allowed ≡ Stopped 20
+      pub broken-here : meets f t o ≡ false → sought f t w link 0 allowed ≡ Stopped Breach
       unfolding sought
       broken-here z = one-link ∙ simp (← e, ne-eqb o 0 n, z)
 
@@ -53,7 +54,7 @@ module _ {f : List ℕ} {t : ℕ} {w : Wanted} {link allowed p i left : ℕ} (q 
   none-left z = let last : sought f t w p i left ≡ lastLink f t p = rw z in q .same ∙ last
 
 -- a place below 0, and any other
-pub place-below : (f : List ℕ) (t : ℕ) (n : ℤ) (left : ℕ) → ltZ n (pos 0) ≡ true → placeWay f t n left ≡ Stopped 15
+pub place-below : (f : List ℕ) (t : ℕ) (n : ℤ) (left : ℕ) → ltZ n (pos 0) ≡ true → placeWay f t n left ≡ Stopped NoSuch
 unfolding placeWay
 place-below f t (pos n) left e = absurd (omega (arith, ltb-true n 0 e))
 place-below f t (negsuc n) left e = refl

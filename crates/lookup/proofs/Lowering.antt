@@ -10,6 +10,7 @@ use Rattle.records.specs.Index.{usedAt, indexAt}
 use Rattle.records.specs.Tree.{levelsBelow}
 use Rattle.records.specs.declared.index.Entry.{Entry}
 use Rattle.lookup.specs.Indexes.{scanned, lowerMet, lowerScan, afterLower, lowered, levelsThere, levelsFrom}
+use Rattle.lookup.specs.declared.refusals.Refusal.the-variants.{Breach}
 use Rattle.lookup.specs.declared.indexes.Scan.{Scan}
 use Rattle.lookup.specs.declared.indexes.Scan.the-variants.{Covering, Passed, Broken}
 use Rattle.lookup.specs.declared.indexes.Index.{Index}
@@ -22,7 +23,7 @@ lowest-here zero f r e left h = rw h
 lowest-here (suc k) f r e left h = rw h
 
 -- a ninth level
-pub too-deep : (k : ℕ) (f : List ℕ) (r : ℕ) (e : Entry) (left : ℕ) → k ≡ 0 → indexAt f (e .link) ≡ true → Halted 20 ≡ lowered k f r e left
+pub too-deep : (k : ℕ) (f : List ℕ) (r : ℕ) (e : Entry) (left : ℕ) → k ≡ 0 → indexAt f (e .link) ≡ true → Halted Breach ≡ lowered k f r e left
 unfolding lowered
 too-deep k f r e left z h = rw (z, h)
 
@@ -30,17 +31,17 @@ module _ (k : ℕ) (f : List ℕ) (r : ℕ) (e : Entry) (left : ℕ) (some : k �
   level : lowered k f r e left
       ≡ cond (leb 1 left && lowerMet f (e .link))
       (afterLower (lowerScan f r e) (λ d. lowered (k - 1) f r d (left - 1)))
-      (Halted 20)
+      (Halted Breach)
   unfolding lowered
   level = ap (λ (n : ℕ). lowered n f r e left) up ∙ rw h
     where
       up : k ≡ suc (k - 1)
       up = omega arith
 
-  pub none-left : left ≡ 0 → Halted 20 ≡ lowered k f r e left
+  pub none-left : left ≡ 0 → Halted Breach ≡ lowered k f r e left
   none-left z = sym (level ∙ rw (lt-leb 1 left (omega arith)))
 
-  pub not-met : lowerMet f (e .link) ≡ false → Halted 20 ≡ lowered k f r e left
+  pub not-met : lowerMet f (e .link) ≡ false → Halted Breach ≡ lowered k f r e left
   not-met m = sym (level ∙ rw (m, and-false (leb 1 left)))
 
   -- the record is met, and s is what its entries say
@@ -59,7 +60,7 @@ levels-counted : (n : ℕ) (f : List ℕ) (r : ℕ) (e : Entry) (left : ℕ) →
 unfolding lowered levelsFrom
 levels-counted zero f r e left = go (indexAt f (e .link))
   where
-    go : (b : Bool) → Counted 1 left (cond b (Halted 20) (Covered e left))
+    go : (b : Bool) → Counted 1 left (cond b (Halted Breach) (Covered e left))
     go true = tt
     go false = omega arith
 levels-counted (suc n) f r e left =
@@ -71,7 +72,7 @@ levels-counted (suc n) f r e left =
 
     go : (a b c : Bool) (s : Scan) → leb 1 left ≡ b → ((d : Entry) → Counted (levelsFrom n f r d) (left - 1) (lowered n f r d (left - 1)))
         → Counted (cond a (1 + levelsThere s (λ d. levelsFrom n f r d)) 1) left
-        (cond a (cond (b && c) (afterLower s (λ d. lowered n f r d (left - 1))) (Halted 20)) (Covered e left))
+        (cond a (cond (b && c) (afterLower s (λ d. lowered n f r d (left - 1))) (Halted Breach)) (Covered e left))
     go false b c s l h = omega arith
     go true false c s l h = tt
     go true true false s l h = tt

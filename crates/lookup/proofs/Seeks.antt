@@ -10,6 +10,7 @@ use lib.Dec.{eqb}
 use Rattle.format.specs.Fields.{linkAt}
 use Rattle.records.specs.Layout.{nextAt, headOfIndex}
 use Rattle.records.specs.Index.{usedAt, noLimit}
+use Rattle.lookup.specs.declared.refusals.Refusal.the-variants.{Breach, Gap}
 use Rattle.lookup.specs.declared.indexes.Index.{Index}
 use Rattle.lookup.specs.declared.indexes.Index.the-variants.{Halted}
 use Rattle.lookup.specs.declared.indexes.Scan.{Scan}
@@ -27,18 +28,18 @@ module _ {f : List ℕ} {v r allowed p floor left : ℕ} (q : StillSeeks f v r a
   module _ {x : ℕ} (is : x ≡ linkAt f p) (some : 0 < left) where
     abbrev linked : ℕ → ℕ → Index
     linked n y =
-        cond (eqb y 0) (Halted 17)
-        (cond (indexMet f y) (afterScan (scanned f y r noLimit (usedAt f y) 0 floor) n (λ upper. indexed f r (nextAt y) upper n)) (Halted 20))
+        cond (eqb y 0) (Halted Gap)
+        (cond (indexMet f y) (afterScan (scanned f y r noLimit (usedAt f y) 0 floor) n (λ upper. indexed f r (nextAt y) upper n)) (Halted Breach))
 
     first-linked : indexed f r (headOfIndex v) 0 allowed ≡ linked (left - 1) x
     unfolding indexed
     first-linked = let one : left ≡ suc (left - 1) = omega (arith, some) in q .same ∙ ap (indexed f r p floor) one ∙ ap (linked (left - 1)) (sym is)
 
-    pub seek-over : x ≡ 0 → Halted 17 ≡ indexed f r (headOfIndex v) 0 allowed
+    pub seek-over : x ≡ 0 → Halted Gap ≡ indexed f r (headOfIndex v) 0 allowed
     seek-over z = sym (first-linked ∙ simp (eq-eqb x 0 z))
 
     module _ (link : x ≡ 0 → ⊥) where
-      pub seek-unmet : indexMet f x ≡ false → Halted 20 ≡ indexed f r (headOfIndex v) 0 allowed
+      pub seek-unmet : indexMet f x ≡ false → Halted Breach ≡ indexed f r (headOfIndex v) 0 allowed
       seek-unmet m = sym (first-linked ∙ simp (ne-eqb x 0 link, m))
 
       -- the VXR is met, and s is what its entries say
@@ -58,6 +59,6 @@ pub last-fits : (f : List ℕ) (r p : ℕ) → IndexFits r (lastIndex f p)
 unfolding lastIndex
 last-fits f r p = go (eqb (linkAt f p) 0)
   where
-    go : (b : Bool) → IndexFits r (cond b (Halted 17) (Halted 20))
+    go : (b : Bool) → IndexFits r (cond b (Halted Gap) (Halted Breach))
     go true = tt
     go false = tt

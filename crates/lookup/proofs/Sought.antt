@@ -12,6 +12,8 @@ use borrow.Author.Tests.{eqb-true, le-leb}
 use Rattle.format.specs.Fields.{linkAt, natOr}
 use Rattle.records.specs.Opening.{bodyOf}
 use Rattle.lookup.specs.Lists.{meets, wantedAt, overOf, lastLink, sought, headOfList, allowance, opened, placeWay, fileWay, ofKinds, kindAmong, variableWay, attributeWay, headOfEntries, entriesOf, entryWay}
+use Rattle.lookup.specs.declared.refusals.Refusal.{Refusal}
+use Rattle.lookup.specs.declared.refusals.Refusal.the-variants.{Breach, NoSuch}
 use Rattle.lookup.specs.declared.lists.Wanted.{Wanted}
 use Rattle.lookup.specs.declared.lists.Wanted.the-variants.{Place}
 use Rattle.lookup.specs.declared.lists.Way.{Way}
@@ -38,7 +40,7 @@ abbrev pub Finds : (ℕ → Type 0) → Way → Type 0
 Finds Fact (Found o left) = Fact o
 Finds Fact (Stopped v) = Unit {0}
 
-pub found-not-stopped : (o left m : ℕ) → Found o left ≡ Stopped m → ⊥
+pub found-not-stopped : (o left : ℕ) (m : Refusal) → Found o left ≡ Stopped m → ⊥
 found-not-stopped o left m e = let z : _≡_ {A = ℕ} 0 1 = cc in absurd (omega arith)
 
 pub found-same : (o u left rest : ℕ) → Found u rest ≡ Found o left → (u ≡ o) × (rest ≡ left)
@@ -49,7 +51,7 @@ module _ (f : List ℕ) (t : ℕ) (w : Wanted) where
   unfolding sought lastLink
   sought-first zero p i = go (eqb (linkAt f p) 0)
     where
-      go : (b : Bool) → Finds (First f t w p i) (cond b (Stopped (overOf t)) (Stopped 20))
+      go : (b : Bool) → Finds (First f t w p i) (cond b (Stopped (overOf t)) (Stopped Breach))
       go true = tt
       go false = tt
   sought-first (suc left) p i =
@@ -74,7 +76,7 @@ module _ (f : List ℕ) (t : ℕ) (w : Wanted) where
 
       go : (b c : Bool) → meets f t (linkAt f p) ≡ c → (d : Bool) → wantedAt f w i (linkAt f p) ≡ d → (s : Way)
           → Finds (First f t w (linkAt f p + 8) (suc i)) s
-          → Finds (First f t w p i) (cond b (Stopped (overOf t)) (cond c (cond d (Found (linkAt f p) left) s) (Stopped 20)))
+          → Finds (First f t w p i) (cond b (Stopped (overOf t)) (cond c (cond d (Found (linkAt f p) left) s) (Stopped Breach)))
       go true c m d e s r = tt
       go false false m d e s r = tt
       go false true m true e s r = record { place = 0; is = refl; met = λ h l. let z : h ≡ 0 = omega arith in rw z m; wanted = rw (add-zero i) e; earlier = λ h l. absurd (omega arith) }
@@ -116,7 +118,7 @@ unfolding variableWay
 variable-found f k n = go (opened f) refl (ofKinds 3 8 k) refl (fileWay f (kindAmong 3 8 k) n) (place-listed (bodyOf f) (kindAmong 3 8 k) n (allowance f))
   where
     go : (b : Bool) → opened f ≡ b → (c : Bool) → ofKinds 3 8 k ≡ c → (s : Way) → Finds (Listed (bodyOf f) (kindAmong 3 8 k) n) s
-        → Finds (InOpened f (ToVariable k n)) (cond b (cond c s (Stopped 15)) (Stopped 20))
+        → Finds (InOpened f (ToVariable k n)) (cond b (cond c s (Stopped NoSuch)) (Stopped Breach))
     go true h true e (Found v left) r = (h, record { kind = e; listed = r })
     go true h true e (Stopped m) r = tt
     go true h false e s r = tt
@@ -127,7 +129,7 @@ pub attribute-found : (f : List ℕ) (n : ℤ) → Finds (InOpened f (λ l. List
 unfolding attributeWay
 attribute-found f n = go (opened f) refl (fileWay f 4 n) (place-listed (bodyOf f) 4 n (allowance f))
   where
-    go : (b : Bool) → opened f ≡ b → (s : Way) → Finds (Listed (bodyOf f) 4 n) s → Finds (InOpened f (λ l. Listed l 4 n)) (cond b s (Stopped 20))
+    go : (b : Bool) → opened f ≡ b → (s : Way) → Finds (Listed (bodyOf f) 4 n) s → Finds (InOpened f (λ l. Listed l 4 n)) (cond b s (Stopped Breach))
     go true h (Found v left) r = (h, r)
     go true h (Stopped m) r = tt
     go false h s r = tt
@@ -150,7 +152,7 @@ entry-found f a k w = go (opened f) refl (ofKinds 5 9 k) refl (fileWay f 4 a) (p
     on h e d l (Stopped m) r = tt
 
     go : (b : Bool) → opened f ≡ b → (c : Bool) → ofKinds 5 9 k ≡ c → (s : Way) → Finds (Listed (bodyOf f) 4 a) s
-        → Finds (InOpened f (ToEntry a k w)) (cond b (cond c (entriesOf (bodyOf f) (kindAmong 5 9 k) w s) (Stopped 15)) (Stopped 20))
+        → Finds (InOpened f (ToEntry a k w)) (cond b (cond c (entriesOf (bodyOf f) (kindAmong 5 9 k) w s) (Stopped NoSuch)) (Stopped Breach))
     go true h true e (Found d left) r =
         on h e d r (sought (bodyOf f) (kindAmong 5 9 k) w (headOfEntries d (kindAmong 5 9 k)) 0 left)
         (sought-first (bodyOf f) (kindAmong 5 9 k) w left (headOfEntries d (kindAmong 5 9 k)) 0)

@@ -3,8 +3,10 @@ use Prim.Native.Nat.{ℕ, _+_, _*_, _≤_, _<_}
 use mathlib.Core.List.{List}
 use lib.ListN.{length}
 use Rattle.records.specs.Layout.{rDimSizesAt}
-use Rattle.records.specs.Opening.{gdrAt, rNumDims}
+use Rattle.records.specs.Opening.{gdrAt, rNumDims, bodyOf}
 use Rattle.records.specs.declared.index.Entry.{Entry}
+use Rattle.lookup.specs.declared.lists.Asked.{Asked}
+use Rattle.lookup.specs.declared.lists.Asked.the-variants.{Kind, Refused as NotAsked}
 use Rattle.lookup.specs.declared.indexes.Scan.{Scan}
 use Rattle.lookup.specs.declared.indexes.Scan.the-variants.{Covering, Passed, Broken}
 use Rattle.lookup.specs.declared.indexes.Index.{Index}
@@ -20,6 +22,11 @@ pub record Opened (f b : List ℕ) : Type 0 where
   pub part : length b ≤ length f
   pub long : 372 ≤ length b
   pub gdr : rDimSizesAt (gdrAt b) + 4 * rNumDims b (gdrAt b) ≤ length b
+
+-- of a file in which a record of some type is asked for
+abbrev pub AskedFits : List ℕ → Asked → Type 0
+AskedFits f (Kind t) = Opened f (bodyOf f)
+AskedFits f (NotAsked v) = Unit {0}
 
 -- of an entry that covers record r
 pub record EntryFits (r : ℕ) (e : Entry) : Type 0 where

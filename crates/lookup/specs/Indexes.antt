@@ -11,6 +11,7 @@ use Rattle.records.specs.Index.{usedAt, vxrRule, indexAt, noLimit, entryOf, ent
 use Rattle.records.specs.Tree.{levelsBelow}
 use Rattle.records.specs.declared.index.Entry.{Entry}
 use Rattle.lookup.specs.Lists.{landsOn}
+use Rattle.lookup.specs.declared.refusals.Refusal.the-variants.{Breach, NoNumber, Gap}
 use Rattle.lookup.specs.declared.indexes.RecordNumber.{RecordNumber}
 use Rattle.lookup.specs.declared.indexes.RecordNumber.the-variants.{There, Missing}
 use Rattle.lookup.specs.declared.indexes.Scan.{Scan}
@@ -54,19 +55,19 @@ indexMet f x = landsOn f 6 x && eqb (vxrRule f x) 0
 abbrev pub afterScan : Scan → ℕ → (ℕ → Index) → Index
 afterScan (Covering e) left next = Covered e left
 afterScan (Passed floor) left next = next floor
-afterScan Broken left next = Halted 20
+afterScan Broken left next = Halted Breach
 
 -- the link at p where no more records may be met
 unfoldable pub lastIndex : List ℕ → ℕ → Index
-lastIndex f p = cond (eqb (linkAt f p) 0) (Halted 17) (Halted 20)
+lastIndex f p = cond (eqb (linkAt f p) 0) (Halted Gap) (Halted Breach)
 
 -- 13.2: "the index chain to the covering entry or its end": from the link at p; 17 at its end
 unfoldable pub indexed : List ℕ → ℕ → ℕ → ℕ → ℕ → Index
 indexed f r p floor zero = lastIndex f p
 indexed f r p floor (suc left) =
     let x = linkAt f p in
-    cond (eqb x 0) (Halted 17)
-    (cond (indexMet f x) (afterScan (scanned f x r noLimit (usedAt f x) 0 floor) left (λ upper. indexed f r (nextAt x) upper left)) (Halted 20))
+    cond (eqb x 0) (Halted Gap)
+    (cond (indexMet f x) (afterScan (scanned f x r noLimit (usedAt f x) 0 floor) left (λ upper. indexed f r (nextAt x) upper left)) (Halted Breach))
 
 -- ---- 8.9: a lower record can be met; 8.10: "a lower record has next 0"
 unfoldable pub lowerMet : List ℕ → ℕ → Bool
@@ -79,16 +80,16 @@ lowerScan f r e = scanned f (e .link) r (e .last) (usedAt f (e .link)) 0 (e .fir
 -- 13.9: "a lower record that ends without covering is 17"
 abbrev pub afterLower : Scan → (Entry → Index) → Index
 afterLower (Covering d) next = next d
-afterLower (Passed floor) next = Halted 17
-afterLower Broken next = Halted 20
+afterLower (Passed floor) next = Halted Gap
+afterLower Broken next = Halted Breach
 
 -- 13.9: "A lookup goes down level by level, each with one level fewer left": from the covering entry e to the lowest one, where left more
 -- records may be met; 13.9: "A breach of 8.10 or 8.11, or a ninth level, is 20"
 unfoldable pub lowered : ℕ → List ℕ → ℕ → Entry → ℕ → Index
-lowered zero f r e left = cond (indexAt f (e .link)) (Halted 20) (Covered e left)
+lowered zero f r e left = cond (indexAt f (e .link)) (Halted Breach) (Covered e left)
 lowered (suc n) f r e left =
     cond (indexAt f (e .link))
-    (cond (leb 1 left && lowerMet f (e .link)) (afterLower (lowerScan f r e) (λ d. lowered n f r d (left - 1))) (Halted 20))
+    (cond (leb 1 left && lowerMet f (e .link)) (afterLower (lowerScan f r e) (λ d. lowered n f r d (left - 1))) (Halted Breach))
     (Covered e left)
 
 abbrev pub lowestOf : List ℕ → ℕ → Index → Index
@@ -105,7 +106,7 @@ recordAt e r bytes = valuesAt (e .link) + (r - e .first) * bytes
 
 -- the values of record r that an entry names
 abbrev pub valuesNamed : List ℕ → ℕ → ℕ → Entry → ℕ → Values
-valuesNamed f r bytes e left = cond (valuesMet f e bytes left) (Record (recordAt e r bytes)) (Refused 20)
+valuesNamed f r bytes e left = cond (valuesMet f e bytes left) (Record (recordAt e r bytes)) (Refused Breach)
 
 -- and those where its index ends
 abbrev pub valuesOf : List ℕ → ℕ → ℕ → Index → Values
@@ -115,7 +116,7 @@ valuesOf f r bytes (Halted v) = Refused v
 -- the values by record number
 abbrev pub valuesBy : List ℕ → ℕ → ℕ → ℕ → RecordNumber → Values
 valuesBy f v bytes left (There r) = valuesOf f r bytes (lowestOf f r (indexed f r (headOfIndex v) 0 left))
-valuesBy f v bytes left Missing = Refused 16
+valuesBy f v bytes left Missing = Refused NoNumber
 
 -- THE WAY TO A RECORD of the variable whose VDR is at v, where left more records may be met
 unfoldable pub recordWay : List ℕ → ℕ → ℕ → ℤ → ℕ → Values
@@ -144,7 +145,7 @@ levelsOf f r (Halted v) = Unknown v
 
 abbrev pub levelsBy : List ℕ → ℕ → ℕ → RecordNumber → Levels
 levelsBy f v left (There r) = levelsOf f r (indexed f r (headOfIndex v) 0 left)
-levelsBy f v left Missing = Unknown 16
+levelsBy f v left Missing = Unknown NoNumber
 
 -- HOW MANY LEVELS the index of the variable whose VDR is at v has on the way to a record, where left more records may be met
 unfoldable pub levelsWay : List ℕ → ℕ → ℤ → ℕ → Levels

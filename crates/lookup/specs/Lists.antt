@@ -11,8 +11,12 @@ use Rattle.records.specs.Rules.{sizeAt, typedAt}
 use Rattle.records.specs.Opening.{tooLong, gdrAt, opening, bodyOf}
 use Rattle.records.specs.Attributes.{adrRule, aedrRule}
 use Rattle.variables.specs.Vdr.{carriedOf, variableOf}
+use Rattle.lookup.specs.declared.refusals.Refusal.{Refusal}
+use Rattle.lookup.specs.declared.refusals.Refusal.the-variants.{Breach, NoSuch, NoNumber}
 use Rattle.lookup.specs.declared.lists.Wanted.{Wanted}
 use Rattle.lookup.specs.declared.lists.Wanted.the-variants.{Place, Number}
+use Rattle.lookup.specs.declared.lists.Asked.{Asked}
+use Rattle.lookup.specs.declared.lists.Asked.the-variants.{Kind, Refused}
 use Rattle.lookup.specs.declared.lists.Way.{Way}
 use Rattle.lookup.specs.declared.lists.Way.the-variants.{Found, Stopped}
 
@@ -52,13 +56,13 @@ abbrev pub wantedAt : List ℕ → Wanted → ℕ → ℕ → Bool
 wantedAt f (Place n) i o = eqb i n
 wantedAt f (Number n) i o = isAt f (entryNumAt o) n
 
--- 13.2: "15 (list over)", and 16 for a list of entries
-abbrev pub overOf : ℕ → ℕ
-overOf t = cond (isEntryKind t) 16 15
+-- a list is over: 13.2: "15 (list over)", and 16 for a list of entries
+abbrev pub overOf : ℕ → Refusal
+overOf t = cond (isEntryKind t) NoNumber NoSuch
 
 -- the link at p where no more records may be met
 unfoldable pub lastLink : List ℕ → ℕ → ℕ → Way
-lastLink f t p = cond (eqb (linkAt f p) 0) (Stopped (overOf t)) (Stopped 20)
+lastLink f t p = cond (eqb (linkAt f p) 0) (Stopped (overOf t)) (Stopped Breach)
 
 -- a list of records of type t from the link at p, at the place i, to the wanted record: where it is, and how many more may be met
 unfoldable pub sought : List ℕ → ℕ → Wanted → ℕ → ℕ → ℕ → Way
@@ -66,7 +70,7 @@ sought f t w p i zero = lastLink f t p
 sought f t w p i (suc left) =
     let o = linkAt f p in
     cond (eqb o 0) (Stopped (overOf t))
-    (cond (meets f t o) (cond (wantedAt f w i o) (Found o left) (sought f t w (nextAt o) (suc i) left)) (Stopped 20))
+    (cond (meets f t o) (cond (wantedAt f w i o) (Found o left) (sought f t w (nextAt o) (suc i) left)) (Stopped Breach))
 
 -- 4.5: "rVDR head 8 .. zVDR head 12 .. ADR head 16": the offset of the GDR's link to its list of records of type t
 abbrev pub headOfList : List ℕ → ℕ → ℕ
@@ -76,7 +80,7 @@ headOfList f t = cond (eqb t 3) (headOfRVariables (gdrAt f)) (cond (eqb t 8) (he
 -- after the GDR"
 unfoldable pub placeWay : List ℕ → ℕ → ℤ → ℕ → Way
 placeWay f t (pos n) left = sought f t (Place n) (headOfList f t) 0 left
-placeWay f t (negsuc n) left = Stopped 15
+placeWay f t (negsuc n) left = Stopped NoSuch
 
 -- 6.4: "the sweep, links and indexes end at eof": of a file that opens the part before its end is gone through, where as many records may
 -- be met as the whole length allows
@@ -91,17 +95,17 @@ ofKinds a b k = eqZ k (pos a) || eqZ k (pos b)
 abbrev pub kindAmong : ℕ → ℕ → ℤ → ℕ
 kindAmong a b k = cond (eqZ k (pos a)) a b
 
--- the number that a question for a record of one of two kinds is refused with before a list is followed, or 0
-abbrev pub kindNumber : List ℕ → ℕ → ℕ → ℤ → ℕ
-kindNumber f a b k = cond (opened f) (cond (ofKinds a b k) 0 15) 20
+-- the record type that a question asks for, of two, or why it is refused before a list is followed
+abbrev pub kindAsked : List ℕ → ℕ → ℕ → ℤ → Asked
+kindAsked f a b k = cond (opened f) (cond (ofKinds a b k) (Kind (kindAmong a b k)) (Refused NoSuch)) (Refused Breach)
 
 -- THE WAY TO A VARIABLE of a kind and a number
 unfoldable pub variableWay : List ℕ → ℤ → ℤ → Way
-variableWay f k n = cond (opened f) (cond (ofKinds 3 8 k) (fileWay f (kindAmong 3 8 k) n) (Stopped 15)) (Stopped 20)
+variableWay f k n = cond (opened f) (cond (ofKinds 3 8 k) (fileWay f (kindAmong 3 8 k) n) (Stopped NoSuch)) (Stopped Breach)
 
 -- THE WAY TO AN ATTRIBUTE
 unfoldable pub attributeWay : List ℕ → ℤ → Way
-attributeWay f n = cond (opened f) (fileWay f 4 n) (Stopped 20)
+attributeWay f n = cond (opened f) (fileWay f 4 n) (Stopped Breach)
 
 -- 4.6: "AgrEDR head 12", "AzEDR head 36": the link to the entries of kind k of the ADR at a
 abbrev pub headOfEntries : ℕ → ℕ → ℕ
@@ -115,4 +119,4 @@ entriesOf f k w (Stopped v) = Stopped v
 -- THE WAY TO AN ENTRY of an attribute, of a kind
 unfoldable pub entryWay : List ℕ → ℤ → ℤ → Wanted → Way
 entryWay f a k w =
-    cond (opened f) (cond (ofKinds 5 9 k) (entriesOf (bodyOf f) (kindAmong 5 9 k) w (fileWay f 4 a)) (Stopped 15)) (Stopped 20)
+    cond (opened f) (cond (ofKinds 5 9 k) (entriesOf (bodyOf f) (kindAmong 5 9 k) w (fileWay f 4 a)) (Stopped NoSuch)) (Stopped Breach)

@@ -9,6 +9,7 @@ ghost use Rattle.records.specs.Index.{entryCovers};
 ghost use Rattle.records.specs.Layout.{headOfIndex};
 ghost use Rattle.records.specs.Tree.{levelsBelow};
 use crate::lists;
+use crate::refusals::Refusal;
 use format::fields;
 use records::index;
 use records::index::Entry;
@@ -24,19 +25,19 @@ pub enum Scan {
 // Where an index chain ends: at the entry that covers a record, with how many more records may be met; or at a refusal.
 pub enum Index {
     Covered { entry: Entry, left: u32 },
-    Halted { number: u8 },
+    Halted(Refusal),
 }
 
 // Where a record's values begin, or a refusal.
 pub enum Values {
     Record(u64),
-    Refused(u8),
+    Refused(Refusal),
 }
 
 // How many levels an index has on the way to a record, or a refusal.
 pub enum Levels {
     Are(u32),
-    Unknown(u8),
+    Unknown(Refusal),
 }
 
 // The record number that is looked up, 0 where record variance is clear; or none.
@@ -111,9 +112,9 @@ fn last_index(f: &[u8], link: usize) -> Index
     ensures { λ r. ⌜ r ≡ lastIndex (now (f .entry)) link ⌝ }
 {
     if fields::link_at(f, link) == 0 {
-        return Index::Halted { number: 17 };
+        return Index::Halted(Refusal::Gap);
     }
-    Index::Halted { number: 20 }
+    Index::Halted(Refusal::Breach)
 }
 
 // The index chain of the variable whose VDR is at an offset, to the entry that covers a record, where so many records may be met.
@@ -127,10 +128,10 @@ fn seek_record(f: &[u8], v: u32, r: u32, allowed: u32) -> Index
     while 0 < left {
         let x = fields::link_at(f, p);
         if x == 0 {
-            return Index::Halted { number: 17 };
+            return Index::Halted(Refusal::Gap);
         }
         if !index_met(f, x) {
-            return Index::Halted { number: 20 };
+            return Index::Halted(Refusal::Breach);
         }
         left -= 1;
         let used = fields::nat_at(f, x as usize + layout::VXR_USED);
@@ -141,7 +142,7 @@ fn seek_record(f: &[u8], v: u32, r: u32, allowed: u32) -> Index
                 floor = upper;
                 p = x as usize + layout::NEXT_USIZE;
             }
-            Scan::Broken => return Index::Halted { number: 20 },
+            Scan::Broken => return Index::Halted(Refusal::Breach),
         }
     }
     last_index(f, p)
@@ -167,13 +168,13 @@ fn go_down(f: &[u8], r: u32, e: Entry, left: u32, levels: u32) -> Index
         return Index::Covered { entry: e, left };
     }
     if levels == 0 {
-        return Index::Halted { number: 20 };
+        return Index::Halted(Refusal::Breach);
     }
     if left == 0 {
-        return Index::Halted { number: 20 };
+        return Index::Halted(Refusal::Breach);
     }
     if !lower_met(f, x) {
-        return Index::Halted { number: 20 };
+        return Index::Halted(Refusal::Breach);
     }
     let s = scan_entries(
         f,
@@ -185,8 +186,8 @@ fn go_down(f: &[u8], r: u32, e: Entry, left: u32, levels: u32) -> Index
     );
     match s {
         Scan::Covering(d) => go_down(f, r, d, left - 1, levels - 1),
-        Scan::Passed(_) => Index::Halted { number: 17 },
-        Scan::Broken => Index::Halted { number: 20 },
+        Scan::Passed(_) => Index::Halted(Refusal::Gap),
+        Scan::Broken => Index::Halted(Refusal::Breach),
     }
 }
 
@@ -221,7 +222,7 @@ fn values_named(f: &[u8], r: u32, bytes: u32, e: Entry, left: u32) -> Values
     if values_met(f, r, e, bytes, left) {
         return Values::Record(record_at(r, e, bytes));
     }
-    Values::Refused(20)
+    Values::Refused(Refusal::Breach)
 }
 
 // The values of a record where its index ends.
@@ -231,7 +232,7 @@ fn values_of(f: &[u8], r: u32, bytes: u32, i: Index) -> Values
 {
     match i {
         Index::Covered { entry, left } => values_named(f, r, bytes, entry, left),
-        Index::Halted { number } => Values::Refused(number),
+        Index::Halted(refusal) => Values::Refused(refusal),
     }
 }
 
@@ -254,7 +255,7 @@ fn values_below(f: &[u8], r: u32, bytes: u32, i: Index) -> Values
 {
     match i {
         Index::Covered { entry, left } => values_from(f, r, bytes, entry, left),
-        Index::Halted { number } => Values::Refused(number),
+        Index::Halted(refusal) => Values::Refused(refusal),
     }
 }
 
@@ -269,7 +270,7 @@ pub fn to_record(f: &[u8], v: u32, bytes: u32, r: i64, left: u32) -> Values
             let i = seek_record(f, v, k, left);
             values_below(f, k, bytes, i)
         }
-        RecordNumber::Missing => Values::Refused(16),
+        RecordNumber::Missing => Values::Refused(Refusal::NoNumber),
     }
 }
 
@@ -285,7 +286,7 @@ fn levels_from(f: &[u8], r: u32, e: Entry, left: u32) -> Levels
             entry: _,
             left: after,
         } => Levels::Are(left - after + 1),
-        Index::Halted { number } => Levels::Unknown(number),
+        Index::Halted(refusal) => Levels::Unknown(refusal),
     }
 }
 
@@ -296,7 +297,7 @@ fn levels_of(f: &[u8], r: u32, i: Index) -> Levels
 {
     match i {
         Index::Covered { entry, left } => levels_from(f, r, entry, left),
-        Index::Halted { number } => Levels::Unknown(number),
+        Index::Halted(refusal) => Levels::Unknown(refusal),
     }
 }
 
@@ -311,6 +312,6 @@ pub fn to_levels(f: &[u8], v: u32, r: i64, left: u32) -> Levels
             let i = seek_record(f, v, k, left);
             levels_of(f, k, i)
         }
-        RecordNumber::Missing => Levels::Unknown(16),
+        RecordNumber::Missing => Levels::Unknown(Refusal::NoNumber),
     }
 }

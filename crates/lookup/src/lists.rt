@@ -5,9 +5,10 @@ ghost use Prim.Native.Nat.{_+_, _≤_, _<_};
 ghost use lib.ListN.{length};
 ghost use Rattle.format.specs.Fields.{isAt};
 ghost use Rattle.records.specs.Opening.{gdrAt, bodyOf};
-ghost use Rattle.lookup.specs.Lists.{opened, allowance, landsOn, isEntryKind, vdrKept, ruleKept, meets, wantedAt, overOf, lastLink, sought, headOfList, placeWay, kindAmong, kindNumber, variableWay, attributeWay, headOfEntries, entriesOf, entryWay};
-ghost use Rattle.lookup.specs.Bounds.{Opened};
+ghost use Rattle.lookup.specs.Lists.{opened, allowance, landsOn, isEntryKind, vdrKept, ruleKept, meets, wantedAt, overOf, lastLink, sought, headOfList, placeWay, kindAmong, kindAsked, variableWay, attributeWay, headOfEntries, entriesOf, entryWay};
+ghost use Rattle.lookup.specs.Bounds.{Opened, AskedFits};
 ghost use Rattle.lookup.specs.declared.lists.Way.the-variants.{Stopped};
+use crate::refusals::Refusal;
 use format::fields;
 use records::attributes;
 use records::layout;
@@ -23,7 +24,13 @@ pub enum Wanted {
 // Where a way ends: at a record, with how many more may be met; or at a refusal.
 pub enum Way {
     Found { at: u32, left: u32 },
-    Stopped { number: u8 },
+    Stopped(Refusal),
+}
+
+// The record type that is asked for, or a refusal.
+pub enum Asked {
+    Kind(u32),
+    Refused(Refusal),
 }
 
 // The file opens.
@@ -116,9 +123,9 @@ fn over(t: u32) -> Way
     ensures { λ r. ⌜ r ≡ Stopped (overOf t) ⌝ }
 {
     if is_entry(t) {
-        Way::Stopped { number: 16 }
+        Way::Stopped(Refusal::NoNumber)
     } else {
-        Way::Stopped { number: 15 }
+        Way::Stopped(Refusal::NoSuch)
     }
 }
 
@@ -130,7 +137,7 @@ fn last_link(f: &[u8], t: u32, link: usize) -> Way
     if fields::link_at(f, link) == 0 {
         return over(t);
     }
-    Way::Stopped { number: 20 }
+    Way::Stopped(Refusal::Breach)
 }
 
 // A list of records of a type, from the link at an offset to the wanted record, where so many may be met.
@@ -147,7 +154,7 @@ pub fn seek(f: &[u8], t: u32, w: Wanted, link: usize, allowed: u32) -> Way
             return over(t);
         }
         if !is_met(f, t, o) {
-            return Way::Stopped { number: 20 };
+            return Way::Stopped(Refusal::Breach);
         }
         left -= 1;
         if is_wanted(f, w, i, o) {
@@ -188,7 +195,7 @@ fn to_place(b: &[u8], t: u32, n: i64, left: u32) -> Way
     ensures { λ r. ⌜ r ≡ placeWay (now (b .entry)) t n left ⌝ }
 {
     if n < 0 {
-        return Way::Stopped { number: 15 };
+        return Way::Stopped(Refusal::NoSuch);
     }
     seek(b, t, Wanted::Place(n as u64), head_of_list(b, t), left)
 }
@@ -201,18 +208,19 @@ pub fn kind_among(a: u32, b: u32, kind: i64) -> u32
     if kind == a as i64 { a } else { b }
 }
 
-// The number that a question for a record of one of two kinds is refused with before a list is followed, or 0.
-fn kind_number(f: &[u8], a: u32, b: u32, kind: i64) -> u8
+// The record type that a question asks for, of two, or why it is refused before a list is followed.
+fn kind_asked(f: &[u8], a: u32, b: u32, kind: i64) -> Asked
     requires { ⌜ (a < 2147483648) × (b < 2147483648) ⌝ }
-    ensures { λ r. ⌜ (r ≡ kindNumber (now (f .entry)) a b kind) × (r ≡ 0 → Opened (now (f .entry)) (bodyOf (now (f .entry)))) ⌝ }
+    ensures { λ r. ⌜ (r ≡ kindAsked (now (f .entry)) a b kind) × AskedFits (now (f .entry)) r ⌝ }
 {
     if !opens(f) {
-        return 20;
+        return Asked::Refused(Refusal::Breach);
     }
-    if kind != kind_among(a, b, kind) as i64 {
-        return 15;
+    let t = kind_among(a, b, kind);
+    if kind != t as i64 {
+        return Asked::Refused(Refusal::NoSuch);
     }
-    0
+    Asked::Kind(t)
 }
 
 // The way to a variable, by its kind, 3 or 8, and its number: in a file, whose part before its end is b.
@@ -220,11 +228,11 @@ pub fn to_variable(f: &[u8], b: &[u8], kind: i64, number: i64) -> Way
     requires { ⌜ now b ≡ bodyOf (now f) ⌝ }
     ensures { λ r. ⌜ r ≡ variableWay (now (f .entry)) kind number ⌝ }
 {
-    let refused = kind_number(f, 3, 8, kind);
-    if refused != 0 {
-        return Way::Stopped { number: refused };
+    let asked = kind_asked(f, 3, 8, kind);
+    match asked {
+        Asked::Kind(t) => to_place(b, t, number, allowed(f)),
+        Asked::Refused(refusal) => Way::Stopped(refusal),
     }
-    to_place(b, kind_among(3, 8, kind), number, allowed(f))
 }
 
 // The way to an attribute, by its number.
@@ -233,7 +241,7 @@ pub fn to_attribute(f: &[u8], b: &[u8], number: i64) -> Way
     ensures { λ r. ⌜ r ≡ attributeWay (now (f .entry)) number ⌝ }
 {
     if !opens(f) {
-        return Way::Stopped { number: 20 };
+        return Way::Stopped(Refusal::Breach);
     }
     to_place(b, 4, number, allowed(f))
 }
@@ -258,7 +266,7 @@ fn to_listed(b: &[u8], attribute: i64, kind: u32, w: Wanted, allowed: u32) -> Wa
     let way = to_place(b, 4, attribute, allowed);
     match way {
         Way::Found { at, left } => seek(b, kind, w, head_of_entries(at, kind), left),
-        Way::Stopped { number } => Way::Stopped { number },
+        Way::Stopped(refusal) => Way::Stopped(refusal),
     }
 }
 
@@ -267,9 +275,9 @@ pub fn to_entry(f: &[u8], b: &[u8], attribute: i64, kind: i64, w: Wanted) -> Way
     requires { ⌜ now b ≡ bodyOf (now f) ⌝ }
     ensures { λ r. ⌜ r ≡ entryWay (now (f .entry)) attribute kind w ⌝ }
 {
-    let refused = kind_number(f, 5, 9, kind);
-    if refused != 0 {
-        return Way::Stopped { number: refused };
+    let asked = kind_asked(f, 5, 9, kind);
+    match asked {
+        Asked::Kind(t) => to_listed(b, attribute, t, w, allowed(f)),
+        Asked::Refused(refusal) => Way::Stopped(refusal),
     }
-    to_listed(b, attribute, kind_among(5, 9, kind), w, allowed(f))
 }

@@ -1,7 +1,7 @@
 -- The way through an index that keeps the rules of acceptance: to the one lowest entry that covers a record, or to 17. Assumes nothing.
-use mathlib.Core.Path.{_≡_, refl, sym, ap, _∙_, subst}
+use mathlib.Core.Path.{_≡_, refl, sym, _∙_, subst}
 use mathlib.Core.Logic.{_⊎_, inl, inr}
-use mathlib.Core.Bool.{Bool, true, false, cond, _&&_, true≢false}
+use mathlib.Core.Bool.{Bool, true, false, cond, _&&_}
 use mathlib.Core.List.{List, [], _∷_, _++_}
 use Prim.Native.Nat.{ℕ, zero, suc, _+_, _-_, _≤_}
 use native.Mathlib.Numerals.{add-one}
@@ -9,33 +9,32 @@ use native.Mathlib.Omega.{arith}
 use lib.Dec.{leb}
 use lib.IntN.{ℤ, pos}
 use lib.ListN.{length, length-append}
-use borrow.Author.Tests.{leb-true, le-leb, ne-eqb, eq-eqb}
+use borrow.Author.Tests.{le-leb, ne-eqb, eq-eqb}
 use Rattle.format.specs.Fields.{endOf, isAt, linkAt}
 use Rattle.records.specs.Layout.{headOfIndex, nextAt}
 use Rattle.records.specs.Rules.{typedAt}
 use Rattle.records.specs.Index.{usedAt, vxrRule, noLimit, vvrRule}
-use Rattle.records.specs.Tree.{Slot, slotsFrom, slotsOf, usedEntries, firstAt, lastAt, firstOf, lastOf, namedBy, namedByAll, levelsBelow, flat, namesIndex, lowerSlots, lowest, lowestEntries, entriesUnder}
+use Rattle.records.specs.Tree.{Slot, slotsFrom, slotsOf, usedEntries, firstAt, lastAt, firstOf, lastOf, namedBy, namedByAll, levelsBelow, flat, lowerSlots, lowest, lowestEntries, entriesUnder}
 use Rattle.records.specs.declared.index.Entry.{Entry}
 use Rattle.records.proofs.Ranges.{order-natural, entry-is}
 use Rattle.variables.specs.Vdr.{variableOf}
 use Rattle.walk.specs.Walk.{typeNumber, valuesNumber, lowerNumber}
 use Rattle.walk.specs.Levels.{mostOf}
-use Rattle.lookup.specs.Indexes.{recordAt, scanned, indexMet, afterScan, lastIndex, indexed, lowerMet, lowerScan, afterLower, lowered, lowestOf, valuesMet, valuesOf, valuesBy, recordThere, recordRead, recordNumber, recordWay, levelsTold, levelsOf, levelsBy, levelsWay}
+use Rattle.lookup.specs.Indexes.{scanned, indexMet, afterScan, lastIndex, indexed, lowerMet, lowerScan, afterLower, lowered, lowestOf, valuesMet, valuesOf, valuesBy, recordThere, recordRead, recordNumber, recordWay, levelsTold, levelsOf, levelsBy, levelsWay}
+use Rattle.lookup.specs.declared.refusals.Refusal.{Refusal}
+use Rattle.lookup.specs.declared.refusals.Refusal.the-variants.{NoNumber, Gap}
 use Rattle.lookup.specs.declared.indexes.RecordNumber.the-variants.{There, Missing}
 use Rattle.lookup.specs.declared.indexes.Scan.{Scan}
 use Rattle.lookup.specs.declared.indexes.Scan.the-variants.{Covering, Passed, Broken}
 use Rattle.lookup.specs.declared.indexes.Index.{Index}
 use Rattle.lookup.specs.declared.indexes.Index.the-variants.{Covered, Halted}
-use Rattle.lookup.specs.declared.indexes.Values.{Values}
-use Rattle.lookup.specs.declared.indexes.Values.the-variants.{Record, Refused}
-use Rattle.lookup.specs.declared.indexes.Levels.{Levels}
-use Rattle.lookup.specs.declared.indexes.Levels.the-variants.{Are, Unknown}
 use Rattle.demands.specs.Acceptance.{_∈_, indexOffsets, EntryRight}
-use Rattle.read_theorems.specs.Reading.{CoveredBy, NoneCovers}
+use Rattle.read_theorems.specs.Reading.{CoveredBy}
 use Rattle.format.proofs.Tests.{both}
 use Rattle.format.specs.Numbers.{unless}
 use Rattle.format.proofs.Numbers.{zeros}
 use Rattle.lookup.proofs.Kept.{Lies, lies-lands}
+use Rattle.lookup.proofs.Stops.{Refuses, Lacks}
 use Rattle.variables.proofs.Rule.{VdrParts}
 use Rattle.demands.proofs.Records.{Stands, stands-begins, type-reads, values-read}
 use Rattle.demands.proofs.Lists.{Listed}
@@ -44,7 +43,7 @@ use Rattle.demands.proofs.Nested.{entryIs, Carried, carried, EntryGood, afterEn
 use Rattle.demands.proofs.Splits.{in-left, in-right, in-either, each-in, each-along, listed-reads, offset-in}
 use Rattle.demands.proofs.IndexFacts.{along-rows, row-each, used-named, under-lower, other-type, after-floor, ranged-of, lower-parts, entry-right}
 use Rattle.demands.proofs.Lowest.{Rises, covered-once}
-use Rattle.read_theorems.proofs.Down.{in-flat, out-flat, only, lowest-under}
+use Rattle.read_theorems.proofs.Down.{in-flat, out-flat, only, lowest-under, covers-is, covers-not}
 
 pub stands-lies : (f : List ℕ) (t o : ℕ) → Stands f o → typedAt f o (pos t) ≡ true → Lies f t o
 stands-lies f t o s e = record { placed = s .placed; begins = stands-begins f o s; typed = e; inside = s .inside }
@@ -70,15 +69,6 @@ module _ (f : List ℕ) (r : ℕ) where
   -- no slot covers r
   abbrev pub Free : List Slot → Type 0
   Free ss = (s : Slot) → s ∈ ss → CoveredBy f r s → ⊥
-
-  -- ---- whether an entry covers r
-  covers-is : (s : Slot) → (leb (firstOf f s) r && leb r (lastOf f s)) ≡ true → CoveredBy f r s
-  covers-is s e =
-      let a = both (leb (firstOf f s) r) (leb r (lastOf f s)) e in
-      record { first = leb-true (firstOf f s) r (a .0); last = leb-true r (lastOf f s) (a .1) }
-
-  covers-not : (s : Slot) → (leb (firstOf f s) r && leb r (lastOf f s)) ≡ false → CoveredBy f r s → ⊥
-  covers-not s e c = true≢false (sym (rw (le-leb (firstOf f s) r (c .first), le-leb r (lastOf f s) (c .last))) ∙ e)
 
   none-first : (s : Slot) (ss : List Slot) → (CoveredBy f r s → ⊥) → Free ss → Free (s ∷ ss)
   none-first s ss h n t (inl e) c = h (subst (CoveredBy f r) e c)
@@ -120,9 +110,9 @@ module _ (f : List ℕ) (r : ℕ) where
 
           go : (b : Bool) → (leb (firstOf f here) r && leb r (lastOf f here)) ≡ b → (s : Scan) → ScanOn n next (slotsFrom x (i + 1) m) s
               → ScanOn n c (here ∷ slotsFrom x (i + 1) m) (cond b (Covering (entryIs f here)) s)
-          go true e s a = record { slot = here; member = inl refl; is = refl; covered = covers-is here e }
+          go true e s a = record { slot = here; member = inl refl; is = refl; covered = covers-is f r here e }
           go false e (Covering y) a = record { slot = a .slot; member = inr (a .member); is = a .is; covered = a .covered }
-          go false e (Passed l) a = (a .0, none-first here (slotsFrom x (i + 1) m) (covers-not here e) (a .1))
+          go false e (Passed l) a = (a .0, none-first here (slotsFrom x (i + 1) m) (covers-not f r here e) (a .1))
           go false e Broken a = a
 
       -- their ranges rise, so no two cover r
@@ -139,7 +129,7 @@ module _ (f : List ℕ) (r : ℕ) where
     -- ---- down from an entry: where it ends
     abbrev LowestOn : List Slot → Index → Type 0
     LowestOn ls (Covered e rest) = CoveringIn ls e × (1 ≤ rest)
-    LowestOn ls (Halted m) = (m ≡ 17) × Free ls
+    LowestOn ls (Halted m) = (m ≡ Gap) × Free ls
 
     -- where one under an entry that keeps its rule covers r, so does the entry
     in-range : (n : ℕ) (s t : Slot) → EntryRight f k v n s → t ∈ entriesUnder f n s → CoveredBy f r t → CoveredBy f r s
@@ -153,7 +143,7 @@ module _ (f : List ℕ) (r : ℕ) where
         record { first = omega (arith, h .0, d .first); last = omega (arith, h .1, d .last) }
 
     -- a lower record that stands and keeps its rule can be met
-    lower-met : (x : ℕ) → Stands f x → typedAt f x (pos 6) ≡ true → lowerNumber f x ≡ 0 → lowerMet f x ≡ true
+    pub lower-met : (x : ℕ) → Stands f x → typedAt f x (pos 6) ≡ true → lowerNumber f x ≡ 0 → lowerMet f x ≡ true
     unfolding lowerMet indexMet lowerNumber
     lower-met x s t e =
         let p = zeros (vxrRule f x ∷ unless 11 (isAt f (nextAt x) (pos 0)) ∷ []) e in
@@ -222,28 +212,10 @@ module _ (f : List ℕ) (r : ℕ) where
           go (Passed l) a ih = (refl, free-row n (s ∷ above) (lowerSlots f s) (inner s c) (g .2) (a .1))
           go Broken a ih = absurd a
 
-      -- where one that covers r names an index record without used entries, none of the lowest entries covers r
-      empty-way : (n : ℕ) (above : List Slot) (c : Carried) (s t : Slot) → EntryGood f k v n above c s → t ∈ entriesUnder f n s → CoveredBy f r t
-          → namesIndex f t ≡ true → usedAt f (namedBy f t) ≡ 0
-          → CoveredBy f r s × Free (lowest f n s)
-      empty-way n above c s t g m a e z = (in-range n s t (entry-right f k v vdr n above c s g) m a, free n above c s g m)
-        where
-          free : (n : ℕ) (above : List Slot) (c : Carried) (s : Slot) → EntryGood f k v n above c s → t ∈ entriesUnder f n s → Free (lowest f n s)
-          free zero above c s g m = absurd (true≢false (sym e ∙ (ap (namesIndex f) (only s t m) ∙ g .0)))
-          free (suc n) above c s g (inl q) =
-              rw (subst (λ (s : Slot). namesIndex f s ≡ true) q e, subst (λ (s : Slot). usedAt f (namedBy f s) ≡ 0) q z) (λ u i d. absurd i)
-          free (suc n) above c s (inl g) (inr m) = absurd (rw (g .0) at m)
-          free (suc n) above c s (inr g) (inr m) =
-              let w = out-flat (entriesUnder f n) (lowerSlots f s) t (rw (g .0) at m) in
-              let b = row-each f k v n (s ∷ above) (lowerSlots f s) (inner s c) (g .2) (w .0) (w .1) in
-              let covers = in-range n (w .0) t (entry-right f k v vdr n (s ∷ above) (b .0) (w .0) (b .1)) (w .2) a in
-              rw (g .0)
-              (free-one n (s ∷ above) (lowerSlots f s) (inner s c) (g .2) (w .0) (w .1) covers (free n (s ∷ above) (b .0) (w .0) (b .1) (w .2)))
-
     -- ---- the top chain
     abbrev IndexOn : ℕ → List ℕ → Index → Type 0
     IndexOn left xs (Covered e rest) = CoveringIn (usedEntries f xs) e × (left ≤ rest + length xs)
-    IndexOn left xs (Halted m) = (m ≡ 17) × Free (usedEntries f xs)
+    IndexOn left xs (Halted m) = (m ≡ Gap) × Free (usedEntries f xs)
 
     index-way : (xs bs : List ℕ) (p left : ℕ) → Listed f (chainRules f k v) bs p xs → ((o : ℕ) → o ∈ xs → Stands f o) → length xs ≤ left
         → IndexOn left xs (indexed f r p (chainCarried f k v bs .floor) left)
@@ -294,7 +266,7 @@ module _ (f : List ℕ) where
   named-length [] = refl
   named-length (s ∷ ss) = omega (arith, named-length ss)
 
-  index-length : (xs : List ℕ) → length xs + length (flat (entriesUnder f levelsBelow) (usedEntries f xs)) ≡ length (indexOffsets f xs)
+  pub index-length : (xs : List ℕ) → length xs + length (flat (entriesUnder f levelsBelow) (usedEntries f xs)) ≡ length (indexOffsets f xs)
   index-length [] = refl
   index-length (x ∷ xs) =
       let here = flat (entriesUnder f levelsBelow) (slotsOf f x) in
@@ -306,34 +278,16 @@ module _ (f : List ℕ) where
         flat-join-length (entriesUnder f levelsBelow) (slotsOf f x) (usedEntries f xs),
       )
 
--- ---- what a lookup comes to: a lowest entry that covers the record, and where the record of so many bytes begins; or 16, or 17
-module _ (f : List ℕ) (v : ℕ) (xs : List ℕ) (r : ℤ) where
-  abbrev pub Taken : Type 0
-  Taken = (recordThere f v r ≡ true) × (s : Slot) × (s ∈ lowestEntries f xs) × CoveredBy f (recordRead f v r) s
-
-  pub record Begins (bytes at : ℕ) : Type 0 where
-    pub there : recordThere f v r ≡ true
-    pub slot : Slot
-    pub member : slot ∈ lowestEntries f xs
-    pub covered : CoveredBy f (recordRead f v r) slot
-    pub is : at ≡ recordAt (entryIs f slot) (recordRead f v r) bytes
-
-  abbrev pub Lost : ℕ → Type 0
-  Lost m = ((m ≡ 16) × (recordThere f v r ≡ false)) ⊎ ((m ≡ 17) × (recordThere f v r ≡ true) × NoneCovers f xs (recordRead f v r))
-
-  abbrev pub RecordOn : ℕ → Values → Type 0
-  RecordOn bytes (Record at) = Begins bytes at
-  RecordOn bytes (Refused m) = Lost m
-
-  abbrev pub LevelsOn : Levels → Type 0
-  LevelsOn (Are n) = Taken
-  LevelsOn (Unknown m) = Lost m
+-- ---- why a lookup comes to nothing: 16 or 17
+abbrev pub Lost : List ℕ → ℕ → List ℕ → ℤ → Refusal → Type 0
+Lost f v xs r m =
+    ((m ≡ NoNumber) × (recordThere f v r ≡ false)) ⊎ ((m ≡ Gap) × (recordThere f v r ≡ true) × Free f (recordRead f v r) (lowestEntries f xs))
 
 -- ---- THE WAY TO A RECORD of a variable that keeps the rules of acceptance
 module _ (f : List ℕ) (k v : ℕ) (xs : List ℕ) (vdr : VdrParts f k v) (listed : Listed f (chainRules f k v) [] (headOfIndex v) xs)
     (stands : (o : ℕ) → o ∈ indexOffsets f xs → Stands f o) (r : ℤ)
   where
-    rows : RowGood f k v levelsBelow [] (carried 0 false) (usedEntries f xs)
+    pub rows : RowGood f k v levelsBelow [] (carried 0 false) (usedEntries f xs)
     rows =
         along-rows f k v xs []
         (each-along (λ bs x. RowGood f k v levelsBelow [] (chainCarried f k v bs) (slotsOf f x)) xs
@@ -364,15 +318,6 @@ module _ (f : List ℕ) (k v : ℕ) (xs : List ℕ) (vdr : VdrParts f k v) (list
             (lower-way f (recordRead f v r) k v vdr levelsBelow [] (g .0) s rest (g .1) (λ t i. stands (namedBy f t) (used-named f xs s t (a .member) i)) (a .covered)
             (omega (arith, n, h, index-length f xs, length-flat (entriesUnder f levelsBelow) (usedEntries f xs) s (a .member)))))
 
-    -- an entry of any level that covers the record and names an empty index record
-    pub empty-covers : (top s : Slot) → top ∈ usedEntries f xs → s ∈ entriesUnder f levelsBelow top → CoveredBy f (recordRead f v r) s
-        → namesIndex f s ≡ true → usedAt f (namedBy f s) ≡ 0
-        → NoneCovers f xs (recordRead f v r)
-    empty-covers top s m i c e z =
-        let g = good top m in
-        let w = empty-way f (recordRead f v r) k v vdr levelsBelow [] (g .0) top s (g .1) i c e z in
-        free-one f (recordRead f v r) k v vdr levelsBelow [] (usedEntries f xs) (carried 0 false) rows top m (w .0) (w .1)
-
     -- ---- the values that a lowest entry names can be met
     lowest-good : (n : ℕ) (above : List Slot) (c : Carried) (s t : Slot) → EntryGood f k v n above c s → t ∈ lowest f n s
         → (typeNumber f (namedBy f t) (pos 7) ≡ 0) × (valuesNumber f (variableOf f k v) (entryIs f t) ≡ 0)
@@ -396,40 +341,32 @@ module _ (f : List ℕ) (k v : ℕ) (xs : List ℕ) (vdr : VdrParts f k v) (list
           eq-eqb (vvrRule f (namedBy f t) (lastOf f t - firstOf f t + 1) (variableOf f k v .bytes)) 0 (values-read f k v (entryIs f t) (q .1)),
         )
 
-    pub record-on : (left : ℕ) → length (indexOffsets f xs) ≤ left
-        → RecordOn f v xs r (variableOf f k v .bytes) (recordWay f v (variableOf f k v .bytes) r left)
+    pub record-on : (left : ℕ) → length (indexOffsets f xs) ≤ left → Refuses (Lost f v xs r) (recordWay f v (variableOf f k v .bytes) r left)
     unfolding recordWay recordNumber
     record-on left h = go (recordThere f v r) refl
       where
-        on : recordThere f v r ≡ true → (i : Index) → On i → RecordOn f v xs r (variableOf f k v .bytes) (valuesOf f (recordRead f v r) (variableOf f k v .bytes) i)
+        on : recordThere f v r ≡ true → (i : Index) → On i → Refuses (Lost f v xs r) (valuesOf f (recordRead f v r) (variableOf f k v .bytes) i)
         on e (Halted m) a = inr (a .0, e, a .1)
         on e (Covered y rest) (a, n) =
-            rw (subst (λ (y : Entry). valuesMet f y (variableOf f k v .bytes) rest ≡ true) (sym (a .is)) (values-met (a .slot) rest (a .member) n))
-            (record {
-              there = e;
-              slot = a .slot;
-              member = a .member;
-              covered = a .covered;
-              is = ap (λ (y : Entry). recordAt y (recordRead f v r) (variableOf f k v .bytes)) (a .is);
-            })
+            rw (subst (λ (y : Entry). valuesMet f y (variableOf f k v .bytes) rest ≡ true) (sym (a .is)) (values-met (a .slot) rest (a .member) n)) tt
 
         go : (b : Bool) → recordThere f v r ≡ b
-            → RecordOn f v xs r (variableOf f k v .bytes) (valuesBy f v (variableOf f k v .bytes) left (cond b (There (recordRead f v r)) Missing))
+            → Refuses (Lost f v xs r) (valuesBy f v (variableOf f k v .bytes) left (cond b (There (recordRead f v r)) Missing))
         go true e = on e (lowestOf f (recordRead f v r) (indexed f (recordRead f v r) (headOfIndex v) 0 left)) (lowest-way left h)
         go false e = inl (refl, e)
 
-    pub levels-on : (left : ℕ) → length (indexOffsets f xs) ≤ left → LevelsOn f v xs r (levelsWay f v r left)
+    pub levels-on : (left : ℕ) → length (indexOffsets f xs) ≤ left → Lacks (Lost f v xs r) (levelsWay f v r left)
     unfolding levelsWay recordNumber
     levels-on left h = go (recordThere f v r) refl
       where
-        told : recordThere f v r ≡ true → (top : Entry) (i : Index) → On i → LevelsOn f v xs r (levelsTold f (recordRead f v r) top i)
-        told e top (Covered y rest) (a, n) = (e, a .slot, a .member, a .covered)
+        told : recordThere f v r ≡ true → (top : Entry) (i : Index) → On i → Lacks (Lost f v xs r) (levelsTold f (recordRead f v r) top i)
+        told e top (Covered y rest) a = tt
         told e top (Halted m) a = inr (a .0, e, a .1)
 
-        on : recordThere f v r ≡ true → (i : Index) → On (lowestOf f (recordRead f v r) i) → LevelsOn f v xs r (levelsOf f (recordRead f v r) i)
+        on : recordThere f v r ≡ true → (i : Index) → On (lowestOf f (recordRead f v r) i) → Lacks (Lost f v xs r) (levelsOf f (recordRead f v r) i)
         on e (Covered y rest) a = told e y (lowered levelsBelow f (recordRead f v r) y rest) a
         on e (Halted m) a = inr (a .0, e, a .1)
 
-        go : (b : Bool) → recordThere f v r ≡ b → LevelsOn f v xs r (levelsBy f v left (cond b (There (recordRead f v r)) Missing))
+        go : (b : Bool) → recordThere f v r ≡ b → Lacks (Lost f v xs r) (levelsBy f v left (cond b (There (recordRead f v r)) Missing))
         go true e = on e (indexed f (recordRead f v r) (headOfIndex v) 0 left) (lowest-way left h)
         go false e = inl (refl, e)

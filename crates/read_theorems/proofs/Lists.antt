@@ -11,13 +11,14 @@ use lib.ListN.{length}
 use borrow.Author.Tests.{ne-eqb}
 use Rattle.records.specs.Layout.{nextAt}
 use Rattle.lookup.specs.Lists.{meets, wantedAt, overOf, lastLink, sought}
+use Rattle.lookup.specs.declared.refusals.Refusal.{Refusal}
 use Rattle.lookup.specs.declared.lists.Wanted.{Wanted}
 use Rattle.lookup.specs.declared.lists.Way.{Way}
 use Rattle.lookup.specs.declared.lists.Way.the-variants.{Found, Stopped}
 use Rattle.demands.specs.Acceptance.{_∈_, Each, Linked}
 
 module _ {X : Type 0} (f : List ℕ) (t : ℕ) (w : Wanted) (at : X → ℕ) where
-  -- the record found at o is one of xs and the wanted one; rest more may be met
+  -- the record found at o is one of xs, the wanted one and the first; rest more may be met
   pub record FoundIn (i left : ℕ) (xs : List X) (o rest : ℕ) : Type 0 where
     pub earlier : List X
     pub here : X
@@ -25,10 +26,11 @@ module _ {X : Type 0} (f : List ℕ) (t : ℕ) (w : Wanted) (at : X → ℕ) whe
     pub split : xs ≡ earlier ++ (here ∷ later)
     pub is : o ≡ at here
     pub wanted : wantedAt f w (i + length earlier) o ≡ true
+    pub first : Each earlier (λ before x. wantedAt f w (i + length before) (at x) ≡ false)
     pub spent : left ≡ rest + suc (length earlier)
 
   -- none of xs is the wanted one
-  pub record NoneIn (i : ℕ) (xs : List X) (v : ℕ) : Type 0 where
+  pub record NoneIn (i : ℕ) (xs : List X) (v : Refusal) : Type 0 where
     pub number : v ≡ overOf t
     pub none : Each xs (λ earlier x. wantedAt f w (i + length earlier) (at x) ≡ false)
 
@@ -60,7 +62,7 @@ module _ {X : Type 0} (f : List ℕ) (t : ℕ) (w : Wanted) (at : X → ℕ) whe
       (go (wantedAt f w i (at x)) refl (sought f t w (nextAt (at x)) (suc i) left) (list-way xs (nextAt (at x)) (suc i) left (l .1) (λ y j. h y (inr j)) (omega arith)))
     where
       go : (b : Bool) → wantedAt f w i (at x) ≡ b → (s : Way) → OnList (suc i) left xs s → OnList i (suc left) (x ∷ xs) (cond b (Found (at x) left) s)
-      go true e s a = record { earlier = []; here = x; later = xs; split = refl; is = refl; wanted = rw (add-zero i) e; spent = omega arith }
+      go true e s a = record { earlier = []; here = x; later = xs; split = refl; is = refl; wanted = rw (add-zero i) e; first = λ earlier later y q. absurd (no-split earlier later y q); spent = omega arith }
       go false e (Found o rest) a = record {
         earlier = x ∷ a .earlier;
         here = a .here;
@@ -68,6 +70,7 @@ module _ {X : Type 0} (f : List ℕ) (t : ℕ) (w : Wanted) (at : X → ℕ) whe
         split = ap (λ (l : List X). x ∷ l) (a .split);
         is = a .is;
         wanted = let q : i + suc (length (a .earlier)) ≡ suc i + length (a .earlier) = omega arith in rw q (a .wanted);
+        first = none-more i x (a .earlier) e (a .first);
         spent = omega (arith, a .spent);
       }
       go false e (Stopped v) a = record { number = a .number; none = none-more i x xs e (a .none) }

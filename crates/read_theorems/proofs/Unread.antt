@@ -11,7 +11,8 @@ use Rattle.lookup.specs.Lists.{opened, allowance, variableWay, attributeWay, en
 use Rattle.lookup.specs.declared.lists.Wanted.{Wanted}
 use Rattle.answers.specs.Answers.{valueRead, entryValue, padRead}
 use Rattle.descriptors.specs.Descriptors.{variableField, attributeField, entryField, dimensionSize, variableDimensions, variableSize, variableVariance, variableLevels, variableName, attributeName, fileField}
-use Rattle.read_theorems.specs.Reading.{SameAnswers, PaddingUnread}
+use Rattle.reader.specs.Questions.{Question, askValue, askEntry, askPad, askFile, askDimension, askVariable, askAttribute, askEntryField, askSize, askVariance, askLevels, askVariableName, askAttributeName, answerTo}
+use Rattle.read_theorems.specs.Reading.{PaddingUnread}
 
 module _ (f g : List ℕ) (long : length f ≡ length g) (same : bodyOf f ≡ bodyOf g) where
   opened-same : opened f ≡ opened g
@@ -36,23 +37,21 @@ module _ (f g : List ℕ) (long : length f ≡ length g) (same : bodyOf f ≡ bo
   entry-same a k w = rw (opened-same, same, allowance-same)
 
   -- ---- the answers
-  pub same-answers : SameAnswers f g
+  pub same-answers : (q : Question) → answerTo f q ≡ answerTo g q
   unfolding valueRead entryValue padRead variableField attributeField entryField dimensionSize variableDimensions variableSize variableVariance variableLevels variableName attributeName fileField
-  same-answers = record {
-    value = λ k n r is x. rw (variable-same k n, same);
-    entry = λ b k w x. rw (entry-same b k w, same);
-    pad = λ k n x. rw (variable-same k n, same);
-    ofVariable = λ k n p. rw (variable-same k n, same);
-    ofAttribute = λ n p. rw (attribute-same n, same);
-    ofEntry = λ b k w p. rw (entry-same b k w, same);
-    ofDimension = λ d. rw (opened-same, same);
-    ofSize = λ k n d. rw (variable-same k n, same);
-    ofVariance = λ k n d. rw (variable-same k n, same);
-    ofLevels = λ k n r. rw (variable-same k n, same);
-    variableNamed = λ k n. rw (variable-same k n, same);
-    attributeNamed = λ n. rw (attribute-same n, same);
-    ofFile = λ what. rw (opened-same, long, same-end f g long same, same);
-  }
+  same-answers (askValue k n r is x) = rw (variable-same k n, same)
+  same-answers (askEntry b k w x) = rw (entry-same b k w, same)
+  same-answers (askPad k n x) = rw (variable-same k n, same)
+  same-answers (askFile what) = rw (opened-same, long, same-end f g long same, same)
+  same-answers (askDimension d) = rw (opened-same, same)
+  same-answers (askVariable k n p) = rw (variable-same k n, same)
+  same-answers (askAttribute n p) = rw (attribute-same n, same)
+  same-answers (askEntryField b k w p) = rw (entry-same b k w, same)
+  same-answers (askSize k n d) = rw (variable-same k n, same)
+  same-answers (askVariance k n d) = rw (variable-same k n, same)
+  same-answers (askLevels k n r) = rw (variable-same k n, same)
+  same-answers (askVariableName k n) = rw (variable-same k n, same)
+  same-answers (askAttributeName n) = rw (attribute-same n, same)
 
 -- THE THEOREM
 pub padding-unread : PaddingUnread

@@ -83,6 +83,22 @@ module _ (f : List ℕ) where
   OnVariables t w left vs (Found v rest) = VariableIn t w left vs v rest
   OnVariables t w left vs (Stopped m) = NoneIn f t w (λ d. d .vdr) 0 vs m
 
+  -- of each VDR of a list: its rule, its index, and that the records of that stand in the file
+  pub record Indexed (t : ℕ) (d : ListedVdr) : Type 0 where
+    pub parts : VdrParts f t (d .vdr)
+    pub index : Listed f (chainRules f t (d .vdr)) [] (headOfIndex (d .vdr)) (d .vxrs)
+    pub stands : (o : ℕ) → o ∈ indexOffsets f (d .vxrs) → Stands f o
+
+  pub listed-indexed : (b : Bool) (p : ℕ) (vs : List ListedVdr) → Listed f (varsRules f (cond b 3 8)) [] p vs
+      → ((o : ℕ) → o ∈ variableOffsets f vs → Stands f o) → (d : ListedVdr) → d ∈ vs → Indexed (cond b 3 8) d
+  listed-indexed b p vs l stands d m =
+      let kept = each-kept (varsRules f (cond b 3 8)) p vs l d m in
+      record {
+        parts = var-parts (cond b 3 8) (length (kept .0)) (d .vdr) (kept .1 .1);
+        index = kept .2;
+        stands = λ o j. stands o (below-in (λ v. v .vdr) (λ v. indexOffsets f (v .vxrs)) vs d o m j);
+      }
+
   module _ (b : Bool) (w : Wanted) (p left : ℕ) (vs : List ListedVdr) (l : Listed f (varsRules f (cond b 3 8)) [] p vs)
       (stands : (o : ℕ) → o ∈ variableOffsets f vs → Stands f o) (enough : length (variableOffsets f vs) ≤ left)
     where
@@ -104,12 +120,12 @@ module _ (f : List ℕ) where
           go (Found v rest) a =
               let d = a .here in
               let m = split-in vs (a .earlier) (a .later) d (a .split) in
-              let kept = each-kept (varsRules f (cond b 3 8)) p vs l d m in
+              let kept = listed-indexed b p vs l stands d m in
               record {
                 found = a;
-                parts = subst (VdrParts f (cond b 3 8)) (sym (a .is)) (var-parts (cond b 3 8) (length (kept .0)) (d .vdr) (kept .1 .1));
-                index = subst (λ (v : ℕ). Listed f (chainRules f (cond b 3 8) v) [] (headOfIndex v) (d .vxrs)) (sym (a .is)) (kept .2);
-                stands = λ o j. stands o (below-in (λ v. v .vdr) (λ v. indexOffsets f (v .vxrs)) vs d o m j);
+                parts = subst (VdrParts f (cond b 3 8)) (sym (a .is)) (kept .parts);
+                index = subst (λ (v : ℕ). Listed f (chainRules f (cond b 3 8) v) [] (headOfIndex v) (d .vxrs)) (sym (a .is)) (kept .index);
+                stands = kept .stands;
                 room =
                     omega (
                       arith,

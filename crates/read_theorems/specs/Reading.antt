@@ -1,77 +1,120 @@
--- WHAT THE READER SHOWS: statements about its definitions, of every file, and of every file that the plain run accepts. Sections 2 and 13
--- to 15 of docs/RULES.md. Assumes nothing.
+-- WHAT THE READER ANSWERS of every file, accepted or not. Sections 13 to 16 of docs/RULES.md. Assumes nothing.
 use mathlib.Core.Path.{_≡_}
-use mathlib.Core.Logic.{_≢_, _↔_, _⊎_}
+use mathlib.Core.Logic.{_⊎_}
 use mathlib.Core.Bool.{Bool, true, false, cond, _&&_}
 use mathlib.Core.List.{List, [], _∷_, _++_}
 use Prim.Native.Nat.{ℕ, zero, suc, _+_, _-_, _*_, _≤_, _<_}
 use lib.ListN.{length}
+use lib.Dec.{eqb}
 use lib.IntN.{ℤ, pos}
-use lib.Signed.{leZ, ltZ}
+use lib.Signed.{leZ}
 use Rattle.format.specs.Bytes.{OfBytes}
-use Rattle.format.specs.Fields.{fieldAt, eqZ, isAt, atLeast, natAt, natOr, linkAt, bitAt}
-use Rattle.format.specs.Types.{typeOf}
+use Rattle.format.specs.Fields.{fieldAt, natAt, natOr, linkAt, bitAt}
+use Rattle.format.specs.Types.{signed, typeOf}
 use Rattle.format.specs.Encodings.{encodingOf}
-use Rattle.values.specs.Values.{isVax, reservedFloat}
+use Rattle.values.specs.Values.{rawAt, isVax, reservedFloat}
 use Rattle.values.specs.Agreement.{Agrees, VaxGiven}
 use Rattle.values.specs.declared.value.Answer.{Answer}
 use Rattle.values.specs.declared.value.Decoded.the-variants.{Given}
-use Rattle.records.specs.Layout.{nextAt, nrVarsAt, numAttrAt, nzVarsAt, entryTypeAt, entryNumAt, entryElementsAt, entryValueAt, dataTypeAt, maxRecAt, headOfIndex, varFlagsAt, elementsAt, valuesAt}
+use Rattle.records.specs.Layout.{nextAt, encodingAt, nrVarsAt, numAttrAt, nzVarsAt, rNumDimsAt, rDimSizesAt, attrNameAt, entryTypeAt, entryElementsAt, dataTypeAt, headOfIndex, varFlagsAt, elementsAt, varNameAt}
 use Rattle.records.specs.Rules.{sizeAt, typedAt}
-use Rattle.records.specs.Opening.{gdrAt, bodyOf, Unpadded}
-use Rattle.records.specs.Attributes.{elementSize}
-use Rattle.records.specs.Index.{usedAt}
-use Rattle.records.specs.Tree.{Slot, usedEntries, firstOf, lastOf, namedBy, levelsBelow, namesIndex, lowerSlots, lowest, lowestEntries, entriesUnder}
-use Rattle.variables.specs.Vdr.{layoutOf, valueBytes, recordBytes, variableOf}
-use Rattle.variables.specs.Place.{elementPlace, placed}
-use Rattle.states.specs.Stages.{answerOf}
-use Rattle.demands.specs.Acceptance.{_∈_, Each, Linked, IndexRight}
-use Rattle.demands.specs.Demands.{endStage}
-use Rattle.lookup.specs.Lists.{meets, wantedAt, headOfList, headOfEntries, ofKinds, kindAmong, variableWay, entryWay}
-use Rattle.lookup.specs.Indexes.{recordVaries, recordThere, recordRead, indexMet, lowerMet, recordWay}
+use Rattle.records.specs.Opening.{gdrAt, rNumDims, bodyOf, Unpadded}
+use Rattle.records.specs.Attributes.{adrRight, elementSize, aedrRight}
+use Rattle.records.specs.Index.{vxrRight, noLimit}
+use Rattle.records.specs.Tree.{Slot, usedEntries, firstOf, lastOf, namedBy, levelsBelow, namesIndex, lowerSlots, lowest}
+use Rattle.variables.specs.Vdr.{vdrFields, numDimsAt, countRight, layoutOf, sizeExact, dimensionsRight, recordBytes}
+use Rattle.variables.specs.Place.{indexRight, placed}
+use Rattle.variables.specs.declared.vdr.Layout.{Layout}
+use Rattle.demands.specs.Acceptance.{_∈_, RangeRight}
+use Rattle.lookup.specs.Entries.{records}
+use Rattle.lookup.specs.Lists.{wantedAt, headOfList, headOfEntries, ofKinds, kindAmong}
+use Rattle.lookup.specs.Indexes.{recordThere, recordRead}
+use Rattle.lookup.specs.declared.refusals.Refusal.the-variants.{Breach, NoSuch, NoNumber, Gap, OutOfRange, Operand}
 use Rattle.lookup.specs.declared.lists.Wanted.{Wanted}
-use Rattle.lookup.specs.declared.lists.Wanted.the-variants.{Number}
-use Rattle.lookup.specs.declared.lists.Way.{Way}
-use Rattle.lookup.specs.declared.lists.Way.the-variants.{Found, Stopped}
-use Rattle.lookup.specs.declared.indexes.Values.{Values}
-use Rattle.lookup.specs.declared.indexes.Values.the-variants.{Record, Refused as NoRecord}
-use Rattle.answers.specs.Answers.{numberOf, fileEncoding, rowMajority, elementThere, elementAt, elementOf, valueRead, entryValue, entryRead, padRead}
-use Rattle.answers.specs.declared.Read.{Read}
-use Rattle.answers.specs.declared.Read.the-variants.{Value, Refused}
-use Rattle.descriptors.specs.Descriptors.{fieldNumber, nameNumber, variableField, attributeField, entryField, dimensionSize, variableSize, variableVariance, variableLevels, variableName, attributeName, fileField}
-use Rattle.descriptors.specs.declared.Field.{Field}
-use Rattle.descriptors.specs.declared.Field.the-variants.{Is, Refused as NoField}
+use Rattle.answers.specs.Offsets.{rowMajority, valueAt, entryAt, padAt}
+use Rattle.answers.specs.Answers.{fileEncoding, elementThere, elementOf}
+use Rattle.descriptors.specs.Descriptors.{isShown, untilNul}
+use Rattle.reader.specs.Questions.{Question, askValue, askEntry, askPad, askFile, askDimension, askVariable, askAttribute, askEntryField, askSize, askVariance, askLevels, askVariableName, askAttributeName, Reply, Value, Field, Name, Refused, answerTo}
 
--- the plain run over the file f accepts, from fresh, with some marks at least as long
-abbrev pub PlainAccepts : List ℕ → Type 0
-PlainAccepts f = (m : List ℕ) × (length f ≤ length m) × (answerOf (endStage f m) ≡ pos 0)
-
--- ---- THE VALUE SHOWN, of every file, accepted or not
-
--- 6.4: "the sweep, links and indexes end at eof". What is shown is said of the bytes f before the end of a file, `bodyOf` of it, and what a
--- call answers of the file
+-- 6.4: "the sweep, links and indexes end at eof". What is found is said of the bytes f before the end of a file, `bodyOf` of it
 
 -- 13.2: "the list from its head to the wanted place": the n-th record, from 0, of the list whose head link stands at p
 abbrev pub nthRecord : List ℕ → ℕ → ℕ → ℕ
 nthRecord f p zero = linkAt f p
 nthRecord f p (suc n) = nthRecord f (nextAt (linkAt f p)) n
 
+-- ---- A RECORD THAT IS MET, in the terms of the rules of acceptance: crates/demands/specs/Acceptance.antt
+
+-- a record of type t lies at o; 13.4: "lie inside the file, each link land at 8 or above on the right type"
+pub record Lands (f : List ℕ) (t o : ℕ) : Type 0 where
+  pub start : 8 ≤ o
+  pub inside : o + sizeAt f o ≤ length f
+  pub typed : typedAt f o (pos t) ≡ true
+
+-- the rule of the VDR of kind k at o
+pub record VdrKept (f : List ℕ) (k o : ℕ) : Type 0 where
+  -- 13.4: "Flags bit 2 set is a breach"
+  pub carried : bitAt f (varFlagsAt o) 4 ≡ false
+  -- 5.9: "A data type of 3.6, MaxRec -1 or more, flags with bits 3 to 31 clear, sRecords 0 to 2, elements 1 or more, and exactly 1 unless
+  -- the type is 51 or 52"
+  pub fields : vdrFields f o ≡ true
+  -- 5.10: "in the zVDR or, of an rVDR, in the GDR, is 0 to 10"
+  pub count : countRight f (numDimsAt f k o) ≡ true
+  -- 5.12: "comes last if bit 1 is set. Size is exact"
+  pub exact : sizeExact f o (layoutOf f k o) ≡ true
+  -- 5.11: "Each dimension's size is 1 or more .. a variance is -1 (true) or 0 (false)"
+  pub dimensions : dimensionsRight f (layoutOf f k o) ≡ true
+  -- 5.13: "Above 2,147,483,647 the VDR breaks its rule"
+  pub bytes : recordBytes f o (layoutOf f k o) ≤ 2147483647
+
+-- 13.4: "Each record met must meet its rule (section 5)": the record of type t at o lies there and keeps the rule of its type
+pub record Kept (f : List ℕ) (t o : ℕ) : Type 0 where
+  pub lands : Lands f t o
+  pub vdr : (t ≡ 3) ⊎ (t ≡ 8) → VdrKept f t o
+  -- 5.6: "Size is 116, scope is 1 or 2"
+  pub adr : t ≡ 4 → adrRight f o ≡ true
+  -- 5.7: "A data type of 3.6, entry number 0 or more, elements 1 or more .. Size is 48 + elements × element size"
+  pub aedr : (t ≡ 5) ⊎ (t ≡ 9) → aedrRight f o ≡ true
+  -- 5.16: "Used is 0 to entries, size is 20 + 12 × entries"
+  pub vxr : t ≡ 6 → vxrRight f o ≡ true
+
 -- the record of type t at o was met as the n-th of the list whose head link stands at p
 pub record Met (f : List ℕ) (t p n o : ℕ) : Type 0 where
   pub place : nthRecord f p n ≡ o
-  -- 13.4: "Each record met must meet its rule .. and lie inside the file, each link land at 8 or above on the right type"
-  pub rules : (h : ℕ) → h ≤ n → meets f t (nthRecord f p h) ≡ true
+  -- 13.4: "also in records passed over"
+  pub rules : (h : ℕ) → h ≤ n → Kept f t (nthRecord f p h)
 
 -- 13.7: "The index entry whose First..Last covers it"
 pub record CoveredBy (f : List ℕ) (r : ℕ) (s : Slot) : Type 0 where
   pub first : firstOf f s ≤ r
   pub last : r ≤ lastOf f s
 
--- a way down an index, one entry a level: each entry but the last names the lower record of which the next is a used entry, the last
--- names none
-abbrev pub WayDown : List ℕ → Slot → List Slot → Type 0
-WayDown f s [] = namesIndex f s ≡ false
-WayDown f s (t ∷ ts) = (namesIndex f s ≡ true) × (t ∈ lowerSlots f s) × WayDown f t ts
+-- 13.7: "Index entries rise as in the check (8.8)": each range of ss begins at floor or above the Last before it, and ends at most or below
+abbrev pub Rise : List ℕ → ℕ → ℕ → List Slot → Type 0
+Rise f floor most [] = Unit {0}
+Rise f floor most (s ∷ ss) = RangeRight f s × (floor ≤ firstOf f s) × (lastOf f s ≤ most) × Rise f (suc (lastOf f s)) most ss
+
+-- s is the first of ss that covers r, and the ranges up to its own rise; 13.7: "entries after the covering one are not judged"
+pub record FirstCovering (f : List ℕ) (r floor most : ℕ) (ss : List Slot) (s : Slot) : Type 0 where
+  pub earlier : List Slot
+  pub later : List Slot
+  pub split : ss ≡ earlier ++ (s ∷ later)
+  pub rise : Rise f floor most (earlier ++ (s ∷ []))
+  pub none : (t : Slot) → t ∈ earlier → CoveredBy f r t → ⊥
+  pub covered : CoveredBy f r s
+
+-- 8.9: "one lower index record (6)": the entry s names one, which is met
+pub record LowerMet (f : List ℕ) (s : Slot) : Type 0 where
+  pub named : namesIndex f s ≡ true
+  pub rules : Kept f 6 (namedBy f s)
+  -- 8.10: "A lower record has next 0"
+  pub alone : linkAt f (nextAt (namedBy f s)) ≡ 0
+
+-- 13.9: "A lookup goes down level by level": from the entry s, one entry a level, each but the last naming a lower record, the last naming
+-- none; 8.11: "ranges rise within the naming entry's"
+abbrev pub WayDown : List ℕ → ℕ → Slot → List Slot → Type 0
+WayDown f r s [] = namesIndex f s ≡ false
+WayDown f r s (t ∷ ts) = LowerMet f s × FirstCovering f r (firstOf f s) (lastOf f s) (lowerSlots f s) t × WayDown f r t ts
 
 abbrev pub lastEntry : Slot → List Slot → Slot
 lastEntry s [] = s
@@ -79,20 +122,15 @@ lastEntry s (t ∷ ts) = lastEntry t ts
 
 -- the way through the index of the VDR at v to the lowest entry that covers record r
 pub record IndexWay (f : List ℕ) (v r : ℕ) : Type 0 where
-  -- 13.2: "the index chain to the covering entry": entry `top .entry` of the VXR `top .vxr`, a used one, and the VXR one of the chain
+  -- 13.2: "the index chain to the covering entry": how many VXRs of the chain are met, and the first of their used entries that covers r
+  pub many : ℕ
+  pub rules : (x : ℕ) → x ∈ records f (headOfIndex v) many → Kept f 6 x
   pub top : Slot
-  pub place : ℕ
-  pub chained : nthRecord f (headOfIndex v) place ≡ top .vxr
-  pub rules : (h : ℕ) → h ≤ place → indexMet f (nthRecord f (headOfIndex v) h) ≡ true
-  pub used : top .entry < usedAt f (top .vxr)
-  -- 13.9: "A lookup goes down level by level": "carried to eight, top included" (8.9), each by a lower record that keeps its rule and has
-  -- no next
+  pub first : FirstCovering f r 0 noLimit (usedEntries f (records f (headOfIndex v) many)) top
+  -- and down from it: "carried to eight, top included" (8.9)
   pub below : List Slot
-  pub down : WayDown f top below
+  pub down : WayDown f r top below
   pub few : length below ≤ levelsBelow
-  pub lower : (s : Slot) → s ∈ below → lowerMet f (s .vxr) ≡ true
-  -- each of its entries covers the record
-  pub covered : (s : Slot) → s ∈ (top ∷ below) → CoveredBy f r s
 
 -- ---- AN ELEMENT: its offset and its decoding, by the offset t of its data type
 
@@ -107,369 +145,182 @@ reserved f at t = reservedFloat f at (typeOf (natAt f t) .kind) (encodingOf (fil
 pub record ElementShown (f : List ℕ) (at t : ℕ) (a : Answer) : Type 0 where
   -- 14.6: "With a value comes the file offset it was read from"
   pub offset : a .offset ≡ at
-  -- what data type and encoding make of the bytes there; 14.5: "Floats keep their bits", but for VAX floats
+  -- what data type and encoding make of the bytes there
   pub decoded : elementOf f at t ≡ Given a
   -- the bits are those of the value, where the numbers of f are bytes, as those of every file are
   pub bits : OfBytes f → Agrees (a .value) (a .bits)
   -- 15.5: "The answer is a double"
   pub vax : vaxFloat f t ≡ true → VaxGiven f at (typeOf (natAt f t) .kind) (encodingOf (fileEncoding f) .float) a
-
--- where layout and majority put element x of the value at the indices `is`: in the record that begins at o, of the VDR at v, of kind k
-abbrev pub inRecordAt : List ℕ → ℕ → ℕ → ℕ → List ℤ → ℤ → ℕ
-inRecordAt f k v o is x = elementAt f (o + elementPlace f (layoutOf f k v) (rowMajority f) is * valueBytes f v) (dataTypeAt v) x
-
--- in record r, which the lowest entry s covers; 4.11: "the values of its records, one after the other, from 8 on"
-abbrev pub valueAt : List ℕ → ℕ → ℕ → Slot → ℕ → List ℤ → ℤ → ℕ
-valueAt f k v s r is x = inRecordAt f k v (valuesAt (namedBy f s) + (r - firstOf f s) * recordBytes f v (layoutOf f k v)) is x
-
--- 4.7: "data type 16 .. elements 24 .. value 48": element x of the entry at e
-abbrev pub entryAt : List ℕ → ℕ → ℤ → ℕ
-entryAt f e x = elementAt f (entryValueAt e) (entryTypeAt e) x
-
--- 4.9: "A pad value comes last, if bit 1 is set": it ends with the VDR at v
-abbrev pub padAt : List ℕ → ℕ → ℤ → ℕ
-padAt f v x = elementAt f (v + sizeAt f v - valueBytes f v) (dataTypeAt v) x
+  -- any other value but a signed one has the bits that stand in the file, a NaN too; 14.5: "Floats keep their bits"
+  pub stored : vaxFloat f t ≡ false → eqb (typeOf (natAt f t) .kind) signed ≡ false
+      → a .bits ≡ rawAt f at (elementSize f t) (encodingOf (fileEncoding f) .order)
 
 -- n bytes from an offset lie in the record at o, behind its first h bytes
 pub record LiesIn (f : List ℕ) (o h offset n : ℕ) : Type 0 where
   pub begins : o + h ≤ offset
   pub ends : offset + n ≤ o + sizeAt f o
 
--- what is shown for element x of the value at the indices `is` in record r of the variable of kind k and number n
-pub record ValueShown (f : List ℕ) (k n r : ℤ) (is : List ℤ) (x : ℤ) (a : Answer) : Type 0 where
-  -- 13.5: "kinds are record types 3, 8"; "a number of a variable or attribute below 0, is 15"
+-- ---- WHAT A LOOKUP FINDS
+
+-- the VDR of kind k and number n
+pub record VariableFound (f : List ℕ) (k n : ℤ) (vdr : ℕ) : Type 0 where
+  -- 13.5: "Kinds are record types 3, 8"; "a number of a variable or attribute below 0, is 15"
   pub kind : ofKinds 3 8 k ≡ true
   pub number : leZ (pos 0) n ≡ true
-  -- the VDR, of that kind and number
-  pub vdr : ℕ
   pub variable : Met f (kindAmong 3 8 k) (headOfList f (kindAmong 3 8 k)) (natOr 0 n) vdr
-  -- 13.6: "A record number from 0 to MaxRec is looked up; with record variance clear any number from 0 reads record 0"
-  pub there : recordThere f vdr r ≡ true
-  -- the way through the index, and the lowest entry that it comes to
-  pub way : IndexWay f vdr (recordRead f vdr r)
-  pub slot : Slot
-  pub last : lastEntry (way .top) (way .below) ≡ slot
-  pub isLowest : slot ∈ lowest f levelsBelow (way .top)
-  pub covered : CoveredBy f (recordRead f vdr r) slot
-  -- 13.2: "then the VVR"; 5.17: "Size is 8 + (Last - First + 1) × record bytes"
-  pub typed : typedAt f (namedBy f slot) (pos 7) ≡ true
-  pub size : sizeAt f (namedBy f slot) ≡ 8 + (lastOf f slot - firstOf f slot + 1) * recordBytes f vdr (layoutOf f (kindAmong 3 8 k) vdr)
-  -- 14.2: "dimension index or element out of range, or wrong number of indices" is 18
-  pub indices : placed f (layoutOf f (kindAmong 3 8 k) vdr) is ≡ true
-  pub element : elementThere f (elementsAt vdr) x ≡ true
-  pub inside : LiesIn f (namedBy f slot) 8 (valueAt f (kindAmong 3 8 k) vdr slot (recordRead f vdr r) is x) (elementSize f (dataTypeAt vdr))
-  pub shown : ElementShown f (valueAt f (kindAmong 3 8 k) vdr slot (recordRead f vdr r) is x) (dataTypeAt vdr) a
 
--- what is shown for element x of the entry that is wanted, by its number or its place, of kind k, of attribute b
-pub record EntryShown (f : List ℕ) (b k : ℤ) (w : Wanted) (x : ℤ) (a : Answer) : Type 0 where
-  -- 13.5: "kinds are record types .. 5, 9"; "a number of a variable or attribute below 0, is 15"
+-- the ADR of number n
+pub record AttributeFound (f : List ℕ) (n : ℤ) (adr : ℕ) : Type 0 where
+  pub number : leZ (pos 0) n ≡ true
+  pub attribute : Met f 4 (headOfList f 4) (natOr 0 n) adr
+
+-- the entry that is wanted, by its number or its place, of kind k, of attribute b
+pub record EntryFound (f : List ℕ) (b k : ℤ) (w : Wanted) (aedr : ℕ) : Type 0 where
+  -- 13.5: "Kinds are record types .. 5, 9"
   pub kind : ofKinds 5 9 k ≡ true
-  pub number : leZ (pos 0) b ≡ true
   pub adr : ℕ
-  pub attribute : Met f 4 (headOfList f 4) (natOr 0 b) adr
+  pub attribute : AttributeFound f b adr
   -- 13.2: "for an entry, the ADR's list to the first of that number": the entry is a wanted one, none before it is
-  pub aedr : ℕ
   pub place : ℕ
   pub entry : Met f (kindAmong 5 9 k) (headOfEntries adr (kindAmong 5 9 k)) place aedr
   pub first : wantedAt f w place aedr ≡ true
   pub earlier : (h : ℕ) → h < place → wantedAt f w h (nthRecord f (headOfEntries adr (kindAmong 5 9 k)) h) ≡ false
-  pub element : elementThere f (entryElementsAt aedr) x ≡ true
-  pub inside : LiesIn f aedr 48 (entryAt f aedr x) (elementSize f (entryTypeAt aedr))
-  pub shown : ElementShown f (entryAt f aedr x) (entryTypeAt aedr) a
 
--- what is shown for element x of the pad value of the variable of kind k and number n
-pub record PadShown (f : List ℕ) (k n x : ℤ) (a : Answer) : Type 0 where
-  pub kind : ofKinds 3 8 k ≡ true
-  pub number : leZ (pos 0) n ≡ true
-  pub vdr : ℕ
-  pub variable : Met f (kindAmong 3 8 k) (headOfList f (kindAmong 3 8 k)) (natOr 0 n) vdr
-  pub pad : bitAt f (varFlagsAt vdr) 2 ≡ true
-  pub element : elementThere f (elementsAt vdr) x ≡ true
-  pub inside : LiesIn f vdr 128 (padAt f vdr x) (elementSize f (dataTypeAt vdr))
-  pub shown : ElementShown f (padAt f vdr x) (dataTypeAt vdr) a
-
--- what is shown as the number of levels that the index of the variable of kind k and number n has on the way to record r
-pub record LevelsShown (f : List ℕ) (k n r : ℤ) (levels : ℤ) : Type 0 where
-  pub kind : ofKinds 3 8 k ≡ true
-  pub number : leZ (pos 0) n ≡ true
-  pub vdr : ℕ
-  pub variable : Met f (kindAmong 3 8 k) (headOfList f (kindAmong 3 8 k)) (natOr 0 n) vdr
+-- the way through its index to record r
+pub record IndexFound (f : List ℕ) (k n r : ℤ) (vdr : ℕ) : Type 0 where
+  pub variable : VariableFound f k n vdr
+  -- 13.6: "A record number from 0 to MaxRec is looked up; with record variance clear any number from 0 reads record 0"
   pub there : recordThere f vdr r ≡ true
-  -- one entry a level
   pub way : IndexWay f vdr (recordRead f vdr r)
-  pub counted : levels ≡ pos (length (way .top ∷ way .below))
 
--- every value given is the one shown so, and every number of levels
-pub record ShowsRight (f : List ℕ) : Type 0 where
-  pub value : (k n r : ℤ) (is : List ℤ) (x : ℤ) (a : Answer) → valueRead f k n r is x ≡ Value a → ValueShown (bodyOf f) k n r is x a
-  pub entry : (b k : ℤ) (w : Wanted) (x : ℤ) (a : Answer) → entryValue f b k w x ≡ Value a → EntryShown (bodyOf f) b k w x a
-  pub pad : (k n x : ℤ) (a : Answer) → padRead f k n x ≡ Value a → PadShown (bodyOf f) k n x a
-  pub levels : (k n r x : ℤ) → variableLevels f k n r ≡ Is x → LevelsShown (bodyOf f) k n r x
+-- and the values that the lowest entry on it names
+pub record RecordFound (f : List ℕ) (k n r : ℤ) (vdr : ℕ) (slot : Slot) : Type 0 where
+  pub index : IndexFound f k n r vdr
+  pub last : lastEntry (index .way .top) (index .way .below) ≡ slot
+  pub isLowest : slot ∈ lowest f levelsBelow (index .way .top)
+  pub covered : CoveredBy f (recordRead f vdr r) slot
+  -- 13.2: "then the VVR"; 5.17: "Size is 8 + (Last - First + 1) × record bytes"
+  pub lands : Lands f 7 (namedBy f slot)
+  pub size : sizeAt f (namedBy f slot) ≡ 8 + (lastOf f slot - firstOf f slot + 1) * recordBytes f vdr (layoutOf f (kindAmong 3 8 k) vdr)
 
-abbrev pub ValuesShown : Type 0
-ValuesShown = (f : List ℕ) → ShowsRight f
-
--- ---- NEVER 20: "On an accepted file the reader never gives 20" (13.11)
-
-pub record NeverTwenty (f : List ℕ) : Type 0 where
-  pub value : (k n r : ℤ) (is : List ℤ) (x : ℤ) → numberOf (valueRead f k n r is x) ≢ 20
-  pub entry : (b k : ℤ) (w : Wanted) (x : ℤ) → numberOf (entryValue f b k w x) ≢ 20
-  pub pad : (k n x : ℤ) → numberOf (padRead f k n x) ≢ 20
-  pub ofVariable : (k n : ℤ) (p : ℕ) → fieldNumber (variableField f k n p) ≢ 20
-  pub ofAttribute : (n : ℤ) (p : ℕ) → fieldNumber (attributeField f n p) ≢ 20
-  pub ofEntry : (b k : ℤ) (w : Wanted) (p : ℕ) → fieldNumber (entryField f b k w p) ≢ 20
-  pub ofDimension : (d : ℤ) → fieldNumber (dimensionSize f d) ≢ 20
-  pub ofSize : (k n d : ℤ) → fieldNumber (variableSize f k n d) ≢ 20
-  pub ofVariance : (k n d : ℤ) → fieldNumber (variableVariance f k n d) ≢ 20
-  pub ofLevels : (k n r : ℤ) → fieldNumber (variableLevels f k n r) ≢ 20
-  pub variableNamed : (k n : ℤ) → nameNumber (variableName f k n) ≢ 20
-  pub attributeNamed : (n : ℤ) → nameNumber (attributeName f n) ≢ 20
-  pub ofFile : (what : ℕ) → fieldNumber (fileField f what) ≢ 20
-
-abbrev pub Never20 : Type 0
-Never20 = (f : List ℕ) → PlainAccepts f → NeverTwenty f
-
--- ---- WHAT IS THERE, in an accepted file
-
--- a place from 0 on, below the count that stands at p
-abbrev pub placeThere : List ℕ → ℕ → ℤ → Bool
-placeThere f p n = leZ (pos 0) n && ltZ n (fieldAt f p)
-
--- 13.5: "kinds are record types 3, 8"; 4.5: "NrVars 24 .. NzVars 40"
-abbrev pub variableThere : List ℕ → ℤ → ℤ → Bool
-variableThere f k n = ofKinds 3 8 k && placeThere f (cond (eqZ k (pos 3)) (nrVarsAt (gdrAt f)) (nzVarsAt (gdrAt f))) n
-
--- 13.5: "kinds are record types .. 5, 9"; 4.5: "NumAttr 28"
-abbrev pub attributeThere : List ℕ → ℤ → ℤ → Bool
-attributeThere f b k = ofKinds 5 9 k && placeThere f (numAttrAt (gdrAt f)) b
-
--- a pad value, and an element of it that is there
-abbrev pub padRight : List ℕ → ℕ → ℤ → Bool
-padRight f v x = bitAt f (varFlagsAt v) 2 && elementThere f (elementsAt v) x
+-- ---- WHAT IS SAID of what was found
 
 -- as many indices as dimensions, each right, and an element that is there
 abbrev pub questionRight : List ℕ → ℕ → ℕ → List ℤ → ℤ → Bool
 questionRight f t v is x = placed f (layoutOf f t v) is && elementThere f (elementsAt v) x
 
--- ---- COVERED ONCE, and every number exactly where it is due
+-- a pad value, and an element of it that is there
+abbrev pub padRight : List ℕ → ℕ → ℤ → Bool
+padRight f v x = bitAt f (varFlagsAt v) 2 && elementThere f (elementsAt v) x
 
--- none of the lowest entries of the index vxrs covers r
-abbrev pub NoneCovers : List ℕ → List ℕ → ℕ → Type 0
-NoneCovers f vxrs r = (s : Slot) → s ∈ lowestEntries f vxrs → CoveredBy f r s → ⊥
+-- an element is asked for at an offset, of the data type at t, in the record at o behind its first h bytes; the question is right or not
+pub record Asked : Type 0 where
+  pub right : Bool
+  pub at : ℕ
+  pub type : ℕ
+  pub record-at : ℕ
+  pub behind : ℕ
 
--- in the bytes b before the end of the file f the VDR at v, of kind k and number n, has the index vxrs: the number that comes back, for
--- every record, indices and element
-pub record NumbersExact (f b : List ℕ) (k n : ℤ) (v : ℕ) (vxrs : List ℕ) : Type 0 where
-  -- 13.6: "A record number from 0 to MaxRec is looked up": any other is 16
-  pub missing : (r : ℤ) (is : List ℤ) (x : ℤ) → (numberOf (valueRead f k n r is x) ≡ 16) ↔ (recordThere b v r ≡ false)
-  -- 13.7: "The index entry whose First..Last covers it is used, or 17 exactly if no used entry does"; 13.10: "17 is over the lowest
-  -- entries"
-  pub gap : (r : ℤ) → recordThere b v r ≡ true → (is : List ℤ) (x : ℤ)
-      → (numberOf (valueRead f k n r is x) ≡ 17) ↔ NoneCovers b vxrs (recordRead b v r)
-  -- 13.9: "a lower record that ends without covering is 17", so an empty one is: where an entry of any level covers the record and names
-  -- one
-  pub empty : (r : ℤ) → recordThere b v r ≡ true → (top s : Slot) → top ∈ usedEntries b vxrs → s ∈ entriesUnder b levelsBelow top
-      → CoveredBy b (recordRead b v r) s → namesIndex b s ≡ true → usedAt b (namedBy b s) ≡ 0 → (is : List ℤ) (x : ℤ)
-      → numberOf (valueRead f k n r is x) ≡ 17
-  -- 18 by 14.2: "dimension index or element out of range, or wrong number of indices"
-  pub wrong : (r : ℤ) → recordThere b v r ≡ true → (s : Slot) → s ∈ lowestEntries b vxrs → CoveredBy b (recordRead b v r) s → (is : List ℤ) (x : ℤ)
-      → (numberOf (valueRead f k n r is x) ≡ 18) ↔ (questionRight b (kindAmong 3 8 k) v is x ≡ false)
-  -- 15.4: "it is the reserved operand, refused with 22"
-  pub operand : (r : ℤ) → recordThere b v r ≡ true → (s : Slot) → s ∈ lowestEntries b vxrs → CoveredBy b (recordRead b v r) s → (is : List ℤ) (x : ℤ)
-      → (numberOf (valueRead f k n r is x) ≡ 22)
-      ↔ ((questionRight b (kindAmong 3 8 k) v is x && reserved b (valueAt b (kindAmong 3 8 k) v s (recordRead b v r) is x) (dataTypeAt v)) ≡ true)
-  -- 16 and 17 of the number of levels
-  pub noLevels : (r : ℤ) → (fieldNumber (variableLevels f k n r) ≡ 16) ↔ (recordThere b v r ≡ false)
-  pub gapLevels : (r : ℤ) → recordThere b v r ≡ true → (fieldNumber (variableLevels f k n r) ≡ 17) ↔ NoneCovers b vxrs (recordRead b v r)
+-- the value, if the question is right; 18 by 14.2: "dimension index or element out of range, or wrong number of indices"; 22 by 15.4: "the
+-- reserved operand"
+pub record ValueSaid (f : List ℕ) (q : Asked) (a : Answer) : Type 0 where
+  pub right : q .right ≡ true
+  pub inside : LiesIn f (q .record-at) (q .behind) (q .at) (elementSize f (q .type))
+  pub shown : ElementShown f (q .at) (q .type) a
 
--- its index, in those bytes
-pub record CoversOnce (f b : List ℕ) (k n : ℤ) (v : ℕ) : Type 0 where
-  -- its top chain, which keeps the rules of acceptance
-  pub vxrs : List ℕ
-  pub index : IndexRight b (kindAmong 3 8 k) v vxrs
-  -- no two of its lowest entries cover the same record number
-  pub once : (r : ℕ) (s t : Slot) → s ∈ lowestEntries b vxrs → t ∈ lowestEntries b vxrs → CoveredBy b r s → CoveredBy b r t → s ≡ t
-  pub numbers : NumbersExact f b k n v vxrs
+abbrev pub ElementSaid : List ℕ → Asked → Reply → Type 0
+ElementSaid f q (Value a) = ValueSaid f q a
+ElementSaid f q (Field x) = ⊥
+ElementSaid f q (Name o n) = ⊥
+ElementSaid f q (Refused Breach) = ⊥
+ElementSaid f q (Refused NoSuch) = ⊥
+ElementSaid f q (Refused NoNumber) = ⊥
+ElementSaid f q (Refused Gap) = ⊥
+ElementSaid f q (Refused OutOfRange) = q .right ≡ false
+ElementSaid f q (Refused Operand) = (q .right ≡ true) × (reserved f (q .at) (q .type) ≡ true)
 
-abbrev pub CoveredOnce : Type 0
-CoveredOnce = (f : List ℕ) → PlainAccepts f → (k n : ℤ) (v left : ℕ) → variableWay f k n ≡ Found v left → CoversOnce f (bodyOf f) k n v
+abbrev pub valueAsked : List ℕ → ℕ → ℕ → Slot → ℕ → List ℤ → ℤ → Asked
+valueAsked f t v s r is x =
+    record { right = questionRight f t v is x; at = valueAt f t v s r is x; type = dataTypeAt v; record-at = namedBy f s; behind = 8 }
 
--- 15 by 2.1: "no such variable or attribute"
-pub record NoSuch (f : List ℕ) : Type 0 where
-  pub value : (k n r : ℤ) (is : List ℤ) (x : ℤ) → (numberOf (valueRead f k n r is x) ≡ 15) ↔ (variableThere (bodyOf f) k n ≡ false)
-  pub entry : (b k n x : ℤ) → (numberOf (entryRead f b k n x) ≡ 15) ↔ (attributeThere (bodyOf f) b k ≡ false)
-  pub pad : (k n x : ℤ) → (numberOf (padRead f k n x) ≡ 15) ↔ (variableThere (bodyOf f) k n ≡ false)
-  pub levels : (k n r : ℤ) → (fieldNumber (variableLevels f k n r) ≡ 15) ↔ (variableThere (bodyOf f) k n ≡ false)
+abbrev pub entryAsked : List ℕ → ℕ → ℤ → Asked
+entryAsked f e x = record { right = elementThere f (entryElementsAt e) x; at = entryAt f e x; type = entryTypeAt e; record-at = e; behind = 48 }
 
-abbrev pub Fifteen : Type 0
-Fifteen = (f : List ℕ) → PlainAccepts f → NoSuch f
+abbrev pub padAsked : List ℕ → ℕ → ℤ → Asked
+padAsked f v x = record { right = padRight f v x; at = padAt f v x; type = dataTypeAt v; record-at = v; behind = 128 }
 
--- the entries of type t of the ADR at a are those listed, and none has the number n
-pub record NoEntry (f : List ℕ) (a t : ℕ) (n : ℤ) : Type 0 where
-  pub entries : List ℕ
-  pub linked : Linked f (λ e. e) (headOfEntries a t) entries
-  pub none : Each entries (λ earlier e. isAt f (entryNumAt e) n ≡ false)
+-- a fact of every answer that comes after the way; the way stops with 20, 15, 16 or 17
+abbrev pub UnlessStopped : (Reply → Type 0) → Reply → Type 0
+UnlessStopped Said (Refused Breach) = Unit {0}
+UnlessStopped Said (Refused NoSuch) = Unit {0}
+UnlessStopped Said (Refused NoNumber) = Unit {0}
+UnlessStopped Said (Refused Gap) = Unit {0}
+UnlessStopped Said (Refused OutOfRange) = Said (Refused OutOfRange)
+UnlessStopped Said (Refused Operand) = Said (Refused Operand)
+UnlessStopped Said (Value a) = Said (Value a)
+UnlessStopped Said (Field x) = Said (Field x)
+UnlessStopped Said (Name o n) = Said (Name o n)
 
--- 16 of an entry: "no such .. entry number" (2.1)
-abbrev pub NoEntryNumber : Type 0
-NoEntryNumber = (f : List ℕ) → PlainAccepts f → (b k n x : ℤ)
-    → (numberOf (entryRead f b k n x) ≡ 16)
-    ↔ ((attributeThere (bodyOf f) b k ≡ true) × (a : ℕ) × Met (bodyOf f) 4 (headOfList (bodyOf f) 4) (natOr 0 b) a × NoEntry (bodyOf f) a (kindAmong 5 9 k) n)
+-- a field, if it is there, and else 18
+abbrev pub PartSaid : Bool → ℤ → Reply → Type 0
+PartSaid right x reply = reply ≡ cond right (Field x) (Refused OutOfRange)
 
--- a fact of what a way along a list has found, at o, and of where a way through an index has found a record; none holds of a way that stopped
-abbrev pub FoundWith : (ℕ → ℕ → Type 0) → Way → Type 0
-FoundWith Fact (Found o left) = Fact o left
-FoundWith Fact (Stopped m) = ⊥
+-- of the record of type t at o, at an offset in it; 16.2: "fields other than size, record type, links, tail, compression offset, blocking and
+-- rfu"
+abbrev pub FieldSaid : List ℕ → ℕ → ℕ → ℕ → Reply → Type 0
+FieldSaid f t o p = PartSaid (isShown t p) (fieldAt f (o + p))
 
-abbrev pub RecordWith : (ℕ → Type 0) → Values → Type 0
-RecordWith Fact (Record o) = Fact o
-RecordWith Fact (NoRecord m) = ⊥
+-- the d-th of n fields from p on; 16.3: "a dimension that is not there is 18"
+abbrev pub RowSaid : List ℕ → ℕ → ℕ → ℤ → Reply → Type 0
+RowSaid f p n d = PartSaid (indexRight d n) (fieldAt f (p + 4 * natOr 0 d))
 
--- a fact of the VDR at v, of kind k and number n, and of the offset o where its record r begins, if the way to both was found
-abbrev pub RecordFound : List ℕ → ℤ → ℤ → ℤ → (ℕ → ℕ → Type 0) → Type 0
-RecordFound f k n r Fact =
-    FoundWith (λ v left. RecordWith (Fact v) (recordWay (bodyOf f) v (variableOf (bodyOf f) (kindAmong 3 8 k) v .bytes) r left)) (variableWay f k n)
+-- a zVariable's own sizes; an rVariable has none
+abbrev pub SizeSaid : List ℕ → ℕ → Layout → ℤ → Reply → Type 0
+SizeSaid f t l d = PartSaid (eqb t 8 && indexRight d (l .count)) (fieldAt f (l .sizes + 4 * natOr 0 d))
 
--- of every file: 18 exactly where the way was found and the question is wrong, and 22, "the reserved operand, refused with 22" (15.4), exactly where
--- it was found, the question is right and the element is a reserved operand
-pub record ElementsExact (f : List ℕ) : Type 0 where
-  -- of the record that begins at o
-  pub valueWrong : (k n r : ℤ) (is : List ℤ) (x : ℤ)
-      → (numberOf (valueRead f k n r is x) ≡ 18) ↔ RecordFound f k n r (λ v o. questionRight (bodyOf f) (kindAmong 3 8 k) v is x ≡ false)
-  pub valueOperand : (k n r : ℤ) (is : List ℤ) (x : ℤ)
-      → (numberOf (valueRead f k n r is x) ≡ 22)
-      ↔ RecordFound f k n r (λ v o.
-      (questionRight (bodyOf f) (kindAmong 3 8 k) v is x && reserved (bodyOf f) (inRecordAt (bodyOf f) (kindAmong 3 8 k) v o is x) (dataTypeAt v)) ≡ true)
-  -- of the entry at e, wanted by its number or by its place
-  pub entryWrong : (b k : ℤ) (w : Wanted) (x : ℤ)
-      → (numberOf (entryValue f b k w x) ≡ 18) ↔ FoundWith (λ e left. elementThere (bodyOf f) (entryElementsAt e) x ≡ false) (entryWay f b k w)
-  pub entryOperand : (b k : ℤ) (w : Wanted) (x : ℤ)
-      → (numberOf (entryValue f b k w x) ≡ 22)
-      ↔ FoundWith (λ e left. (elementThere (bodyOf f) (entryElementsAt e) x && reserved (bodyOf f) (entryAt (bodyOf f) e x) (entryTypeAt e)) ≡ true) (entryWay f b k w)
-  -- of the VDR at v: "A pad value is given as elements, 18 if there is none" (14.2)
-  pub padWrong : (k n x : ℤ) → (numberOf (padRead f k n x) ≡ 18) ↔ FoundWith (λ v left. padRight (bodyOf f) v x ≡ false) (variableWay f k n)
-  pub padOperand : (k n x : ℤ)
-      → (numberOf (padRead f k n x) ≡ 22)
-      ↔ FoundWith (λ v left. (padRight (bodyOf f) v x && reserved (bodyOf f) (padAt (bodyOf f) v x) (dataTypeAt v)) ≡ true) (variableWay f k n)
+-- 16.4: "names up to the NUL", 64 bytes at most
+abbrev pub NameSaid : List ℕ → ℕ → Reply → Type 0
+NameSaid f at reply = reply ≡ Name at (untilNul f at 64)
 
-abbrev pub ElementsRefused : Type 0
-ElementsRefused = (f : List ℕ) → ElementsExact f
+-- 16.1: "majority (1 row, 0 column), encoding, counts (NrVars, NzVars, NumAttr), rVariable dimensions", asked by 0 to 5, of the part f before
+-- the end of a file of n bytes, given its counts; 6 is the padding: "its length less its end"
+abbrev pub fileTold : ℕ → List ℕ → ℤ → ℤ → ℤ → ℕ → Reply
+fileTold n f rs zs ads what =
+    cond (eqb what 0) (Field (cond (rowMajority f) (pos 1) (pos 0)))
+    (cond (eqb what 1) (Field (fieldAt f encodingAt))
+    (cond (eqb what 2) (Field rs)
+    (cond (eqb what 3) (Field zs)
+    (cond (eqb what 4) (Field ads)
+    (cond (eqb what 5) (Field (fieldAt f (rNumDimsAt (gdrAt f))))
+    (cond (eqb what 6) (Field (pos (n - length f))) (Refused OutOfRange)))))))
 
--- the record numbers that are there, and which record is read: with record variance set those from 0 to MaxRec, each itself; with it
--- clear all from 0, if MaxRec is not -1, and record 0
-pub record LooksUp (f : List ℕ) (v : ℕ) (r : ℤ) : Type 0 where
-  pub varying : recordVaries f v ≡ true
-      → (recordThere f v r ≡ (leZ (pos 0) r && leZ r (fieldAt f (maxRecAt v)))) × (recordRead f v r ≡ natOr 0 r)
-  pub fixed : recordVaries f v ≡ false → (recordThere f v r ≡ (leZ (pos 0) r && atLeast f (maxRecAt v) (pos 0))) × (recordRead f v r ≡ 0)
+abbrev pub FileSaid : ℕ → List ℕ → ℕ → Reply → Type 0
+FileSaid n f what reply =
+    reply ≡ fileTold n f (fieldAt f (nrVarsAt (gdrAt f))) (fieldAt f (nzVarsAt (gdrAt f))) (fieldAt f (numAttrAt (gdrAt f))) what
 
-abbrev pub RecordsThere : Type 0
-RecordsThere = (f : List ℕ) (v : ℕ) (r : ℤ) → LooksUp f v r
+-- WHAT AN ANSWER SAYS, of every file, accepted or not: f is the part before the end of a file of `bytes` bytes. It is of the thing that the
+-- lookup found
+abbrev pub Says : ℕ → List ℕ → Question → Reply → Type 0
+Says bytes f (askValue k n r is x) reply =
+    (v : ℕ) × (s : Slot) × RecordFound f k n r v s × ElementSaid f (valueAsked f (kindAmong 3 8 k) v s (recordRead f v r) is x) reply
+Says bytes f (askEntry b k w x) reply = (e : ℕ) × EntryFound f b k w e × ElementSaid f (entryAsked f e x) reply
+Says bytes f (askPad k n x) reply = (v : ℕ) × VariableFound f k n v × ElementSaid f (padAsked f v x) reply
+Says bytes f (askFile what) reply = FileSaid bytes f what reply
+Says bytes f (askDimension d) reply = RowSaid f (rDimSizesAt (gdrAt f)) (rNumDims f (gdrAt f)) d reply
+Says bytes f (askVariable k n p) reply = (v : ℕ) × VariableFound f k n v × FieldSaid f (kindAmong 3 8 k) v p reply
+Says bytes f (askAttribute n p) reply = (a : ℕ) × AttributeFound f n a × FieldSaid f 4 a p reply
+Says bytes f (askEntryField b k w p) reply = (e : ℕ) × EntryFound f b k w e × FieldSaid f (kindAmong 5 9 k) e p reply
+Says bytes f (askSize k n d) reply = (v : ℕ) × VariableFound f k n v × SizeSaid f (kindAmong 3 8 k) (layoutOf f (kindAmong 3 8 k) v) d reply
+Says bytes f (askVariance k n d) reply =
+    (v : ℕ) × VariableFound f k n v × RowSaid f (layoutOf f (kindAmong 3 8 k) v .variances) (layoutOf f (kindAmong 3 8 k) v .count) d reply
+Says bytes f (askLevels k n r) reply = (v : ℕ) × (i : IndexFound f k n r v) × (reply ≡ Field (pos (length (i .way .top ∷ i .way .below))))
+Says bytes f (askVariableName k n) reply = (v : ℕ) × VariableFound f k n v × NameSaid f (varNameAt v) reply
+Says bytes f (askAttributeName n) reply = (a : ℕ) × AttributeFound f n a × NameSaid f (attrNameAt a) reply
 
--- ---- WHY A VALUE IS REFUSED, in an accepted file
+abbrev pub AnswersSay : Type 0
+AnswersSay = (f : List ℕ) (q : Question) → UnlessStopped (Says (length f) (bodyOf f) q) (answerTo f q)
 
--- the top chain of the index of the VDR at v is vxrs, and none of its lowest entries covers r
-pub record InGap (f : List ℕ) (v r : ℕ) : Type 0 where
-  pub vxrs : List ℕ
-  pub linked : Linked f (λ x. x) (headOfIndex v) vxrs
-  pub none : NoneCovers f vxrs r
-
--- and one covers r
-pub record InRange (f : List ℕ) (v r : ℕ) : Type 0 where
-  pub vxrs : List ℕ
-  pub linked : Linked f (λ x. x) (headOfIndex v) vxrs
-  pub slot : Slot
-  pub lowest : slot ∈ lowestEntries f vxrs
-  pub covers : CoveredBy f r slot
-
--- of the variable whose VDR is at v, of kind t
-abbrev pub RecordRefused : List ℕ → ℕ → ℕ → ℤ → List ℤ → ℤ → ℕ → Type 0
-RecordRefused f t v r is x m =
-    -- 16 by 2.1: "no such record .. number"
-    ((m ≡ 16) × (recordThere f v r ≡ false))
-    -- 17 by 2.1: "record number in a gap of the index"
-    ⊎ (((m ≡ 17) × (recordThere f v r ≡ true) × InGap f v (recordRead f v r))
-    -- 18 by 14.2: "dimension index or element out of range, or wrong number of indices"
-    ⊎ (((m ≡ 18) × (recordThere f v r ≡ true) × InRange f v (recordRead f v r) × (questionRight f t v is x ≡ false))
-    -- 22 by 15.4: "the reserved operand"
-    ⊎ ((m ≡ 22) × (recordThere f v r ≡ true) × (i : InRange f v (recordRead f v r)) × (questionRight f t v is x ≡ true)
-    × (reserved f (valueAt f t v (i .slot) (recordRead f v r) is x) (dataTypeAt v) ≡ true))))
-
-abbrev pub ValueRefused : List ℕ → ℤ → ℤ → ℤ → List ℤ → ℤ → ℕ → Type 0
-ValueRefused f k n r is x m =
-    -- 15 by 2.1: "no such variable"
-    ((m ≡ 15) × (variableThere f k n ≡ false))
-    ⊎ ((variableThere f k n ≡ true) × (v : ℕ) × Met f (kindAmong 3 8 k) (headOfList f (kindAmong 3 8 k)) (natOr 0 n) v
-    × RecordRefused f (kindAmong 3 8 k) v r is x m)
-
--- and why a number of levels is
-abbrev pub LevelsRefused : List ℕ → ℤ → ℤ → ℤ → ℕ → Type 0
-LevelsRefused f k n r m =
-    ((m ≡ 15) × (variableThere f k n ≡ false))
-    ⊎ ((variableThere f k n ≡ true) × (v : ℕ) × Met f (kindAmong 3 8 k) (headOfList f (kindAmong 3 8 k)) (natOr 0 n) v
-    × (((m ≡ 16) × (recordThere f v r ≡ false)) ⊎ ((m ≡ 17) × (recordThere f v r ≡ true) × InGap f v (recordRead f v r))))
-
-abbrev pub PadRefused : List ℕ → ℤ → ℤ → ℤ → ℕ → Type 0
-PadRefused f k n x m =
-    -- 15 by 2.1: "no such variable"
-    ((m ≡ 15) × (variableThere f k n ≡ false))
-    ⊎ ((variableThere f k n ≡ true) × (v : ℕ) × Met f (kindAmong 3 8 k) (headOfList f (kindAmong 3 8 k)) (natOr 0 n) v
-    -- 14.2: "A pad value is given as elements, 18 if there is none"; "element out of range"
-    × (((m ≡ 18) × (padRight f v x ≡ false))
-    -- 22 by 15.4: "the reserved operand"
-    ⊎ ((m ≡ 22) × (padRight f v x ≡ true) × (reserved f (padAt f v x) (dataTypeAt v) ≡ true))))
-
-abbrev pub EntryRefused : List ℕ → ℤ → ℤ → ℤ → ℤ → ℕ → Type 0
-EntryRefused f b k n x m =
-    -- 15 by 2.1: "no such .. attribute"
-    ((m ≡ 15) × (attributeThere f b k ≡ false))
-    ⊎ ((attributeThere f b k ≡ true) × (a : ℕ) × Met f 4 (headOfList f 4) (natOr 0 b) a
-    -- 16 by 2.1: "no such .. entry number"
-    × (((m ≡ 16) × NoEntry f a (kindAmong 5 9 k) n)
-    ⊎ ((e : ℕ) × (place : ℕ) × Met f (kindAmong 5 9 k) (headOfEntries a (kindAmong 5 9 k)) place e × (isAt f (entryNumAt e) n ≡ true)
-    -- 18 by 14.2: "element out of range"
-    × (((m ≡ 18) × (elementThere f (entryElementsAt e) x ≡ false))
-    -- 22 by 15.4: "the reserved operand"
-    ⊎ ((m ≡ 22) × (elementThere f (entryElementsAt e) x ≡ true) × (reserved f (entryAt f e x) (entryTypeAt e) ≡ true))))))
-
--- ---- DEMAND 2, its second half: "From an accepted file the reader gives the value that layout and encoding give, or the named refusal"
--- (1.7)
-
--- a value that is shown so, or a refusal of that meaning
-abbrev pub GivenOrRefused : (Answer → Type 0) → (ℕ → Type 0) → Read → Type 0
-GivenOrRefused Shown Why (Value a) = Shown a
-GivenOrRefused Shown Why (Refused v) = Why v
-
-abbrev pub ShownOrRefused : (ℤ → Type 0) → (ℕ → Type 0) → Field → Type 0
-ShownOrRefused Shown Why (Is x) = Shown x
-ShownOrRefused Shown Why (NoField v) = Why v
-
-pub record ReadsRight (f : List ℕ) : Type 0 where
-  pub value : (k n r : ℤ) (is : List ℤ) (x : ℤ) → GivenOrRefused (ValueShown (bodyOf f) k n r is x) (ValueRefused (bodyOf f) k n r is x) (valueRead f k n r is x)
-  pub entry : (b k n x : ℤ) → GivenOrRefused (EntryShown (bodyOf f) b k (Number n) x) (EntryRefused (bodyOf f) b k n x) (entryRead f b k n x)
-  pub pad : (k n x : ℤ) → GivenOrRefused (PadShown (bodyOf f) k n x) (PadRefused (bodyOf f) k n x) (padRead f k n x)
-  pub levels : (k n r : ℤ) → ShownOrRefused (LevelsShown (bodyOf f) k n r) (LevelsRefused (bodyOf f) k n r) (variableLevels f k n r)
-
-abbrev pub Demand2Values : Type 0
-Demand2Values = (f : List ℕ) → PlainAccepts f → ReadsRight f
-
--- ---- PADDING UNREAD: "Bytes and marks from eof on are neither judged nor written" (6.6), and no answer is taken from them
-
--- every call answers the same of the files f and g
-pub record SameAnswers (f g : List ℕ) : Type 0 where
-  pub value : (k n r : ℤ) (is : List ℤ) (x : ℤ) → valueRead f k n r is x ≡ valueRead g k n r is x
-  pub entry : (b k : ℤ) (w : Wanted) (x : ℤ) → entryValue f b k w x ≡ entryValue g b k w x
-  pub pad : (k n x : ℤ) → padRead f k n x ≡ padRead g k n x
-  pub ofVariable : (k n : ℤ) (p : ℕ) → variableField f k n p ≡ variableField g k n p
-  pub ofAttribute : (n : ℤ) (p : ℕ) → attributeField f n p ≡ attributeField g n p
-  pub ofEntry : (b k : ℤ) (w : Wanted) (p : ℕ) → entryField f b k w p ≡ entryField g b k w p
-  pub ofDimension : (d : ℤ) → dimensionSize f d ≡ dimensionSize g d
-  pub ofSize : (k n d : ℤ) → variableSize f k n d ≡ variableSize g k n d
-  pub ofVariance : (k n d : ℤ) → variableVariance f k n d ≡ variableVariance g k n d
-  pub ofLevels : (k n r : ℤ) → variableLevels f k n r ≡ variableLevels g k n r
-  pub variableNamed : (k n : ℤ) → variableName f k n ≡ variableName g k n
-  pub attributeNamed : (n : ℤ) → attributeName f n ≡ attributeName g n
-  pub ofFile : (what : ℕ) → fileField f what ≡ fileField g what
-
--- behind the bytes b, whose eof is their number, stand p or as many others q, up to 511
+-- ---- PADDING UNREAD: "Bytes and marks from eof on are neither judged nor written" (6.6), and no answer is taken from them: behind the bytes
+-- b, whose eof is their number, stand p or as many others q, up to 511
 abbrev pub PaddingUnread : Type 0
-PaddingUnread = (b p q : List ℕ) → Unpadded b → length p ≡ length q → length p ≤ 511 → SameAnswers (b ++ p) (b ++ q)
+PaddingUnread = (b p q : List ℕ) → Unpadded b → length p ≡ length q → length p ≤ 511 → (x : Question) → answerTo (b ++ p) x ≡ answerTo (b ++ q) x

@@ -2,13 +2,12 @@
 ghost use mathlib.Core.Path.{_≡_};
 ghost use Rattle.values.specs.Values.{kindOf};
 ghost use Rattle.lookup.specs.declared.lists.Wanted.the-variants.{Place, Number};
-ghost use Rattle.answers.specs.Answers.{valueRead, entryValue, entryRead, padRead};
-ghost use Rattle.descriptors.specs.Descriptors.{variableField, attributeField, entryField, dimensionSize, variableSize, variableVariance, variableLevels, variableName, attributeName, fileField};
-ghost use Rattle.reader.specs.Shown.{shownValue, valueShown, shownField, fieldShown, shownName, nameShown};
+ghost use Rattle.reader.specs.Questions.{askValue, askEntry, askPad, askFile, askDimension, askVariable, askAttribute, askEntryField, askSize, askVariance, askLevels, askVariableName, askAttributeName, ofRead, ofField, ofName, answerTo, call, callOf, threeNumbers, oneNumber, twoNumbers};
 use answers::Read;
 use descriptors::Field;
 use descriptors::Name;
 use lookup::lists::Wanted;
+use lookup::refusals;
 use values::value::Value;
 
 // The number of a value's kind: 0 signed, 1 unsigned, 2 single, 3 double, 4 character code.
@@ -26,7 +25,8 @@ fn kind_number(v: Value) -> u64
 
 // A value for C: its kind, its bits, the offset it was read from.
 fn show_value(r: Read, kind: &mut u64, bits: &mut u64, offset: &mut u64) -> i32
-    ensures { λ q. ⌜ shownValue q (now (kind .exit)) (now (bits .exit)) (now (offset .exit)) ≡ valueShown r (now (kind .entry)) (now (bits .entry)) (now (offset .entry)) ⌝ }
+    ensures { λ q. ⌜ call q (threeNumbers (now (kind .exit)) (now (bits .exit)) (now (offset .exit)))
+        ≡ callOf (ofRead r) (threeNumbers (now (kind .entry)) (now (bits .entry)) (now (offset .entry))) ⌝ }
 {
     match r {
         Read::Value(a) => {
@@ -36,26 +36,26 @@ fn show_value(r: Read, kind: &mut u64, bits: &mut u64, offset: &mut u64) -> i32
             *offset = a.offset;
             0
         }
-        Read::Refused(number) => number as i32,
+        Read::Refused(refusal) => refusals::number_of(refusal) as i32,
     }
 }
 
 // A field for C.
 fn show_field(r: Field, number: &mut i32) -> i32
-    ensures { λ q. ⌜ shownField q (now (number .exit)) ≡ fieldShown r (now (number .entry)) ⌝ }
+    ensures { λ q. ⌜ call q (oneNumber (now (number .exit))) ≡ callOf (ofField r) (oneNumber (now (number .entry))) ⌝ }
 {
     match r {
         Field::Is(x) => {
             *number = x;
             0
         }
-        Field::Refused(v) => v as i32,
+        Field::Refused(refusal) => refusals::number_of(refusal) as i32,
     }
 }
 
 // A name for C.
 fn show_name(r: Name, offset: &mut u64, length: &mut u64) -> i32
-    ensures { λ q. ⌜ shownName q (now (offset .exit)) (now (length .exit)) ≡ nameShown r (now (offset .entry)) (now (length .entry)) ⌝ }
+    ensures { λ q. ⌜ call q (twoNumbers (now (offset .exit)) (now (length .exit))) ≡ callOf (ofName r) (twoNumbers (now (offset .entry)) (now (length .entry))) ⌝ }
 {
     match r {
         Name::Bytes {
@@ -66,7 +66,7 @@ fn show_name(r: Name, offset: &mut u64, length: &mut u64) -> i32
             *length = n;
             0
         }
-        Name::Nameless(v) => v as i32,
+        Name::Nameless(refusal) => refusals::number_of(refusal) as i32,
     }
 }
 
@@ -83,8 +83,8 @@ pub extern "C" fn tlz_read_value(
     bits: &mut u64,
     offset: &mut u64,
 ) -> i32
-    ensures { λ q. ⌜ shownValue q (now (form .exit)) (now (bits .exit)) (now (offset .exit))
-        ≡ valueShown (valueRead (now (file .entry)) kind number rec (now (indices .entry)) element) (now (form .entry)) (now (bits .entry)) (now (offset .entry)) ⌝ }
+    ensures { λ q. ⌜ call q (threeNumbers (now (form .exit)) (now (bits .exit)) (now (offset .exit)))
+        ≡ callOf (answerTo (now (file .entry)) (askValue kind number rec (now (indices .entry)) element)) (threeNumbers (now (form .entry)) (now (bits .entry)) (now (offset .entry))) ⌝ }
 {
     show_value(
         answers::read_value(file, kind, number, rec, indices, element),
@@ -106,8 +106,8 @@ pub extern "C" fn tlz_read_entry(
     bits: &mut u64,
     offset: &mut u64,
 ) -> i32
-    ensures { λ q. ⌜ shownValue q (now (form .exit)) (now (bits .exit)) (now (offset .exit))
-        ≡ valueShown (entryRead (now (file .entry)) attribute kind entry element) (now (form .entry)) (now (bits .entry)) (now (offset .entry)) ⌝ }
+    ensures { λ q. ⌜ call q (threeNumbers (now (form .exit)) (now (bits .exit)) (now (offset .exit)))
+        ≡ callOf (answerTo (now (file .entry)) (askEntry attribute kind (Number entry) element)) (threeNumbers (now (form .entry)) (now (bits .entry)) (now (offset .entry))) ⌝ }
 {
     show_value(
         answers::read_entry(file, attribute, kind, Wanted::Number(entry), element),
@@ -129,8 +129,8 @@ pub extern "C" fn tlz_read_entry_value_at(
     bits: &mut u64,
     offset: &mut u64,
 ) -> i32
-    ensures { λ q. ⌜ shownValue q (now (form .exit)) (now (bits .exit)) (now (offset .exit))
-        ≡ valueShown (entryValue (now (file .entry)) attribute kind (Place place) element) (now (form .entry)) (now (bits .entry)) (now (offset .entry)) ⌝ }
+    ensures { λ q. ⌜ call q (threeNumbers (now (form .exit)) (now (bits .exit)) (now (offset .exit)))
+        ≡ callOf (answerTo (now (file .entry)) (askEntry attribute kind (Place place) element)) (threeNumbers (now (form .entry)) (now (bits .entry)) (now (offset .entry))) ⌝ }
 {
     show_value(
         answers::read_entry(file, attribute, kind, Wanted::Place(place), element),
@@ -151,8 +151,8 @@ pub extern "C" fn tlz_read_pad(
     bits: &mut u64,
     offset: &mut u64,
 ) -> i32
-    ensures { λ q. ⌜ shownValue q (now (form .exit)) (now (bits .exit)) (now (offset .exit))
-        ≡ valueShown (padRead (now (file .entry)) kind number element) (now (form .entry)) (now (bits .entry)) (now (offset .entry)) ⌝ }
+    ensures { λ q. ⌜ call q (threeNumbers (now (form .exit)) (now (bits .exit)) (now (offset .exit)))
+        ≡ callOf (answerTo (now (file .entry)) (askPad kind number element)) (threeNumbers (now (form .entry)) (now (bits .entry)) (now (offset .entry))) ⌝ }
 {
     show_value(
         answers::read_pad(file, kind, number, element),
@@ -166,7 +166,8 @@ pub extern "C" fn tlz_read_pad(
 // dimensions of the rVariables, 6 the bytes of padding behind its end.
 #[no_mangle]
 pub extern "C" fn tlz_read_file(file: &[u8], what: u64, field: &mut i32) -> i32
-    ensures { λ q. ⌜ shownField q (now (field .exit)) ≡ fieldShown (fileField (now (file .entry)) what) (now (field .entry)) ⌝ }
+    ensures { λ q. ⌜ call q (oneNumber (now (field .exit)))
+        ≡ callOf (answerTo (now (file .entry)) (askFile what)) (oneNumber (now (field .entry))) ⌝ }
 {
     show_field(descriptors::file_field(file, what), field)
 }
@@ -174,7 +175,8 @@ pub extern "C" fn tlz_read_file(file: &[u8], what: u64, field: &mut i32) -> i32
 // The size of a dimension of the rVariables.
 #[no_mangle]
 pub extern "C" fn tlz_read_dimension(file: &[u8], dimension: i64, field: &mut i32) -> i32
-    ensures { λ q. ⌜ shownField q (now (field .exit)) ≡ fieldShown (dimensionSize (now (file .entry)) dimension) (now (field .entry)) ⌝ }
+    ensures { λ q. ⌜ call q (oneNumber (now (field .exit)))
+        ≡ callOf (answerTo (now (file .entry)) (askDimension dimension)) (oneNumber (now (field .entry))) ⌝ }
 {
     show_field(descriptors::dimension_size(file, dimension), field)
 }
@@ -188,7 +190,8 @@ pub extern "C" fn tlz_read_variable(
     at: u64,
     field: &mut i32,
 ) -> i32
-    ensures { λ q. ⌜ shownField q (now (field .exit)) ≡ fieldShown (variableField (now (file .entry)) kind number at) (now (field .entry)) ⌝ }
+    ensures { λ q. ⌜ call q (oneNumber (now (field .exit)))
+        ≡ callOf (answerTo (now (file .entry)) (askVariable kind number at)) (oneNumber (now (field .entry))) ⌝ }
 {
     show_field(descriptors::variable_field(file, kind, number, at), field)
 }
@@ -202,7 +205,8 @@ pub extern "C" fn tlz_read_size(
     dimension: i64,
     field: &mut i32,
 ) -> i32
-    ensures { λ q. ⌜ shownField q (now (field .exit)) ≡ fieldShown (variableSize (now (file .entry)) kind number dimension) (now (field .entry)) ⌝ }
+    ensures { λ q. ⌜ call q (oneNumber (now (field .exit)))
+        ≡ callOf (answerTo (now (file .entry)) (askSize kind number dimension)) (oneNumber (now (field .entry))) ⌝ }
 {
     show_field(
         descriptors::variable_size(file, kind, number, dimension),
@@ -219,7 +223,8 @@ pub extern "C" fn tlz_read_variance(
     dimension: i64,
     field: &mut i32,
 ) -> i32
-    ensures { λ q. ⌜ shownField q (now (field .exit)) ≡ fieldShown (variableVariance (now (file .entry)) kind number dimension) (now (field .entry)) ⌝ }
+    ensures { λ q. ⌜ call q (oneNumber (now (field .exit)))
+        ≡ callOf (answerTo (now (file .entry)) (askVariance kind number dimension)) (oneNumber (now (field .entry))) ⌝ }
 {
     show_field(
         descriptors::variable_variance(file, kind, number, dimension),
@@ -236,7 +241,8 @@ pub extern "C" fn tlz_read_levels(
     rec: i64,
     field: &mut i32,
 ) -> i32
-    ensures { λ q. ⌜ shownField q (now (field .exit)) ≡ fieldShown (variableLevels (now (file .entry)) kind number rec) (now (field .entry)) ⌝ }
+    ensures { λ q. ⌜ call q (oneNumber (now (field .exit)))
+        ≡ callOf (answerTo (now (file .entry)) (askLevels kind number rec)) (oneNumber (now (field .entry))) ⌝ }
 {
     show_field(descriptors::variable_levels(file, kind, number, rec), field)
 }
@@ -250,7 +256,8 @@ pub extern "C" fn tlz_read_variable_name(
     offset: &mut u64,
     length: &mut u64,
 ) -> i32
-    ensures { λ q. ⌜ shownName q (now (offset .exit)) (now (length .exit)) ≡ nameShown (variableName (now (file .entry)) kind number) (now (offset .entry)) (now (length .entry)) ⌝ }
+    ensures { λ q. ⌜ call q (twoNumbers (now (offset .exit)) (now (length .exit)))
+        ≡ callOf (answerTo (now (file .entry)) (askVariableName kind number)) (twoNumbers (now (offset .entry)) (now (length .entry))) ⌝ }
 {
     show_name(
         descriptors::variable_name(file, kind, number),
@@ -262,7 +269,8 @@ pub extern "C" fn tlz_read_variable_name(
 // A field of an attribute's ADR, by number and the field's offset in the record.
 #[no_mangle]
 pub extern "C" fn tlz_read_attribute(file: &[u8], number: i64, at: u64, field: &mut i32) -> i32
-    ensures { λ q. ⌜ shownField q (now (field .exit)) ≡ fieldShown (attributeField (now (file .entry)) number at) (now (field .entry)) ⌝ }
+    ensures { λ q. ⌜ call q (oneNumber (now (field .exit)))
+        ≡ callOf (answerTo (now (file .entry)) (askAttribute number at)) (oneNumber (now (field .entry))) ⌝ }
 {
     show_field(descriptors::attribute_field(file, number, at), field)
 }
@@ -275,7 +283,8 @@ pub extern "C" fn tlz_read_attribute_name(
     offset: &mut u64,
     length: &mut u64,
 ) -> i32
-    ensures { λ q. ⌜ shownName q (now (offset .exit)) (now (length .exit)) ≡ nameShown (attributeName (now (file .entry)) number) (now (offset .entry)) (now (length .entry)) ⌝ }
+    ensures { λ q. ⌜ call q (twoNumbers (now (offset .exit)) (now (length .exit)))
+        ≡ callOf (answerTo (now (file .entry)) (askAttributeName number)) (twoNumbers (now (offset .entry)) (now (length .entry))) ⌝ }
 {
     show_name(descriptors::attribute_name(file, number), offset, length)
 }
@@ -290,7 +299,8 @@ pub extern "C" fn tlz_read_entry_field(
     at: u64,
     field: &mut i32,
 ) -> i32
-    ensures { λ q. ⌜ shownField q (now (field .exit)) ≡ fieldShown (entryField (now (file .entry)) attribute kind (Number entry) at) (now (field .entry)) ⌝ }
+    ensures { λ q. ⌜ call q (oneNumber (now (field .exit)))
+        ≡ callOf (answerTo (now (file .entry)) (askEntryField attribute kind (Number entry) at)) (oneNumber (now (field .entry))) ⌝ }
 {
     show_field(
         descriptors::entry_field(file, attribute, kind, Wanted::Number(entry), at),
@@ -308,7 +318,8 @@ pub extern "C" fn tlz_read_entry_at(
     at: u64,
     field: &mut i32,
 ) -> i32
-    ensures { λ q. ⌜ shownField q (now (field .exit)) ≡ fieldShown (entryField (now (file .entry)) attribute kind (Place place) at) (now (field .entry)) ⌝ }
+    ensures { λ q. ⌜ call q (oneNumber (now (field .exit)))
+        ≡ callOf (answerTo (now (file .entry)) (askEntryField attribute kind (Place place) at)) (oneNumber (now (field .entry))) ⌝ }
 {
     show_field(
         descriptors::entry_field(file, attribute, kind, Wanted::Place(place), at),

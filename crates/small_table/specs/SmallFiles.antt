@@ -20,14 +20,16 @@ use Rattle.records.specs.Unused.{uirRule}
 use Rattle.variables.specs.Limit.{capped}
 use Rattle.variables.specs.Vdr.{carriedOf, vdrFields, numDimsAt, countRight, layoutAt, layoutOf, valueBytes, padBytes, sizeExact, dimensionsRight, factorOf, valuesPerRecord, recordBytes, dimensioned, variableOf}
 use Rattle.variables.specs.Place.{placeAfter, elementPlace, indicesRight, rowFits, placed, placeOf}
+use Rattle.vax.specs.Vax.{signAt, exponentAt, mantissaAt}
+use Rattle.vax.specs.Rounding.{vaxOf, vaxAt}
 use Rattle.values.specs.Values.{rawAt, valueOf, bitsOf, isVax, isNothing, decodedOf}
 use Rattle.values.specs.declared.value.Value.{Value}
 use Rattle.values.specs.declared.value.Value.the-variants.{Signed, Unsigned, Single, Double, Code}
 use Rattle.lookup.specs.Lists.{opened, allowance, landsOn, vdrKept, ruleKept, meets, lastLink, sought, placeWay, variableWay}
 use Rattle.lookup.specs.Indexes.{recordThere, recordRead, recordNumber, scanned, indexMet, lastIndex, indexed, lowerMet, lowered, valuesMet, recordWay}
-use Rattle.answers.specs.declared.Read.{Read}
-use Rattle.answers.specs.declared.Read.the-variants.{Value as Given, Refused}
+use Rattle.lookup.specs.Refusals.{refusalNumber}
 use Rattle.answers.specs.Answers.{elementThere, elementRead, inRecord, inVariable, valueRead}
+use Rattle.reader.specs.Questions.{askValue, Reply, Value as Given, Field, Name, Refused, answerTo}
 use Rattle.walk.specs.Walk.{typeNumber, leadsTo, listStep, lowerNext, gdrNamed, fieldNumber, tallied, varsTally, varNumber, chainTally, attrNumber, valuesNumber, lowerNumber, entriesTally, numNumber, entryNumber, oneMore, unusedNumber, walkStepBy}
 use Rattle.walk.specs.Levels.{isNone, mostOf, roomBelow}
 use Rattle.marks.specs.Marks.{cleared, marked, startAt, unclaimedAt, followedAt, leftFrom, leftOf}
@@ -58,20 +60,23 @@ fileBy encoding flags len zHead zVars uHead rest =
 unfoldable pub fileOf : ℕ → ℕ → ℕ → ℕ → List ℕ → List ℕ
 fileOf len zHead zVars uHead rest = fileBy 6 3 len zHead zVars uHead rest
 
--- a VXR of one used entry 0..2 that names what stands at an offset
-unfoldable pub indexTo : ℕ → List ℕ
-indexTo offset = wordsOf (32 ∷ 6 ∷ 0 ∷ 1 ∷ 1 ∷ 0 ∷ 2 ∷ offset ∷ [])
+-- a VXR of one used entry that names what stands at an offset, of a range, and of 0..2
+unfoldable pub indexBy : ℕ → ℕ → ℕ → List ℕ
+indexBy first last offset = wordsOf (32 ∷ 6 ∷ 0 ∷ 1 ∷ 1 ∷ first ∷ last ∷ offset ∷ [])
 
--- 18.4: "one zVariable, type 2, one element, no dimensions, no pad, record variance set, MaxRec 2, VDR at 372", its index from 504 on, then
--- its VVR, of a size and with values
-unfoldable pub variableBy : List ℕ → ℕ → List ℕ → List ℕ
-variableBy index size values =
-    wordsOf (132 ∷ 8 ∷ 0 ∷ 2 ∷ 2 ∷ 504 ∷ 504 ∷ 1 ∷ 0 ∷ 0 ∷ 0 ∷ 0 ∷ 1 ∷ 0 ∷ 0 ∷ 0 ∷ [])
+unfoldable pub indexTo : ℕ → List ℕ
+indexTo offset = indexBy 0 2 offset
+
+-- 18.4: "one zVariable, type 2, one element, no dimensions, no pad, record variance set, MaxRec 2, VDR at 372", of a data type and MaxRec, its
+-- index from 504 on, then its VVR, of a size and with values
+unfoldable pub variableBy : ℕ → ℕ → List ℕ → ℕ → List ℕ → List ℕ
+variableBy type most index size values =
+    wordsOf (132 ∷ 8 ∷ 0 ∷ type ∷ most ∷ 504 ∷ 504 ∷ 1 ∷ 0 ∷ 0 ∷ 0 ∷ 0 ∷ 1 ∷ 0 ∷ 0 ∷ 0 ∷ [])
     ++ (replicate 64 0 ++ (wordsOf (0 ∷ []) ++ (index ++ (wordsOf (size ∷ 7 ∷ []) ++ values))))
 
 -- 18.4: "VXR of one used entry 0..2 at 504, VVR .. at 536"
 unfoldable pub variable : ℕ → List ℕ → List ℕ
-variable size values = variableBy (indexTo 536) size values
+variable size values = variableBy 2 2 (indexTo 536) size values
 
 -- 18.7: "n levels of one entry each": VXRs one below the other, from an offset on; the last names what stands behind it
 unfoldable pub levels : ℕ → ℕ → List ℕ
@@ -122,7 +127,7 @@ fileI = fileOf 551 372 1 0 (variable 15 (replicate 7 0))
 
 -- H with an index of n levels; its values are 0, 1 and 2; 18.7: "H with n levels of one entry each"
 unfoldable pub deep : ℕ → List ℕ
-deep n = fileOf (518 + 32 * n) 372 1 0 (variableBy (levels n 504) 14 (0 ∷ 0 ∷ 1 ∷ 0 ∷ 2 ∷ 0 ∷ []))
+deep n = fileOf (518 + 32 * n) 372 1 0 (variableBy 2 2 (levels n 504) 14 (0 ∷ 0 ∷ 1 ∷ 0 ∷ 2 ∷ 0 ∷ []))
 
 -- 18.7: H with n bytes behind its eof
 unfoldable pub padded : ℕ → List ℕ
@@ -139,6 +144,14 @@ fileL flags = fileBy 6 flags 566 372 1 0 (plane 2 3 minusOne minusOne (0 ∷ 1 �
 -- 18.6: "sizes 3,5, variances true, false"
 unfoldable pub fileM : List ℕ
 fileM = fileBy 6 3 563 372 1 0 (plane 3 5 minusOne 0 (0 ∷ 1 ∷ 2 ∷ []))
+
+-- 18.8: "H whose index begins at record 1"
+unfoldable pub gapped : List ℕ
+gapped = fileOf 548 372 1 0 (variableBy 2 2 (indexBy 1 2 536) 12 (replicate 4 0))
+
+-- 18.8: "H of type 21 with the bytes 00 80 00 00 as its only record, in encoding 3"
+unfoldable pub operand : List ℕ
+operand = fileBy 3 3 548 372 1 0 (variableBy 21 0 (indexBy 0 0 536) 12 (0 ∷ 128 ∷ 0 ∷ 0 ∷ []))
 
 -- ---- rows
 -- the marks at some offsets
@@ -163,17 +176,21 @@ isSigned x (Single z) = false
 isSigned x (Double z) = false
 isSigned x (Code n) = false
 
-unfoldable pub gives : ℤ → ℕ → Read → Bool
+unfoldable pub gives : ℤ → ℕ → Reply → Bool
 gives x at (Given a) = isSigned x (a .value) && eqb (a .offset) at
-gives x at (Refused n) = false
+gives x at (Field y) = false
+gives x at (Name o n) = false
+gives x at (Refused v) = false
 
-unfoldable pub refuses : ℕ → Read → Bool
+unfoldable pub refuses : ℕ → Reply → Bool
 refuses n (Given a) = false
-refuses n (Refused m) = eqb m n
+refuses n (Field y) = false
+refuses n (Name o m) = false
+refuses n (Refused v) = eqb (refusalNumber v) n
 
 -- the first element of a value of the first zVariable
-unfoldable pub reads : List ℕ → ℕ → List ℤ → Read
-reads f rec is = valueRead f (pos 8) (pos 0) (pos rec) is (pos 0)
+unfoldable pub reads : List ℕ → ℕ → List ℤ → Reply
+reads f rec is = answerTo f (askValue (pos 8) (pos 0) (pos rec) is (pos 0))
 
 unfoldable pub allOf : List Bool → Bool
 allOf [] = true
@@ -212,6 +229,12 @@ rows =
     ∷ refuses 20 (reads (deep 9) 2 [])
     ∷ gives (pos 0) 546 (reads (padded 511) 1 [])
     ∷ refuses 20 (reads (padded 512) 1 [])
+    -- one number of each refusal: no second variable, a gap, an index too many, one of false variance out of range, a reserved operand
+    ∷ refuses 15 (answerTo fileH (askValue (pos 8) (pos 1) (pos 0) [] (pos 0)))
+    ∷ refuses 17 (reads gapped 0 [])
+    ∷ refuses 18 (reads fileH 0 (pos 0 ∷ []))
+    ∷ refuses 18 (reads fileM 0 (pos 2 ∷ pos 5 ∷ []))
+    ∷ refuses 22 (reads operand 0 [])
     ∷ []
 
 -- THE TABLE
@@ -223,9 +246,9 @@ unfolding bigAt endOf fieldAt isAt atLeast atMost inOrder sameAt eachWithin natA
     sizeExact dimensionsRight factorOf valuesPerRecord recordBytes dimensioned variableOf typeNumber leadsTo listStep lowerNext gdrNamed fieldNumber tallied varsTally
     varNumber chainTally attrNumber valuesNumber lowerNumber entriesTally numNumber entryNumber oneMore unusedNumber isNone mostOf roomBelow walkStepBy cleared marked startAt unclaimedAt
     followedAt leftFrom leftOf holderOf faultAt openNumber swept linkNumber stepped stepBy runOf littleAt placeAfter elementPlace indicesRight
-    rowFits placed placeOf rawAt valueOf bitsOf isVax isNothing decodedOf opened allowance landsOn vdrKept ruleKept meets
+    rowFits placed placeOf vaxOf vaxAt signAt exponentAt mantissaAt rawAt valueOf bitsOf isVax isNothing decodedOf opened allowance landsOn vdrKept ruleKept meets
     lastLink sought placeWay variableWay recordThere recordRead recordNumber scanned indexMet lastIndex indexed lowerMet lowered valuesMet
-    recordWay elementThere elementRead inRecord inVariable valueRead wordsOf fileBy fileOf indexTo variableBy variable levels deep padded plane fileA fileB
-    fileC fileD fileE fileF fileG fileH fileI fileJ fileL fileM marksAre ends checks isSigned gives refuses reads allOf
+    recordWay elementThere elementRead inRecord inVariable valueRead wordsOf fileBy fileOf indexBy indexTo variableBy variable levels deep padded plane fileA fileB
+    fileC fileD fileE fileF fileG fileH fileI fileJ fileL fileM gapped operand marksAre ends checks isSigned gives refuses reads allOf
     rows
 small-files = refl

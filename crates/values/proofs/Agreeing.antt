@@ -86,6 +86,7 @@ module _ (f : List ℕ) (at t e : ℕ) where
     pub plain : reservedFloat f at kind float ≡ false
     pub bits : OfBytes f → Agrees (a .value) (a .bits)
     pub vax : isVax kind float ≡ true → VaxGiven f at kind float a
+    pub stored : isVax kind float ≡ false → eqb kind signed ≡ false → a .bits ≡ rawAt f at size (encodingOf e .order)
 
   abbrev pub Decodes : Decoded → Type 0
   Decodes (Given a) = GivenRight a
@@ -107,6 +108,7 @@ module _ (f : List ℕ) (at t e : ℕ) where
           exact = λ s. subst (ExactAt ffloat f at) q (exact f at kind float s);
           exactIf = bytes-right f at .exactIf (vaxKind kind float) (Vax.Given r) n;
         };
+        stored = λ j. absurd (true≢false (sym i ∙ j));
       }
   vax-decodes i Vax.Reserved q = rw i (subst (NearestAt (vaxKind kind float) f at) q (nearest f at kind float))
 
@@ -121,12 +123,13 @@ module _ (f : List ℕ) (at t e : ℕ) where
 
   plain-decodes : isNothing f at size (encodingOf e .order) ≡ false → isVax kind float ≡ false
       → GivenRight (answerOf kind size (rawAt f at size (encodingOf e .order)) at)
-  unfolding reservedFloat
+  unfolding reservedFloat bitsOf
   plain-decodes h i = record {
     offset = refl;
     plain = rw i;
     bits = λ b. number-agrees kind size _ (element t (typeOf t) refl _ (sized h) (raw-lt f at size (encodingOf e .order) b));
     vax = λ j. absurd (true≢false (sym j ∙ i));
+    stored = λ j k. rw k;
   }
 
   pub decodes : Decodes (decodedOf f at t e)

@@ -73,8 +73,11 @@ unfoldable pub reservedFloat : List ℕ → ℕ → ℕ → ℕ → Bool
 reservedFloat f at kind float = isVax kind float && reservedAt (vaxKind kind float) f at
 
 -- 15.5: "The answer is a double, of single-precision types too"; its bits are the double's own
+abbrev pub vaxGiven : ℕ → ℕ → Answer
+vaxGiven r at = record { value = Double (ofBits binary64 r); bits = r; offset = at }
+
 abbrev pub vaxAnswer : Vax → ℕ → Decoded
-vaxAnswer (Vax.Given r) at = Given (record { value = Double (ofBits binary64 r); bits = r; offset = at })
+vaxAnswer (Vax.Given r) at = Given (vaxGiven r at)
 vaxAnswer Vax.Reserved at = Reserved
 
 -- no data type's size, no encoding's byte order, or an element that does not lie before the file's end

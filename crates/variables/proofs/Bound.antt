@@ -2,7 +2,7 @@
 use mathlib.Core.Path.{_≡_, refl, sym}
 use mathlib.Core.Bool.{Bool, true, false, cond, true≢false}
 use mathlib.Core.List.{List}
-use Prim.Native.Nat.{ℕ, zero, suc, _+_, _-_, _*_, _≤_, _<_}
+use Prim.Native.Nat.{ℕ, zero, suc, _+_, _*_, _≤_, _<_}
 use native.Mathlib.Nat.{mul-one, mul-zero, mul-le-mul-right, suc-mul, add-zero}
 use native.Mathlib.Omega.{arith}
 use borrow.Author.Count.{below-more}
@@ -38,27 +38,24 @@ moved-below true size index place count h i =
     omega (arith, suc-mul place size)
 moved-below false size index place count h i = rw (mul-one) h
 
-module _ (row : Bool) (n : ℕ) (size : ℕ → ℕ) (varies : ℕ → Bool) (index : ℕ → ℕ) (right : (d : ℕ) → d < n → index d < size d) where
-  slower-below : (j : ℕ) → j < n → slower row n j < n
-  slower-below j h = go row
-    where
-      go : (r : Bool) → slower r n j < n
-      go true = h
-      go false = omega arith
+pub slower-below : (row : Bool) (n j : ℕ) → j < n → slower row n j < n
+slower-below true n j h = omega arith
+slower-below false n j h = omega arith
 
+module _ (row : Bool) (n : ℕ) (size : ℕ → ℕ) (varies : ℕ → Bool) (index : ℕ → ℕ) (right : (d : ℕ) → d < n → index d < size d) where
   after-below : (j : ℕ) → j ≤ n → placeAfter row n size varies index j < product (λ k. cond (varies (slower row n k)) (size (slower row n k)) 1) j
   unfolding placeAfter
   after-below zero h = omega arith
   after-below (suc j) h =
       let d = slower row n j in
-      moved-below (varies d) (size d) (index d) _ _ (after-below j (omega arith)) (right d (slower-below j (omega arith)))
+      moved-below (varies d) (size d) (index d) _ _ (after-below j (omega arith)) (right d (slower-below row n j (omega arith)))
 
 -- a row of dimensions multiplied from its slowest on, in either majority
-either-way : (row : Bool) (n : ℕ) (g : ℕ → ℕ) → product (λ k. g (slower row n k)) n ≡ product g n
+pub either-way : (row : Bool) (n : ℕ) (g : ℕ → ℕ) → product (λ k. g (slower row n k)) n ≡ product g n
 either-way true n g = refl
 either-way false n g = product-back g n
 
-values-product : (f : List ℕ) (n p q : ℕ) → product (λ d. factorOf f (p + 4 * d) (q + 4 * d)) n ≡ valuesPerRecord f n p q
+pub values-product : (f : List ℕ) (n p q : ℕ) → product (λ d. factorOf f (p + 4 * d) (q + 4 * d)) n ≡ valuesPerRecord f n p q
 unfolding valuesPerRecord
 values-product f zero p q = refl
 values-product f (suc n) p q =

@@ -59,11 +59,6 @@ indicesRight f p is (suc n) = indicesRight f p is n && indexRight (getD is n (po
 unfoldable pub rowFits : List ℕ → ℕ → ℕ → Bool
 rowFits f p n = leb (p + 4 * n) (endOf f)
 
--- the number that comes back: "value given" (2.1), "dimension index or element out of range, or wrong number of indices" (14.2)
-abbrev pub refusalOf : Place → ℕ
-refusalOf (At n) = 0
-refusalOf Wrong = 18
-
 -- the indices give a place: as many as the dimensions, and each right; the dimensions lie before the file's end
 unfoldable pub placed : List ℕ → Layout → List ℤ → Bool
 placed f l is =

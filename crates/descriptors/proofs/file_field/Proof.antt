@@ -28,11 +28,11 @@ body-requires c κs = search needs
 inside : (c : tie.After-body) → Opened (c .before .before .before .before .args .f .now) (c .body .result .now)
 inside c = opened-part _ _ (c .body .ensures) (c .before .before .opens .ensures .1 (not-false _ (c .before .if1 .left)))
 
-sub-t8 : tie.Need-sub-t8
-sub-t8 c = omega (arith, inside (c .before) .part)
+sub-t9 : tie.Need-sub-t9
+sub-t9 c = omega (arith, inside (c .before) .part)
 
-cast-t9 : tie.Need-cast-t9
-cast-t9 c = let o = inside (c .before) in omega (arith, o .part, o .short)
+cast-t10 : tie.Need-cast-t10
+cast-t10 c = let o = inside (c .before) in omega (arith, o .part, o .short)
 
 returns-2 : tie.Need-returns-2
 unfolding fileField
@@ -57,8 +57,8 @@ file-field-spec =
     opens-requires
     returns
     body-requires
-    sub-t8
-    cast-t9
+    sub-t9
+    cast-t10
     returns-2
     file-field-in-requires
     returns-3)

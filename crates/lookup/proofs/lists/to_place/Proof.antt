@@ -10,8 +10,8 @@ use Rattle.lookup.proofs.lists.to_place.Tie as tie
 returns : tie.Need-returns
 returns c = let a = c .before .before in sym (place-below (a .args .b .now) (a .args .t) (a .args .n) (a .args .left) (rw (toZ-ofZ {w = w64} (a .fits .n)) at (c .if1 .taken)))
 
-cast-t6 : tie.Need-cast-t6
-cast-t6 c = let a = c .before .before in cast-nat w64 0 (a .args .n) (a .fits .n) tt (c .if1 .left)
+cast-t7 : tie.Need-cast-t7
+cast-t7 c = let a = c .before .before in cast-nat w64 0 (a .args .n) (a .fits .n) tt (c .if1 .left)
 
 head-of-list-requires : tie.Need-head-of-list-requires
 head-of-list-requires c κs = search needs
@@ -27,4 +27,4 @@ returns-2 c =
 
 pub to-place-spec : {M : Type 1} → statement M
 to-place-spec =
-    tie.close (tie.spec returns cast-t6 head-of-list-requires seek-requires returns-2)
+    tie.close (tie.spec returns cast-t7 head-of-list-requires seek-requires returns-2)

@@ -1,43 +1,52 @@
 use Rattle.lookup.proofs.Opening.{opened-part}
 use Rattle.lookup.proofs.Asked.{asked-wrong, asked-right}
 use Rattle.lookup.specs.Lists.{variableWay}
+use Rattle.lookup.specs.Bounds.{AskedFits}
 use mir.Facts.{toZ-ofZ}
 use mir.Syntax.{w64}
 use native.Mathlib.Omega.{arith}
-use mathlib.Core.Path.{_∙_}
+use mathlib.Core.Path.{sym, _∙_, subst}
 use borrow.Author.Needs.{needs}
 use Rattle.lookup.proofs.lists.to_variable.Statement.{statement}
 use Rattle.lookup.proofs.lists.to_variable.Tie as tie
 
-kind-number-requires : tie.Need-kind-number-requires
-kind-number-requires c κs = search needs
+kind-asked-requires : tie.Need-kind-asked-requires
+kind-asked-requires c κs = search needs
+
+enum-known-asked : tie.Need-enum-known-asked
+enum-known-asked c = search needs
+
+allowed-requires : tie.Need-allowed-requires
+allowed-requires c κs =
+    let at-asked = c .before in let at-kind = at-asked .before .before in
+    subst (AskedFits (at-kind .before .before .before .args .f .now)) (at-asked .asked .given .1) (at-kind .kind-asked .ensures .1)
+
+to-place-requires : tie.Need-to-place-requires
+to-place-requires c κs =
+    let at-asked = c .before .before in let at-kind = at-asked .before .before in
+    let a = at-kind .before .before .before in
+    omega (arith, opened-part (a .args .f .now) (a .args .b .now) (a .pre) (subst (AskedFits (a .args .f .now)) (at-asked .asked .given .1) (at-kind .kind-asked .ensures .1)) .gdr)
+
+enum-known-asked-2 : tie.Need-enum-known-asked-2
+enum-known-asked-2 c = search needs
 
 returns : tie.Need-returns
 unfolding variableWay
 returns c =
-    let a = c .before .before .before .before in
-    asked-wrong (a .args .f .now) 3 8 (a .args .kind) _ (rw (toZ-ofZ {w = w64} (a .fits .kind)) at (c .before .kind-number .ensures .0)) (c .if1 .taken)
-
-kind-among-requires : tie.Need-kind-among-requires
-kind-among-requires c κs = search needs
-
-allowed-requires : tie.Need-allowed-requires
-allowed-requires c κs = c .before .before .kind-number .ensures .1 (c .before .if1 .left)
-
-to-place-requires : tie.Need-to-place-requires
-to-place-requires c κs =
-    let asked = c .before .before .before in
-    let a = asked .before .before .before in
-    omega (arith, opened-part (a .args .f .now) (a .args .b .now) (a .pre) (asked .kind-number .ensures .1 (c .before .before .if1 .left)) .gdr)
+    let at-asked = c .before .before .before in let at-kind = at-asked .before .before in
+    let a = at-kind .before .before .before in
+    let e = rw (toZ-ofZ {w = w64} (a .fits .kind)) at (sym (at-asked .asked .given .1) ∙ at-kind .kind-asked .ensures .0) in
+    let k = asked-right (a .args .f .now) 3 8 (a .args .kind) _ _ e in
+    rw (toZ-ofZ {w = w64} (a .fits .number), k .0, c .before .allowed .ensures, a .pre) at (c .to-place .ensures) ∙ k .1
 
 returns-2 : tie.Need-returns-2
 unfolding variableWay
 returns-2 c =
-    let asked = c .before .before .before .before in
-    let a = asked .before .before .before in
-    let t = rw (toZ-ofZ {w = w64} (a .fits .kind)) at (c .before .before .kind-among .ensures .0) in
-    rw (toZ-ofZ {w = w64} (a .fits .number), t, c .before .allowed .ensures, a .pre) at (c .to-place .ensures)
-    ∙ asked-right (a .args .f .now) 3 8 (a .args .kind) _ (rw (toZ-ofZ {w = w64} (a .fits .kind)) at (asked .kind-number .ensures .0)) (c .before .before .before .if1 .left)
+    let at-asked = c .before in let at-kind = at-asked .before .before in
+    let a = at-kind .before .before .before in
+    asked-wrong (a .args .f .now) 3 8 (a .args .kind) _ _ (rw (toZ-ofZ {w = w64} (a .fits .kind)) at (sym (at-asked .asked2 .given .1) ∙ at-kind .kind-asked .ensures .0))
 
 pub to-variable-spec : {M : Type 1} → statement M
-to-variable-spec = tie.close (tie.spec kind-number-requires returns kind-among-requires allowed-requires to-place-requires returns-2)
+to-variable-spec =
+    tie.close
+    (tie.spec kind-asked-requires enum-known-asked allowed-requires to-place-requires enum-known-asked-2 returns returns-2)
