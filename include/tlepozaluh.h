@@ -74,8 +74,8 @@ extern "C" {
 #define TLZ_BAD_WAY 20
 
 /*
- * Pointers. No pointer is null, also where a length is 0; each is valid for its length and aligned for its type. A buffer
- * of length 0 is not read or written. All buffers are the caller's before, during and after a call. What a call may write
+ * Pointers. No pointer is null, also where a length is 0, but indices where index_count is 0; each is valid for its length
+ * and aligned for its type. A buffer of length 0 is not read or written. All buffers are the caller's before, during and after a call. What a call may write
  * (state, marks, jobs, *steps, *where, the numbers that the reader and the calls of epochs set) overlaps no other buffer or
  * number of that call.
  */
@@ -261,7 +261,8 @@ int32_t tlz_round(const uint8_t *files, size_t files_len, uint8_t *marks, size_t
  *   kind, number           the variable: TLZ_RVARIABLE or TLZ_ZVARIABLE, and its place
  *   record                 0 to MaxRec; where record variance is clear any number from 0 on reads record 0
  *   indices, index_count   an index, from 0, for each dimension of the variable, in the file's order of dimensions; one of
- *                          false variance must be in range too, and moves nothing. Majority is seen to.
+ *                          false variance must be in range too, and moves nothing. Majority is seen to. Where index_count is 0,
+ *                          indices may be null.
  *   element                0, or which character of a value of characters
  *   value_kind, bits       set to the value's kind, TLZ_SIGNED to TLZ_CHARACTER, and to its bits; those of a VAX float are the
  *                          64 bits of a double, though F_FLOAT has 4 bytes in the file

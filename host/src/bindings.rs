@@ -346,7 +346,9 @@ pub fn read_value(
     element: i64,
 ) -> Result<Value, i32> {
     let (f, n) = (file.as_ptr(), file.len());
-    let (i, count) = (indices.as_ptr(), indices.len());
+    // no indices are lent as null, as C may
+    let i = if indices.is_empty() { std::ptr::null() } else { indices.as_ptr() };
+    let count = indices.len();
     value(|k, b, o| unsafe {
         c::tlz_read_value(f, n, kind, number, record, i, count, element, k, b, o)
     })

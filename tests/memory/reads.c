@@ -64,7 +64,8 @@ static int32_t ask_value(const struct lent *l)
     else
         tlz_read_file(l->file, l->length, TLZ_FILE_DIMENSIONS, &dimensions);
     size_t count = any(5) == 0 ? any(14) : (size_t)dimensions;
-    indices = exactly(count * sizeof *indices);
+    if (count != 0 || any(2) == 0) /* none may be null */
+        indices = exactly(count * sizeof *indices);
     for (size_t i = 0; i < count; i++)
         indices[i] = any(3) == 0 ? number(3) : 0;
     answer = tlz_read_value(l->file, l->length, of, which, number(8), indices, count, any(4) == 0 ? number(2) : 0,

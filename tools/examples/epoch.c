@@ -8,14 +8,13 @@
 /* Reads the epoch of a zVariable without dimensions; gives the answer of the reader, or 27 if the variable is not of type 31. */
 static int32_t read_epoch(const uint8_t *file, size_t length, int64_t number, int64_t record, double *epoch)
 {
-    const int64_t indices[1] = { 0 }; /* never null, also where none are lent */
     uint64_t kind = 0, bits = 0, offset = 0;
     int32_t type = 0, answer = tlz_read_variable(file, length, TLZ_ZVARIABLE, number, TLZ_VARIABLE_TYPE, &type);
 
     if (answer == 0 && type != 31)
         answer = TLZ_NO_EPOCH;
     if (answer == 0)
-        answer = tlz_read_value(file, length, TLZ_ZVARIABLE, number, record, indices, 0, 0, &kind, &bits, &offset);
+        answer = tlz_read_value(file, length, TLZ_ZVARIABLE, number, record, NULL, 0, 0, &kind, &bits, &offset);
     memcpy(epoch, &bits, sizeof *epoch); /* of type 31 the kind is TLZ_DOUBLE, in every encoding */
     return answer;
 }

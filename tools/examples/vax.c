@@ -8,9 +8,8 @@
 /* Prints the double that a VAX float comes as, or that it has no value; gives the answer of the reader. */
 static int32_t print_float(const uint8_t *file, size_t length, int64_t number, int64_t record)
 {
-    const int64_t indices[1] = { 0 }; /* never null, also where none are lent */
     uint64_t kind = 0, bits = 0, offset = 0;
-    int32_t answer = tlz_read_value(file, length, TLZ_ZVARIABLE, number, record, indices, 0, 0, &kind, &bits, &offset);
+    int32_t answer = tlz_read_value(file, length, TLZ_ZVARIABLE, number, record, NULL, 0, 0, &kind, &bits, &offset);
     double value;
 
     memcpy(&value, &bits, sizeof value);
