@@ -1,15 +1,15 @@
 -- WHAT THE READER ANSWERS of every file, accepted or not. Assumes nothing.
 use mathlib.Core.Path.{_≡_, refl, sym, ap, _∙_, subst}
-use mathlib.Core.Logic.{_≢_}
+use mathlib.Core.Logic.{_≢_, _⊎_, inl, inr}
 use mathlib.Core.Bool.{Bool, true, false, cond, _&&_}
 use mathlib.Core.List.{List}
 use Prim.Native.Nat.{ℕ, zero, suc, _+_, _-_, _*_, _≤_, _<_}
-use native.Mathlib.Nat.{zero-add, mul-le-mul-right, suc-mul, mul-comm}
+use native.Mathlib.Nat.{add-zero, zero-add, mul-le-mul-right, suc-mul, mul-comm}
 use native.Mathlib.Omega.{arith}
 use lib.Dec.{eqb}
 use lib.IntN.{ℤ, pos}
-use lib.ListN.{length}
-use borrow.Author.Tests.{eqb-true, ne-eqb, lt-leb}
+use lib.ListN.{length, getD}
+use borrow.Author.Tests.{eqb-true, eqb-false, ne-eqb, le-leb, lt-leb}
 use Rattle.format.specs.Fields.{endOf, fieldAt, eqZ, natAt, natOr, bitAt}
 use Rattle.format.specs.Encodings.{encodingOf}
 use Rattle.records.specs.Layout.{attrNameAt, dataTypeAt, elementsAt, varFlagsAt, varNameAt, entryElementsAt, entryTypeAt, entryValueAt, rDimSizesAt}
@@ -21,7 +21,7 @@ use Rattle.records.specs.Tree.{Slot, firstOf, lastOf, namedBy}
 use Rattle.records.specs.declared.index.Entry.{Entry}
 use Rattle.variables.specs.Limit.{capped}
 use Rattle.variables.specs.Vdr.{layoutOf, valueBytes, padBytes, recordBytes, valuesPerRecord, vdrFields, variableOf}
-use Rattle.variables.specs.Place.{elementPlace, indexRight, placed, placeOf}
+use Rattle.variables.specs.Place.{elementPlace, indexRight, indicesRight, rowFits, placed, placeOf}
 use Rattle.variables.specs.declared.vdr.Layout.{Layout}
 use Rattle.variables.specs.declared.vdr.Variable.{Variable}
 use Rattle.variables.specs.declared.place.Place.the-variants.{At, Wrong}
@@ -42,10 +42,10 @@ use Rattle.answers.specs.Offsets.{rowMajority, elementAt, padAt}
 use Rattle.answers.specs.Answers.{fileEncoding, elementThere, elementOf, elementRead, atPlace, inRecord, inValues, inVariable, valueOn, valueRead, entryOn, entryValue, padIn, padOn, padRead}
 use Rattle.answers.specs.declared.Read.{Read}
 use Rattle.answers.specs.declared.Read.the-variants.{Value as ValueIs, Refused as NoValue}
-use Rattle.descriptors.specs.Descriptors.{isShown, fieldOn, variableField, attributeField, entryField, rowField, gdrSize, dimensionSize, dimensionsOn, variableDimensions, sizeOn, variableSize, varianceOn, variableVariance, levelsField, levelsOn, variableLevels, nameOn, variableName, attributeName, fileFieldIn, padding, fileField}
+use Rattle.descriptors.specs.Descriptors.{isShown, fieldOn, variableField, attributeField, entryField, rowField, gdrSize, dimensionSize, dimensionsOn, variableDimensions, sizeOn, variableSize, varianceOn, variableVariance, levelsField, levelsOn, variableLevels, nameOn, untilNul, variableName, attributeName, fileFieldIn, padding, fileField}
 use Rattle.descriptors.specs.declared.Field.the-variants.{Is, Refused as NoField}
 use Rattle.reader.specs.Questions.{Question, askValue, askEntry, askPad, askFile, askDimension, askVariable, askAttribute, askEntryField, askSize, askVariance, askLevels, askVariableName, askAttributeName, Reply, Value, Field, Name, Refused, ofRead, ofField, ofName, answerTo}
-use Rattle.read_theorems.specs.Reading.{nthRecord, Met, ElementShown, LiesIn, reserved, VariableFound, AttributeFound, EntryFound, RecordFound, Asked, ValueSaid, ElementSaid, valueAsked, entryAsked, padAsked, UnlessStopped, PartSaid, FileSaid, Says, AnswersSay}
+use Rattle.read_theorems.specs.Reading.{nthRecord, Met, ElementShown, LiesIn, reserved, VariableFound, AttributeFound, EntryFound, RecordFound, indicesGiven, Asked, ValueSaid, ElementSaid, valueAsked, entryAsked, padAsked, UnlessStopped, PartSaid, NameSaid, FileSaid, Says, AnswersSay}
 use Rattle.variables.proofs.Capped.{capped-small}
 use Rattle.variables.proofs.Bound.{place-below}
 use Rattle.variables.proofs.Numbering.{placed-right, values-apart}
@@ -147,8 +147,8 @@ element-shown f at t a e =
 -- element x of those that the field at c counts, of the values at an offset, in the record of the question
 module _ (f : List ℕ) (at c : ℕ) (x : ℤ) (q : Asked) (right : elementThere f c x ≡ q .right) (is : elementAt f at (q .type) x ≡ q .at)
     (sized : 1 ≤ elementSize f (q .type)) (ordered : 1 ≤ encodingOf (fileEncoding f) .order)
-    (inside : elementThere f c x ≡ true → LiesIn f (q .record-at) (q .behind) (q .at) (elementSize f (q .type)))
-    (ends : q .record-at + sizeAt f (q .record-at) ≤ endOf f)
+    (inside : elementThere f c x ≡ true → LiesIn f (q .holder) (q .behind) (q .at) (elementSize f (q .type)))
+    (ends : q .holder + sizeAt f (q .holder) ≤ endOf f)
   where
     read-said : (s : Read) → Tells (ValueSaid f q) (λ v. ElementSaid f q (Refused v)) s → ElementSaid f q (ofRead s)
     read-said (ValueIs a) h = h
@@ -185,6 +185,17 @@ module _ (f : List ℕ) (k n r : ℤ) (is : List ℤ) (x : ℤ) (order : 1 ≤ e
 
   fault : variableOf f t v .fault ≡ 0
   fault = found-fault f k n v found
+
+  -- the dimensions lie in the file, so the indices give a place if they are right
+  given-placed : indicesGiven f l is ≡ placed f l is
+  unfolding placed rowFits
+  given-placed =
+      let p = vdr-reads f t v fault in
+      rw (le-leb (l .sizes + 4 * l .count) (endOf f) (p .sizes), le-leb (l .variances + 4 * l .count) (endOf f) (p .variances)) (ands (eqb (length is) (l .count)))
+    where
+      ands : (b : Bool) → (b && indicesRight f (l .sizes) is (l .count)) ≡ (b && true && true && indicesRight f (l .sizes) is (l .count))
+      ands true = refl
+      ands false = refl
 
   -- a value is no larger than a record
   small : placed f l is ≡ true → valueBytes f v ≤ 2147483648
@@ -229,9 +240,9 @@ module _ (f : List ℕ) (k n r : ℤ) (is : List ℤ) (x : ℤ) (order : 1 ≤ e
             → ElementSaid f asked (ofRead (atPlace f v (capped (valueBytes f v)) at x (cond b (At (capped (elementPlace f l (rowMajority f) is))) Wrong)))
         go true e =
             rw (place-is f t v fault (rowMajority f) is (placed-right f l is e), capped-small (valueBytes f v) (small e))
-            (element-said f (at + elementPlace f l (rowMajority f) is * valueBytes f v) (elementsAt v) x asked (rw e) (omega (arith, loc .is))
+            (element-said f (at + elementPlace f l (rowMajority f) is * valueBytes f v) (elementsAt v) x asked (rw (given-placed, e)) (omega (arith, loc .is))
             (vdr-sized f v (vdr-reads f t v fault .fields)) order (inside e) (loc .lies .inside))
-        go false e = rw e
+        go false e = rw (given-placed, e)
 
   abbrev wayTo : ℕ → Values
   wayTo left = recordWay f v (variableOf f t v .bytes) r left
@@ -352,6 +363,30 @@ size-part : (f : List ℕ) (b : Bool) (p n : ℕ) (d : ℤ)
     → PartSaid (b && indexRight d n) (fieldAt f (p + 4 * natOr 0 d)) (ofField (cond b (rowField f p n d) (NoField OutOfRange)))
 size-part f true p n d = row-part f p n d
 size-part f false p n d = refl
+
+-- names: n bytes of at most m before the first 0
+abbrev Ends : List ℕ → ℕ → ℕ → ℕ → Type 0
+Ends f m p n = (n ≤ m) × ((i : ℕ) → i < n → getD f (p + i) 0 ≢ 0) × ((n ≡ m) ⊎ (getD f (p + n) 0 ≡ 0))
+
+name-more : (f : List ℕ) (m p n : ℕ) (b : Bool) → eqb (getD f p 0) 0 ≡ b → Ends f m (suc p) n → Ends f (suc m) p (cond b 0 (suc n))
+name-more f m p n true e a = (omega arith, λ i h. absurd (omega arith), inr (subst (λ (q : ℕ). getD f q 0 ≡ 0) (sym (add-zero p)) (eqb-true (getD f p 0) 0 e)))
+name-more f m p n false e (few, behind, end) = (omega arith, bytes, ends end)
+  where
+    bytes : (i : ℕ) → i < suc n → getD f (p + i) 0 ≢ 0
+    bytes zero h = subst (λ (q : ℕ). getD f q 0 ≢ 0) (sym (add-zero p)) (eqb-false (getD f p 0) 0 e)
+    bytes (suc i) h = let q : suc p + i ≡ p + suc i = omega arith in subst (λ (q : ℕ). getD f q 0 ≢ 0) q (behind i (omega arith))
+
+    ends : (n ≡ m) ⊎ (getD f (suc p + n) 0 ≡ 0) → (suc n ≡ suc m) ⊎ (getD f (p + suc n) 0 ≡ 0)
+    ends (inl q) = inl (omega arith)
+    ends (inr q) = let w : suc p + n ≡ p + suc n = omega arith in inr (subst (λ (q : ℕ). getD f q 0 ≡ 0) w q)
+
+name-ends : (f : List ℕ) (m p : ℕ) → Ends f m p (untilNul f p m)
+unfolding untilNul
+name-ends f zero p = (omega arith, λ i h. absurd (omega arith), inl refl)
+name-ends f (suc m) p = name-more f m p (untilNul f (suc p) m) (eqb (getD f p 0) 0) refl (name-ends f m (suc p))
+
+name-said : (f : List ℕ) (at : ℕ) → NameSaid f at (Name at (untilNul f at 64))
+name-said f at = let a = name-ends f 64 at in (untilNul f at 64, refl, record { most = a .0; bytes = a .1; ends = a .2 })
 
 -- what the file says of itself
 file-none : (n : ℕ) (f : List ℕ) (w : ℕ) (x : ℤ) → 6 < w → FileSaid n f w (ofField (cond (eqb w 6) (Is x) (fileFieldIn f w)))
@@ -476,10 +511,10 @@ module _ (f : List ℕ) where
       (levels-lack (λ m. Goes (askLevels k n r) (Refused m)) tt body tt v r (λ e. tt) left))
   says (askVariableName k n) =
       of-variable (askVariableName k n) k n (λ w. ofName (nameOn body (varNameAt 0) w)) (λ m. refl)
-      (λ v left o t. said (Say (askVariableName k n)) _ (v, found-variable body k n v t, refl))
+      (λ v left o t. said (Say (askVariableName k n)) _ (v, found-variable body k n v t, name-said body (varNameAt v)))
   says (askAttributeName n) =
       of-attribute (askAttributeName n) n (λ w. ofName (nameOn body (attrNameAt 0) w)) (λ m. refl)
-      (λ a left t. said (Say (askAttributeName n)) _ (a, found-attribute body n a t, refl))
+      (λ a left t. said (Say (askAttributeName n)) _ (a, found-attribute body n a t, name-said body (attrNameAt a)))
 
 -- THE THEOREM
 pub answers-say : AnswersSay

@@ -1,10 +1,10 @@
 -- WHAT THE READER ANSWERS of every file, accepted or not. Sections 13 to 16 of docs/RULES.md. Assumes nothing.
 use mathlib.Core.Path.{_≡_}
-use mathlib.Core.Logic.{_⊎_}
+use mathlib.Core.Logic.{_≢_, _⊎_}
 use mathlib.Core.Bool.{Bool, true, false, cond, _&&_}
 use mathlib.Core.List.{List, [], _∷_, _++_}
 use Prim.Native.Nat.{ℕ, zero, suc, _+_, _-_, _*_, _≤_, _<_}
-use lib.ListN.{length}
+use lib.ListN.{length, getD}
 use lib.Dec.{eqb}
 use lib.IntN.{ℤ, pos}
 use lib.Signed.{leZ}
@@ -23,7 +23,7 @@ use Rattle.records.specs.Attributes.{adrRight, elementSize, aedrRight}
 use Rattle.records.specs.Index.{vxrRight, noLimit}
 use Rattle.records.specs.Tree.{Slot, usedEntries, firstOf, lastOf, namedBy, levelsBelow, namesIndex, lowerSlots, lowest}
 use Rattle.variables.specs.Vdr.{vdrFields, numDimsAt, countRight, layoutOf, sizeExact, dimensionsRight, recordBytes}
-use Rattle.variables.specs.Place.{indexRight, placed}
+use Rattle.variables.specs.Place.{indexRight, indicesRight}
 use Rattle.variables.specs.declared.vdr.Layout.{Layout}
 use Rattle.demands.specs.Acceptance.{_∈_, RangeRight}
 use Rattle.lookup.specs.Entries.{records}
@@ -33,7 +33,7 @@ use Rattle.lookup.specs.declared.refusals.Refusal.the-variants.{Breach, NoSuch,
 use Rattle.lookup.specs.declared.lists.Wanted.{Wanted}
 use Rattle.answers.specs.Offsets.{rowMajority, valueAt, entryAt, padAt}
 use Rattle.answers.specs.Answers.{fileEncoding, elementThere, elementOf}
-use Rattle.descriptors.specs.Descriptors.{isShown, untilNul}
+use Rattle.descriptors.specs.Descriptors.{isShown}
 use Rattle.reader.specs.Questions.{Question, askValue, askEntry, askPad, askFile, askDimension, askVariable, askAttribute, askEntryField, askSize, askVariance, askLevels, askVariableName, askAttributeName, Reply, Value, Field, Name, Refused, answerTo}
 
 -- 6.4: "the sweep, links and indexes end at eof". What is found is said of the bytes f before the end of a file, `bodyOf` of it
@@ -206,26 +206,30 @@ pub record RecordFound (f : List ℕ) (k n r : ℤ) (vdr : ℕ) (slot : Slot) : 
 -- ---- WHAT IS SAID of what was found
 
 -- as many indices as dimensions, each right, and an element that is there
+abbrev pub indicesGiven : List ℕ → Layout → List ℤ → Bool
+indicesGiven f l is = eqb (length is) (l .count) && indicesRight f (l .sizes) is (l .count)
+
 abbrev pub questionRight : List ℕ → ℕ → ℕ → List ℤ → ℤ → Bool
-questionRight f t v is x = placed f (layoutOf f t v) is && elementThere f (elementsAt v) x
+questionRight f t v is x = indicesGiven f (layoutOf f t v) is && elementThere f (elementsAt v) x
 
 -- a pad value, and an element of it that is there
 abbrev pub padRight : List ℕ → ℕ → ℤ → Bool
 padRight f v x = bitAt f (varFlagsAt v) 2 && elementThere f (elementsAt v) x
 
--- an element is asked for at an offset, of the data type at t, in the record at o behind its first h bytes; the question is right or not
+-- an element that is asked for: whether the question is right, its offset, the offset of its data type, the record that holds it, and how many
+-- bytes of that it stands behind
 pub record Asked : Type 0 where
   pub right : Bool
   pub at : ℕ
   pub type : ℕ
-  pub record-at : ℕ
+  pub holder : ℕ
   pub behind : ℕ
 
 -- the value, if the question is right; 18 by 14.2: "dimension index or element out of range, or wrong number of indices"; 22 by 15.4: "the
 -- reserved operand"
 pub record ValueSaid (f : List ℕ) (q : Asked) (a : Answer) : Type 0 where
   pub right : q .right ≡ true
-  pub inside : LiesIn f (q .record-at) (q .behind) (q .at) (elementSize f (q .type))
+  pub inside : LiesIn f (q .holder) (q .behind) (q .at) (elementSize f (q .type))
   pub shown : ElementShown f (q .at) (q .type) a
 
 abbrev pub ElementSaid : List ℕ → Asked → Reply → Type 0
@@ -241,13 +245,13 @@ ElementSaid f q (Refused Operand) = (q .right ≡ true) × (reserved f (q .at) (
 
 abbrev pub valueAsked : List ℕ → ℕ → ℕ → Slot → ℕ → List ℤ → ℤ → Asked
 valueAsked f t v s r is x =
-    record { right = questionRight f t v is x; at = valueAt f t v s r is x; type = dataTypeAt v; record-at = namedBy f s; behind = 8 }
+    record { right = questionRight f t v is x; at = valueAt f t v s r is x; type = dataTypeAt v; holder = namedBy f s; behind = 8 }
 
 abbrev pub entryAsked : List ℕ → ℕ → ℤ → Asked
-entryAsked f e x = record { right = elementThere f (entryElementsAt e) x; at = entryAt f e x; type = entryTypeAt e; record-at = e; behind = 48 }
+entryAsked f e x = record { right = elementThere f (entryElementsAt e) x; at = entryAt f e x; type = entryTypeAt e; holder = e; behind = 48 }
 
 abbrev pub padAsked : List ℕ → ℕ → ℤ → Asked
-padAsked f v x = record { right = padRight f v x; at = padAt f v x; type = dataTypeAt v; record-at = v; behind = 128 }
+padAsked f v x = record { right = padRight f v x; at = padAt f v x; type = dataTypeAt v; holder = v; behind = 128 }
 
 -- a fact of every answer that comes after the way; the way stops with 20, 15, 16 or 17
 abbrev pub UnlessStopped : (Reply → Type 0) → Reply → Type 0
@@ -278,9 +282,14 @@ RowSaid f p n d = PartSaid (indexRight d n) (fieldAt f (p + 4 * natOr 0 d))
 abbrev pub SizeSaid : List ℕ → ℕ → Layout → ℤ → Reply → Type 0
 SizeSaid f t l d = PartSaid (eqb t 8 && indexRight d (l .count)) (fieldAt f (l .sizes + 4 * natOr 0 d))
 
--- 16.4: "names up to the NUL", 64 bytes at most
+-- 16.4: "names up to the NUL, 64 bytes at most": n bytes from an offset, none of them 0, and a 0 behind them unless they are 64
+pub record NameEnds (f : List ℕ) (at n : ℕ) : Type 0 where
+  pub most : n ≤ 64
+  pub bytes : (i : ℕ) → i < n → getD f (at + i) 0 ≢ 0
+  pub ends : (n ≡ 64) ⊎ (getD f (at + n) 0 ≡ 0)
+
 abbrev pub NameSaid : List ℕ → ℕ → Reply → Type 0
-NameSaid f at reply = reply ≡ Name at (untilNul f at 64)
+NameSaid f at reply = (n : ℕ) × (reply ≡ Name at n) × NameEnds f at n
 
 -- 16.1: "majority (1 row, 0 column), encoding, counts (NrVars, NzVars, NumAttr), rVariable dimensions", asked by 0 to 5, of the part f before
 -- the end of a file of n bytes, given its counts; 6 is the padding: "its length less its end"

@@ -173,6 +173,7 @@ Due f q NoSuch = NoSubject (bodyOf f) (about q)
 Due f q NoNumber = NoSuchNumber (bodyOf f) (about q)
 Due f q Gap = InGap (bodyOf f) (about q)
 Due f q OutOfRange = (o : ℕ) × SubjectAt (bodyOf f) (about q) o × (rightOf (bodyOf f) q o ≡ false)
+-- 22 comes last: what could be given in its place is a value, and that a value is shown only of other bytes is said of each (`ElementShown`)
 Due f q Operand = ⊥
 
 -- where a case holds, the answer is its refusal or one that comes before it
