@@ -12,7 +12,6 @@ use borrow.Author.Tests.{eqb-true, le-leb}
 use Rattle.format.specs.Fields.{linkAt, natOr}
 use Rattle.records.specs.Opening.{bodyOf}
 use Rattle.lookup.specs.Lists.{meets, wantedAt, overOf, lastLink, sought, headOfList, allowance, opened, placeWay, fileWay, ofKinds, kindAmong, variableWay, attributeWay, headOfEntries, entriesOf, entryWay}
-use Rattle.lookup.specs.declared.refusals.Refusal.{Refusal}
 use Rattle.lookup.specs.declared.refusals.Refusal.the-variants.{Breach, NoSuch}
 use Rattle.lookup.specs.declared.lists.Wanted.{Wanted}
 use Rattle.lookup.specs.declared.lists.Wanted.the-variants.{Place}
@@ -39,12 +38,6 @@ first-met f t w p i o r = rw (sym (r .is)) (r .met (r .place) (omega arith))
 abbrev pub Finds : (ℕ → Type 0) → Way → Type 0
 Finds Fact (Found o left) = Fact o
 Finds Fact (Stopped v) = Unit {0}
-
-pub found-not-stopped : (o left : ℕ) (m : Refusal) → Found o left ≡ Stopped m → ⊥
-found-not-stopped o left m e = let z : _≡_ {A = ℕ} 0 1 = cc in absurd (omega arith)
-
-pub found-same : (o u left rest : ℕ) → Found u rest ≡ Found o left → (u ≡ o) × (rest ≡ left)
-found-same o u left rest e = (cc, cc)
 
 module _ (f : List ℕ) (t : ℕ) (w : Wanted) where
   pub sought-first : (left p i : ℕ) → Finds (First f t w p i) (sought f t w p i left)

@@ -1,5 +1,6 @@
 // Why the reader refuses, and the number that C is told.
 ghost use mathlib.Core.Path.{_≡_};
+ghost use lib.IntN.{pos};
 ghost use Rattle.lookup.specs.Refusals.{refusalNumber};
 
 // In the order in which the first of several is given.
@@ -12,8 +13,8 @@ pub enum Refusal {
     Operand,
 }
 
-// The number of a refusal.
-pub fn number_of(r: Refusal) -> u8
+// The number of a refusal, as a byte.
+fn byte_of(r: Refusal) -> u8
     ensures { λ q. ⌜ q ≡ refusalNumber r ⌝ }
 {
     match r {
@@ -24,4 +25,11 @@ pub fn number_of(r: Refusal) -> u8
         Refusal::OutOfRange => 18,
         Refusal::Operand => 22,
     }
+}
+
+// The number of a refusal, as C is told it.
+pub fn number_of(r: Refusal) -> i32
+    ensures { λ q. ⌜ q ≡ pos (refusalNumber r) ⌝ }
+{
+    byte_of(r) as i32
 }

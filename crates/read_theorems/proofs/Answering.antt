@@ -2,7 +2,7 @@
 -- cover one record. Assumes nothing.
 use mathlib.Core.Path.{_≡_, sym, _∙_, subst}
 use mathlib.Core.Logic.{_⊎_, inl, inr}
-use mathlib.Core.Bool.{Bool, cond}
+use mathlib.Core.Bool.{Bool, cond, _&&_}
 use mathlib.Core.List.{List, [], _∷_}
 use Prim.Native.Nat.{ℕ, zero, suc}
 use lib.Dec.{eqb}
@@ -33,8 +33,8 @@ use Rattle.demands.proofs.NestedDemand.{NestedAccepted}
 use Rattle.demands.proofs.Demand2.{listsOf, makes, obeys-body, lists-kept}
 use Rattle.demands.proofs.Splits.{each-in}
 use Rattle.demands.proofs.Lowest.{lowest-rise, covered-once}
-use Rattle.read_theorems.specs.Reading.{questionRight, padRight, fileTold}
-use Rattle.read_theorems.specs.Answering.{atPlace, firstThat, numbered, ofKind, variablesOf, ofVariable, wantedOf, entriesOf, ofEntry, vaxTold, elementIn, covers, valueIn, levelledEntries, levelsIn, fieldIn, rowIn, sizeIn, nameIn, answerIn, Demand2Values, Never20, CoveredOnce}
+use Rattle.read_theorems.specs.Reading.{questionRight, padRight, fieldTold, rowTold, sizeTold, fileTold}
+use Rattle.read_theorems.specs.Answering.{atPlace, firstThat, numbered, ofKind, variablesOf, ofVariable, wantedOf, entriesOf, ofEntry, vaxTold, elementIn, covers, valueIn, levelledEntries, levelsIn, nameIn, answerIn, Demand2Values, Never20, CoveredOnce}
 use Rattle.read_theorems.proofs.AnsweringWays.{laid}
 use Rattle.read_theorems.proofs.AnsweringFields.{variable-answer, attribute-answer, entry-field-answer, size-answer, variance-answer, variable-name-answer, attribute-name-answer, dimension-answer, file-answer}
 use Rattle.read_theorems.proofs.AnsweringValues.{value-answer, entry-answer, pad-answer, levels-answer}
@@ -111,10 +111,10 @@ element-gives f right at t =
     vax (Vax.Given r) = tt
     vax Vax.Reserved = tt
 
-field-gives : (f : List ℕ) (t o p : ℕ) → Gives (fieldIn f t o p)
+field-gives : (f : List ℕ) (t o p : ℕ) → Gives (fieldTold f t o p)
 field-gives f t o p = cond-keeps Gives (isShown t p) tt tt
 
-row-gives : (f : List ℕ) (p n : ℕ) (d : ℤ) → Gives (rowIn f p n d)
+row-gives : (f : List ℕ) (p n : ℕ) (d : ℤ) → Gives (rowTold f p n d)
 row-gives f p n d = cond-keeps Gives (indexRight d n) tt tt
 
 file-gives : (n : ℕ) (f : List ℕ) (rs zs ads : ℤ) (what : ℕ) → Gives (fileTold n f rs zs ads what)
@@ -150,16 +150,16 @@ lists-give f l (askPad k j x) =
 lists-give f l (askFile what) =
     file-gives (length f) (bodyOf f) (pos (length (l .rVariables))) (pos (length (l .zVariables))) (pos (length (l .attributes))) what
 lists-give f l (askDimension d) = let b = bodyOf f in row-gives b (rDimSizesAt (gdrAt b)) (rNumDims b (gdrAt b)) d
-lists-give f l (askVariable k j p) = variable-gives l k j (λ t d. fieldIn (bodyOf f) t (d .vdr) p) (λ t d. field-gives (bodyOf f) t (d .vdr) p)
-lists-give f l (askAttribute j p) = numbered-gives (l .attributes) j (λ d. fieldIn (bodyOf f) 4 (d .adr) p) (λ d. field-gives (bodyOf f) 4 (d .adr) p)
-lists-give f l (askEntryField a k w p) = entry-gives (bodyOf f) l a k w (λ t e. fieldIn (bodyOf f) t e p) (λ t e. field-gives (bodyOf f) t e p)
+lists-give f l (askVariable k j p) = variable-gives l k j (λ t d. fieldTold (bodyOf f) t (d .vdr) p) (λ t d. field-gives (bodyOf f) t (d .vdr) p)
+lists-give f l (askAttribute j p) = numbered-gives (l .attributes) j (λ d. fieldTold (bodyOf f) 4 (d .adr) p) (λ d. field-gives (bodyOf f) 4 (d .adr) p)
+lists-give f l (askEntryField a k w p) = entry-gives (bodyOf f) l a k w (λ t e. fieldTold (bodyOf f) t e p) (λ t e. field-gives (bodyOf f) t e p)
 lists-give f l (askSize k j d) =
     let b = bodyOf f in
-    variable-gives l k j (λ t v. sizeIn b t (layoutOf b t (v .vdr)) d)
-    (λ t v. let y = layoutOf b t (v .vdr) in cond-keeps Gives (eqb t 8) (row-gives b (y .sizes) (y .count) d) tt)
+    variable-gives l k j (λ t v. sizeTold b t (layoutOf b t (v .vdr)) d)
+    (λ t v. let y = layoutOf b t (v .vdr) in cond-keeps Gives (eqb t 8 && indexRight d (y .count)) tt tt)
 lists-give f l (askVariance k j d) =
     let b = bodyOf f in
-    variable-gives l k j (λ t v. let y = layoutOf b t (v .vdr) in rowIn b (y .variances) (y .count) d)
+    variable-gives l k j (λ t v. let y = layoutOf b t (v .vdr) in rowTold b (y .variances) (y .count) d)
     (λ t v. let y = layoutOf b t (v .vdr) in row-gives b (y .variances) (y .count) d)
 lists-give f l (askLevels k j r) = variable-gives l k j (λ t d. levelsIn (bodyOf f) d r) (λ t d. levels-give (bodyOf f) d r)
 lists-give f l (askVariableName k j) = variable-gives l k j (λ t d. nameIn (bodyOf f) (varNameAt (d .vdr))) (λ t d. tt)

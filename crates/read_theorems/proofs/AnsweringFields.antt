@@ -1,6 +1,6 @@
 -- What an accepted file says of itself, fields, dimensions and names. Assumes nothing.
 use mathlib.Core.Path.{_≡_, refl, sym, ap, _∙_}
-use mathlib.Core.Bool.{Bool, true, false, cond}
+use mathlib.Core.Bool.{true, false}
 use mathlib.Core.List.{List}
 use Prim.Native.Nat.{ℕ, _+_, _-_}
 use lib.IntN.{ℤ, pos}
@@ -11,24 +11,18 @@ use Rattle.records.specs.Layout.{rDimSizesAt, attrNameAt, varNameAt}
 use Rattle.records.specs.Opening.{gdrAt, rNumDims, fileEnd, bodyOf}
 use Rattle.records.proofs.Bodies.{body-length}
 use Rattle.variables.specs.Vdr.{layoutOf, variableOf}
-use Rattle.variables.specs.declared.vdr.Layout.{Layout}
 use Rattle.variables.specs.declared.vdr.Variable.{Variable as VariableIs}
 use Rattle.variables.proofs.Rule.{vdr-makes}
 use Rattle.lookup.specs.Lists.{kindAmong}
-use Rattle.lookup.specs.declared.refusals.Refusal.the-variants.{OutOfRange}
 use Rattle.lookup.specs.declared.lists.Wanted.{Wanted}
-use Rattle.descriptors.specs.Descriptors.{isShown, fieldOn, variableField, attributeField, entryField, rowField, dimensionSize, dimensionsOn, variableDimensions, sizeOn, variableSize, varianceOn, variableVariance, nameOn, variableName, attributeName, fileField}
-use Rattle.descriptors.specs.declared.Field.the-variants.{Refused as NoField}
-use Rattle.reader.specs.Questions.{askFile, askDimension, askVariable, askAttribute, askEntryField, askSize, askVariance, askVariableName, askAttributeName, Refused, ofField, ofName, answerTo}
+use Rattle.descriptors.specs.Descriptors.{isShown, fieldOn, variableField, attributeField, entryField, dimensionSize, dimensionsOn, variableDimensions, sizeOn, variableSize, varianceOn, variableVariance, nameOn, variableName, attributeName, fileField}
+use Rattle.reader.specs.Questions.{askFile, askDimension, askVariable, askAttribute, askEntryField, askSize, askVariance, askVariableName, askAttributeName, ofField, ofName, answerTo}
 use Rattle.demands.proofs.NestedDemand.{NestedAccepted}
-use Rattle.read_theorems.specs.Answering.{fieldIn, rowIn, sizeIn, nameIn, answerIn}
-use Rattle.read_theorems.proofs.Shown.{part, row-part, file-part}
+use Rattle.read_theorems.specs.Reading.{fieldTold, rowTold, sizeTold}
+use Rattle.read_theorems.specs.Answering.{nameIn, answerIn}
+use Rattle.read_theorems.proofs.Shown.{part, row-part, size-part, file-part}
 use Rattle.read_theorems.proofs.Accepted.{opens, vars-count, attrs-count}
 use Rattle.read_theorems.proofs.AnsweringWays.{laid, Variable, variable-asked, attribute-asked, entry-asked}
-
-size-or : (f : List ℕ) (b : Bool) (l : Layout) (d : ℤ) → ofField (cond b (rowField f (l .sizes) (l .count) d) (NoField OutOfRange)) ≡ cond b (rowIn f (l .sizes) (l .count) d) (Refused OutOfRange)
-size-or f true l d = row-part f (l .sizes) (l .count) d
-size-or f false l d = refl
 
 module _ (f : List ℕ) (n : NestedAccepted f) (starts : List ℕ) where
   abbrev b : List ℕ
@@ -41,32 +35,32 @@ module _ (f : List ℕ) (n : NestedAccepted f) (starts : List ℕ) where
   pub variable-answer : (k j : ℤ) (p : ℕ) → answerTo f (askVariable k j p) ≡ answerIn f (laid f n starts) (askVariable k j p)
   unfolding variableField
   variable-answer k j p =
-      variable-asked f n starts k j (λ s. ofField (fieldOn b (kindAmong 3 8 k) p s)) (λ t d. fieldIn b t (d .vdr) p) refl
+      variable-asked f n starts k j (λ s. ofField (fieldOn b (kindAmong 3 8 k) p s)) (λ t d. fieldTold b t (d .vdr) p) refl
       (λ v rest e a. part (isShown (kindAmong 3 8 k) p) (fieldAt b (v + p)))
 
   pub attribute-answer : (j : ℤ) (p : ℕ) → answerTo f (askAttribute j p) ≡ answerIn f (laid f n starts) (askAttribute j p)
   unfolding attributeField
   attribute-answer j p =
-      attribute-asked f n starts j (λ s. ofField (fieldOn b 4 p s)) (λ d. fieldIn b 4 (d .adr) p) refl (λ d rest. part (isShown 4 p) (fieldAt b (d .adr + p)))
+      attribute-asked f n starts j (λ s. ofField (fieldOn b 4 p s)) (λ d. fieldTold b 4 (d .adr) p) refl (λ d rest. part (isShown 4 p) (fieldAt b (d .adr + p)))
 
   pub entry-field-answer : (j k : ℤ) (w : Wanted) (p : ℕ) → answerTo f (askEntryField j k w p) ≡ answerIn f (laid f n starts) (askEntryField j k w p)
   unfolding entryField
   entry-field-answer j k w p =
-      entry-asked f n starts j k w (λ s. ofField (fieldOn b (kindAmong 5 9 k) p s)) (λ t e. fieldIn b t e p) refl refl
+      entry-asked f n starts j k w (λ s. ofField (fieldOn b (kindAmong 5 9 k) p s)) (λ t e. fieldTold b t e p) refl refl
       (λ e rest q. part (isShown (kindAmong 5 9 k) p) (fieldAt b (e + p)))
 
   pub size-answer : (k j d : ℤ) → answerTo f (askSize k j d) ≡ answerIn f (laid f n starts) (askSize k j d)
   unfolding variableSize variableDimensions
   size-answer k j d =
       let t = kindAmong 3 8 k in
-      variable-asked f n starts k j (λ s. ofField (sizeOn b t d (dimensionsOn b t s))) (λ t v. sizeIn b t (layoutOf b t (v .vdr)) d) refl
-      (λ v rest e a. rw (dimensions-are k j v rest a) (size-or b (eqb t 8) (layoutOf b t v) d))
+      variable-asked f n starts k j (λ s. ofField (sizeOn b t d (dimensionsOn b t s))) (λ t v. sizeTold b t (layoutOf b t (v .vdr)) d) refl
+      (λ v rest e a. rw (dimensions-are k j v rest a) (size-part b (eqb t 8) (layoutOf b t v .sizes) (layoutOf b t v .count) d))
 
   pub variance-answer : (k j d : ℤ) → answerTo f (askVariance k j d) ≡ answerIn f (laid f n starts) (askVariance k j d)
   unfolding variableVariance variableDimensions
   variance-answer k j d =
       let t = kindAmong 3 8 k in
-      variable-asked f n starts k j (λ s. ofField (varianceOn b d (dimensionsOn b t s))) (λ t v. let y = layoutOf b t (v .vdr) in rowIn b (y .variances) (y .count) d) refl
+      variable-asked f n starts k j (λ s. ofField (varianceOn b d (dimensionsOn b t s))) (λ t v. let y = layoutOf b t (v .vdr) in rowTold b (y .variances) (y .count) d) refl
       (λ v rest e a. let y = layoutOf b t v in rw (dimensions-are k j v rest a) (row-part b (y .variances) (y .count) d))
 
   pub variable-name-answer : (k j : ℤ) → answerTo f (askVariableName k j) ≡ answerIn f (laid f n starts) (askVariableName k j)

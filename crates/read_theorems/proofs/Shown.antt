@@ -45,7 +45,7 @@ use Rattle.answers.specs.declared.Read.the-variants.{Value as ValueIs, Refused 
 use Rattle.descriptors.specs.Descriptors.{isShown, fieldOn, variableField, attributeField, entryField, rowField, gdrSize, dimensionSize, dimensionsOn, variableDimensions, sizeOn, variableSize, varianceOn, variableVariance, levelsField, levelsOn, variableLevels, nameOn, untilNul, variableName, attributeName, fileFieldIn, padding, fileField}
 use Rattle.descriptors.specs.declared.Field.the-variants.{Is, Refused as NoField}
 use Rattle.reader.specs.Questions.{Question, askValue, askEntry, askPad, askFile, askDimension, askVariable, askAttribute, askEntryField, askSize, askVariance, askLevels, askVariableName, askAttributeName, Reply, Value, Field, Name, Refused, ofRead, ofField, ofName, answerTo}
-use Rattle.read_theorems.specs.Reading.{nthRecord, Met, ElementShown, LiesIn, reserved, VariableFound, AttributeFound, EntryFound, RecordFound, indicesGiven, Asked, ValueSaid, ElementSaid, valueAsked, entryAsked, padAsked, UnlessStopped, PartSaid, NameSaid, FileSaid, Says, AnswersSay}
+use Rattle.read_theorems.specs.Reading.{nthRecord, Met, ElementShown, LiesIn, reserved, VariableFound, AttributeFound, EntryFound, RecordFound, indicesGiven, Asked, ValueSaid, ElementSaid, valueAsked, entryAsked, padAsked, UnlessStopped, partTold, rowTold, NameSaid, FileSaid, Says, AnswersSay}
 use Rattle.variables.proofs.Capped.{capped-small}
 use Rattle.variables.proofs.Bound.{place-below}
 use Rattle.variables.proofs.Numbering.{placed-right, values-apart}
@@ -351,16 +351,16 @@ module _ (f : List ℕ) (k n r : ℤ) (bytes : ℕ) where
   levels-said v found (Unknown m) c h = h
 
 -- ---- FIELDS: each is there or 18
-pub part : (b : Bool) (x : ℤ) → PartSaid b x (ofField (cond b (Is x) (NoField OutOfRange)))
+pub part : (b : Bool) (x : ℤ) → ofField (cond b (Is x) (NoField OutOfRange)) ≡ partTold b x
 part true x = refl
 part false x = refl
 
-pub row-part : (f : List ℕ) (p n : ℕ) (d : ℤ) → PartSaid (indexRight d n) (fieldAt f (p + 4 * natOr 0 d)) (ofField (rowField f p n d))
+pub row-part : (f : List ℕ) (p n : ℕ) (d : ℤ) → ofField (rowField f p n d) ≡ rowTold f p n d
 unfolding rowField
 row-part f p n d = part (indexRight d n) (fieldAt f (p + 4 * natOr 0 d))
 
-size-part : (f : List ℕ) (b : Bool) (p n : ℕ) (d : ℤ)
-    → PartSaid (b && indexRight d n) (fieldAt f (p + 4 * natOr 0 d)) (ofField (cond b (rowField f p n d) (NoField OutOfRange)))
+pub size-part : (f : List ℕ) (b : Bool) (p n : ℕ) (d : ℤ)
+    → ofField (cond b (rowField f p n d) (NoField OutOfRange)) ≡ partTold (b && indexRight d n) (fieldAt f (p + 4 * natOr 0 d))
 size-part f true p n d = row-part f p n d
 size-part f false p n d = refl
 

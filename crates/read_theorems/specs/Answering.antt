@@ -4,11 +4,11 @@ use mathlib.Core.Path.{_≡_}
 use mathlib.Core.Logic.{_≢_, _⊎_}
 use mathlib.Core.Bool.{Bool, cond, _&&_}
 use mathlib.Core.List.{List, [], _∷_}
-use Prim.Native.Nat.{ℕ, zero, suc, _+_, _*_, _≤_}
+use Prim.Native.Nat.{ℕ, zero, suc, _≤_}
 use lib.ListN.{length}
 use lib.Dec.{leb, eqb}
 use lib.IntN.{ℤ, pos, negsuc}
-use Rattle.format.specs.Fields.{fieldAt, eqZ, isAt, natAt, natOr}
+use Rattle.format.specs.Fields.{eqZ, isAt, natAt}
 use Rattle.format.specs.Types.{typeOf}
 use Rattle.format.specs.Encodings.{encodingOf}
 use Rattle.format.specs.declared.types.DataType.{DataType}
@@ -20,8 +20,6 @@ use Rattle.records.specs.Layout.{rDimSizesAt, attrNameAt, entryTypeAt, entryNum
 use Rattle.records.specs.Opening.{gdrAt, rNumDims, bodyOf}
 use Rattle.records.specs.Tree.{Slot, usedEntries, firstOf, lastOf, levelsBelow, flat, namesIndex, lowerSlots, lowestEntries}
 use Rattle.variables.specs.Vdr.{layoutOf}
-use Rattle.variables.specs.Place.{indexRight}
-use Rattle.variables.specs.declared.vdr.Layout.{Layout}
 use Rattle.demands.specs.Acceptance.{_∈_, ListedVdr, ListedAdr, Lists, Accepted}
 use Rattle.lookup.specs.Indexes.{recordThere, recordRead}
 use Rattle.lookup.specs.Entries.{wholly, lowestUpto}
@@ -30,9 +28,9 @@ use Rattle.lookup.specs.declared.lists.Wanted.{Wanted}
 use Rattle.lookup.specs.declared.lists.Wanted.the-variants.{Place, Number}
 use Rattle.answers.specs.Offsets.{valueAt, entryAt, padAt}
 use Rattle.answers.specs.Answers.{fileEncoding, elementThere}
-use Rattle.descriptors.specs.Descriptors.{isShown, untilNul}
+use Rattle.descriptors.specs.Descriptors.{untilNul}
 use Rattle.reader.specs.Questions.{Question, askValue, askEntry, askPad, askFile, askDimension, askVariable, askAttribute, askEntryField, askSize, askVariance, askLevels, askVariableName, askAttributeName, Reply, Value, Field, Name, Refused, answerTo}
-use Rattle.read_theorems.specs.Reading.{CoveredBy, questionRight, padRight, fileTold}
+use Rattle.read_theorems.specs.Reading.{CoveredBy, questionRight, padRight, fieldTold, rowTold, sizeTold, fileTold}
 
 -- ---- records of a list
 
@@ -124,19 +122,7 @@ levelsIn f d r =
     (firstThat (Refused Gap) (λ s. covers f (recordRead f v r) (s .slot)) (levelledEntries f (d .vxrs)) (λ s. Field (pos (s .level))))
     (Refused NoNumber)
 
--- ---- fields
-
--- 16.2: "fields other than size, record type, links, tail, compression offset, blocking and rfu"; any other offset is 18
-abbrev pub fieldIn : List ℕ → ℕ → ℕ → ℕ → Reply
-fieldIn f t o p = cond (isShown t p) (Field (fieldAt f (o + p))) (Refused OutOfRange)
-
--- the d-th of n fields from p on; 16.3: "a dimension that is not there is 18"
-abbrev pub rowIn : List ℕ → ℕ → ℕ → ℤ → Reply
-rowIn f p n d = cond (indexRight d n) (Field (fieldAt f (p + 4 * natOr 0 d))) (Refused OutOfRange)
-
--- a zVariable's own sizes; an rVariable has none
-abbrev pub sizeIn : List ℕ → ℕ → Layout → ℤ → Reply
-sizeIn f t l d = cond (eqb t 8) (rowIn f (l .sizes) (l .count) d) (Refused OutOfRange)
+-- ---- names
 
 -- 16.4: "names up to the NUL", 64 bytes at most
 abbrev pub nameIn : List ℕ → ℕ → Reply
@@ -153,13 +139,13 @@ answerIn f l (askPad k n x) =
     ofVariable l k n (λ t d. elementIn b (padRight b (d .vdr) x) (padAt b (d .vdr) x) (dataTypeAt (d .vdr)))
 -- 16.1: "counts (NrVars, NzVars, NumAttr)" are the lengths of the lists
 answerIn f l (askFile what) = fileTold (length f) (bodyOf f) (pos (length (l .rVariables))) (pos (length (l .zVariables))) (pos (length (l .attributes))) what
-answerIn f l (askDimension d) = let b = bodyOf f in rowIn b (rDimSizesAt (gdrAt b)) (rNumDims b (gdrAt b)) d
-answerIn f l (askVariable k n p) = ofVariable l k n (λ t d. fieldIn (bodyOf f) t (d .vdr) p)
-answerIn f l (askAttribute n p) = numbered (l .attributes) n (λ d. fieldIn (bodyOf f) 4 (d .adr) p)
-answerIn f l (askEntryField a k w p) = ofEntry (bodyOf f) l a k w (λ t e. fieldIn (bodyOf f) t e p)
-answerIn f l (askSize k n d) = ofVariable l k n (λ t v. sizeIn (bodyOf f) t (layoutOf (bodyOf f) t (v .vdr)) d)
+answerIn f l (askDimension d) = let b = bodyOf f in rowTold b (rDimSizesAt (gdrAt b)) (rNumDims b (gdrAt b)) d
+answerIn f l (askVariable k n p) = ofVariable l k n (λ t d. fieldTold (bodyOf f) t (d .vdr) p)
+answerIn f l (askAttribute n p) = numbered (l .attributes) n (λ d. fieldTold (bodyOf f) 4 (d .adr) p)
+answerIn f l (askEntryField a k w p) = ofEntry (bodyOf f) l a k w (λ t e. fieldTold (bodyOf f) t e p)
+answerIn f l (askSize k n d) = ofVariable l k n (λ t v. sizeTold (bodyOf f) t (layoutOf (bodyOf f) t (v .vdr)) d)
 answerIn f l (askVariance k n d) =
-    ofVariable l k n (λ t v. let y = layoutOf (bodyOf f) t (v .vdr) in rowIn (bodyOf f) (y .variances) (y .count) d)
+    ofVariable l k n (λ t v. let y = layoutOf (bodyOf f) t (v .vdr) in rowTold (bodyOf f) (y .variances) (y .count) d)
 answerIn f l (askLevels k n r) = ofVariable l k n (λ t d. levelsIn (bodyOf f) d r)
 answerIn f l (askVariableName k n) = ofVariable l k n (λ t d. nameIn (bodyOf f) (varNameAt (d .vdr)))
 answerIn f l (askAttributeName n) = numbered (l .attributes) n (λ d. nameIn (bodyOf f) (attrNameAt (d .adr)))

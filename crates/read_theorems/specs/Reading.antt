@@ -266,21 +266,21 @@ UnlessStopped Said (Field x) = Said (Field x)
 UnlessStopped Said (Name o n) = Said (Name o n)
 
 -- a field, if it is there, and else 18
-abbrev pub PartSaid : Bool → ℤ → Reply → Type 0
-PartSaid right x reply = reply ≡ cond right (Field x) (Refused OutOfRange)
+abbrev pub partTold : Bool → ℤ → Reply
+partTold right x = cond right (Field x) (Refused OutOfRange)
 
 -- of the record of type t at o, at an offset in it; 16.2: "fields other than size, record type, links, tail, compression offset, blocking and
 -- rfu"
-abbrev pub FieldSaid : List ℕ → ℕ → ℕ → ℕ → Reply → Type 0
-FieldSaid f t o p = PartSaid (isShown t p) (fieldAt f (o + p))
+abbrev pub fieldTold : List ℕ → ℕ → ℕ → ℕ → Reply
+fieldTold f t o p = partTold (isShown t p) (fieldAt f (o + p))
 
 -- the d-th of n fields from p on; 16.3: "a dimension that is not there is 18"
-abbrev pub RowSaid : List ℕ → ℕ → ℕ → ℤ → Reply → Type 0
-RowSaid f p n d = PartSaid (indexRight d n) (fieldAt f (p + 4 * natOr 0 d))
+abbrev pub rowTold : List ℕ → ℕ → ℕ → ℤ → Reply
+rowTold f p n d = partTold (indexRight d n) (fieldAt f (p + 4 * natOr 0 d))
 
 -- a zVariable's own sizes; an rVariable has none
-abbrev pub SizeSaid : List ℕ → ℕ → Layout → ℤ → Reply → Type 0
-SizeSaid f t l d = PartSaid (eqb t 8 && indexRight d (l .count)) (fieldAt f (l .sizes + 4 * natOr 0 d))
+abbrev pub sizeTold : List ℕ → ℕ → Layout → ℤ → Reply
+sizeTold f t l d = partTold (eqb t 8 && indexRight d (l .count)) (fieldAt f (l .sizes + 4 * natOr 0 d))
 
 -- 16.4: "names up to the NUL, 64 bytes at most": n bytes from an offset, none of them 0, and a 0 behind them unless they are 64
 pub record NameEnds (f : List ℕ) (at n : ℕ) : Type 0 where
@@ -315,13 +315,13 @@ Says bytes f (askValue k n r is x) reply =
 Says bytes f (askEntry b k w x) reply = (e : ℕ) × EntryFound f b k w e × ElementSaid f (entryAsked f e x) reply
 Says bytes f (askPad k n x) reply = (v : ℕ) × VariableFound f k n v × ElementSaid f (padAsked f v x) reply
 Says bytes f (askFile what) reply = FileSaid bytes f what reply
-Says bytes f (askDimension d) reply = RowSaid f (rDimSizesAt (gdrAt f)) (rNumDims f (gdrAt f)) d reply
-Says bytes f (askVariable k n p) reply = (v : ℕ) × VariableFound f k n v × FieldSaid f (kindAmong 3 8 k) v p reply
-Says bytes f (askAttribute n p) reply = (a : ℕ) × AttributeFound f n a × FieldSaid f 4 a p reply
-Says bytes f (askEntryField b k w p) reply = (e : ℕ) × EntryFound f b k w e × FieldSaid f (kindAmong 5 9 k) e p reply
-Says bytes f (askSize k n d) reply = (v : ℕ) × VariableFound f k n v × SizeSaid f (kindAmong 3 8 k) (layoutOf f (kindAmong 3 8 k) v) d reply
+Says bytes f (askDimension d) reply = reply ≡ rowTold f (rDimSizesAt (gdrAt f)) (rNumDims f (gdrAt f)) d
+Says bytes f (askVariable k n p) reply = (v : ℕ) × VariableFound f k n v × (reply ≡ fieldTold f (kindAmong 3 8 k) v p)
+Says bytes f (askAttribute n p) reply = (a : ℕ) × AttributeFound f n a × (reply ≡ fieldTold f 4 a p)
+Says bytes f (askEntryField b k w p) reply = (e : ℕ) × EntryFound f b k w e × (reply ≡ fieldTold f (kindAmong 5 9 k) e p)
+Says bytes f (askSize k n d) reply = (v : ℕ) × VariableFound f k n v × (reply ≡ sizeTold f (kindAmong 3 8 k) (layoutOf f (kindAmong 3 8 k) v) d)
 Says bytes f (askVariance k n d) reply =
-    (v : ℕ) × VariableFound f k n v × RowSaid f (layoutOf f (kindAmong 3 8 k) v .variances) (layoutOf f (kindAmong 3 8 k) v .count) d reply
+    (v : ℕ) × VariableFound f k n v × (reply ≡ rowTold f (layoutOf f (kindAmong 3 8 k) v .variances) (layoutOf f (kindAmong 3 8 k) v .count) d)
 Says bytes f (askLevels k n r) reply = (v : ℕ) × (i : IndexFound f k n r v) × (reply ≡ Field (pos (length (i .way .top ∷ i .way .below))))
 Says bytes f (askVariableName k n) reply = (v : ℕ) × VariableFound f k n v × NameSaid f (varNameAt v) reply
 Says bytes f (askAttributeName n) reply = (a : ℕ) × AttributeFound f n a × NameSaid f (attrNameAt a) reply

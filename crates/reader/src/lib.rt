@@ -36,7 +36,7 @@ fn show_value(r: Read, kind: &mut u64, bits: &mut u64, offset: &mut u64) -> i32
             *offset = a.offset;
             0
         }
-        Read::Refused(refusal) => refusals::number_of(refusal) as i32,
+        Read::Refused(refusal) => refusals::number_of(refusal),
     }
 }
 
@@ -49,7 +49,7 @@ fn show_field(r: Field, number: &mut i32) -> i32
             *number = x;
             0
         }
-        Field::Refused(refusal) => refusals::number_of(refusal) as i32,
+        Field::Refused(refusal) => refusals::number_of(refusal),
     }
 }
 
@@ -66,7 +66,7 @@ fn show_name(r: Name, offset: &mut u64, length: &mut u64) -> i32
             *length = n;
             0
         }
-        Name::Nameless(refusal) => refusals::number_of(refusal) as i32,
+        Name::Nameless(refusal) => refusals::number_of(refusal),
     }
 }
 

@@ -1,8 +1,6 @@
-use Prim.Native.Nat.{_<_}
-use native.Mathlib.Omega.{arith}
-use mir.Facts.{toZ-pos}
-use mir.Val.{Fits}
-use mir.Syntax.{w8, w32}
+use mir.Facts.{toZ-ofZ}
+use mir.Val.{SFits}
+use mir.Syntax.{w32}
 use borrow.Author.Needs.{needs}
 use Rattle.reader.proofs.show_value.Statement.{statement}
 use Rattle.reader.proofs.show_value.Tie as tie
@@ -19,20 +17,15 @@ enum-known-r-2 c = search needs
 number-of-requires : tie.Need-number-of-requires
 number-of-requires c κs = search needs
 
-cast-result : tie.Need-cast-result
-cast-result c = search needs
-
 returns : tie.Need-returns
 returns c = rw (c .before .before .r .given .1, c .kind-number .ensures)
 
 returns-2 : tie.Need-returns-2
 returns-2 c =
-    let told = c .number-of in
-    let s : Fits w8 (told .result) = record { fits = told .ok } in
-    let small : told .result < 2147483648 = omega (arith, s .fits) in
-    rw (c .before .before .r2 .given .1, toZ-pos w32 small, told .ensures)
+    let s : SFits w32 (c .number-of .result) = record { sfits = c .number-of .ok } in
+    rw (c .before .before .r2 .given .1, toZ-ofZ {w = w32} s, c .number-of .ensures)
 
 pub show-value-spec : {M : Type 1} → statement M
 show-value-spec =
     tie.close
-    (tie.spec enum-known-r kind-number-requires enum-known-r-2 number-of-requires cast-result returns returns-2)
+    (tie.spec enum-known-r kind-number-requires enum-known-r-2 number-of-requires returns returns-2)
