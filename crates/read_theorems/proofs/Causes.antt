@@ -35,7 +35,7 @@ use Rattle.lookup.specs.declared.indexes.Index.{Index}
 use Rattle.lookup.specs.declared.indexes.Index.the-variants.{Covered, Halted}
 use Rattle.lookup.specs.declared.indexes.Values.{Values}
 use Rattle.lookup.specs.declared.indexes.Values.the-variants.{Record, Refused as NoRecord}
-use Rattle.lookup.proofs.Kept.{lands-lies}
+use Rattle.lookup.proofs.Kept.{lies-lands}
 use Rattle.lookup.proofs.Sought.{First, Finds, Listed, place-listed, ToVariable, ToEntry, sought-first}
 use Rattle.lookup.proofs.Stops.{Refuses, variables-over, entries-over}
 use Rattle.lookup.proofs.Chains.{ToRecord, Leads, record-found}
@@ -52,6 +52,7 @@ use Rattle.read_theorems.specs.Limit.{answerOn, noneMet, metBehind}
 use Rattle.read_theorems.specs.Causes.{ListOver, ListBroken, NotListed, NumberBroken, DownTo, ValuesMet, ValuesBroken, SubjectMissing, NumberMissing, InIndexGap, SubjectBroken, IndexBroken, RecordBroken, Cause, RefusedForCause}
 use Rattle.read_theorems.proofs.Shown.{ordered, found-variable, found-attribute, Located, locate, bytes-are, found-fault, in-record, in-entry, in-pad, answers-say}
 use Rattle.read_theorems.proofs.Limit.{answer-within, answer-stopped, two-more}
+use Rattle.read_theorems.proofs.WhatIsMet.{lands-lies}
 use Rattle.read_theorems.proofs.RefusingWays.{way}
 use Rattle.read_theorems.proofs.CauseLists.{WayEnds, StopsFor, list-ends, place-ends}
 use Rattle.read_theorems.proofs.CauseIndexes.{IndexEnds, indexRecords, lowest-ends}
@@ -76,10 +77,10 @@ module _ (f : List ℕ) (t v bytes : ℕ) (size : bytes ≡ recordBytes f v (lay
   values-kept s h =
       let o = namedBy f s in
       let n = lastOf f s - firstOf f s + 1 in
-      let lies = lands-lies f 7 o (h .lands) in
       let is : sizeAt f o ≡ 8 + n * bytes = h .size ∙ ap (λ (m : ℕ). 8 + n * m) (sym size) in
+      let lies = lands-lies f 7 o (h .lands) (omega (arith, is)) in
       let rule = vvr-law f o n bytes .1 (record { reach = record { begins = omega (arith, lies .begins); holds = omega (arith, is); lies = lies .begins }; right = eq-eqb (sizeAt f o) (8 + n * bytes) is }) in
-      rw (h .lands, rule)
+      rw (lies-lands f 7 o lies, rule)
 
   values-broken : (d : Entry) (s : Slot) → d ≡ slotEntry f s → valuesKept d ≡ false → ValuesMet f t v s → ⊥
   values-broken d s is e h = true≢false (sym (values-kept s h) ∙ subst (λ (d : Entry). valuesKept d ≡ false) is e)

@@ -33,7 +33,7 @@ use Rattle.read_theorems.proofs.Shown.{pad-behind}
 
 module _ (f : List ℕ) where
   -- a record that lands, and is as long as the bytes of its fields
-  lands-lies : (t o : ℕ) → Lands f t o → 8 ≤ sizeAt f o → Lies f t o
+  pub lands-lies : (t o : ℕ) → Lands f t o → 8 ≤ sizeAt f o → Lies f t o
   lands-lies t o l w = record { placed = l .start; begins = omega (arith, l .inside, w, end-is f); typed = l .typed; inside = omega (arith, l .inside, end-is f) }
 
   lands-reach : (t o n : ℕ) → Lands f t o → 4 ≤ n → n ≤ sizeAt f o → Reach f o n

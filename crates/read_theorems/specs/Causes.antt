@@ -17,14 +17,14 @@ use Rattle.records.specs.Tree.{Slot, usedEntries, firstOf, lastOf, namedBy, lev
 use Rattle.variables.specs.Vdr.{layoutOf, recordBytes}
 use Rattle.demands.specs.Acceptance.{_∈_, Each, Linked}
 use Rattle.lookup.specs.Entries.{records}
-use Rattle.lookup.specs.Lists.{opened, allowance, landsOn, meets, wantedAt, headOfList, headOfEntries, ofKinds, kindAmong}
+use Rattle.lookup.specs.Lists.{opened, allowance, meets, wantedAt, headOfList, headOfEntries, ofKinds, kindAmong}
 use Rattle.lookup.specs.Indexes.{recordThere, recordRead, indexMet, lowerMet}
 use Rattle.lookup.specs.declared.refusals.Refusal.{Refusal}
 use Rattle.lookup.specs.declared.refusals.Refusal.the-variants.{Breach, NoSuch, NoNumber, Gap, OutOfRange, Operand}
 use Rattle.lookup.specs.declared.lists.Wanted.{Wanted}
 use Rattle.lookup.specs.declared.lists.Wanted.the-variants.{Place}
 use Rattle.reader.specs.Questions.{Question, askValue, askEntry, askPad, askFile, askDimension, askVariable, askAttribute, askEntryField, askSize, askVariance, askLevels, askVariableName, askAttributeName, Refused, answerTo}
-use Rattle.read_theorems.specs.Reading.{nthRecord, Kept, CoveredBy, Rise, FirstCovering, VariableFound, AttributeFound, Says}
+use Rattle.read_theorems.specs.Reading.{nthRecord, Lands, Kept, CoveredBy, Rise, FirstCovering, VariableFound, AttributeFound, Says}
 use Rattle.read_theorems.specs.Refusing.{Subject, TheFile, AVariable, AnAttribute, AnEntry, ARecord, about}
 use Rattle.read_theorems.specs.Limit.{metFor}
 
@@ -117,7 +117,7 @@ LowerBroken f r n s =
 
 -- 13.2: "then the VVR": the one that s names is of the VDR at v, of type t; 5.17: "Size is 8 + (Last - First + 1) × record bytes"
 pub record ValuesMet (f : List ℕ) (t v : ℕ) (s : Slot) : Type 0 where
-  pub lands : landsOn f 7 (namedBy f s) ≡ true
+  pub lands : Lands f 7 (namedBy f s)
   pub size : sizeAt f (namedBy f s) ≡ 8 + (lastOf f s - firstOf f s + 1) * recordBytes f v (layoutOf f t v)
 
 abbrev pub ValuesBroken : List ℕ → ℕ → ℕ → ℕ → Slot → Type 0
