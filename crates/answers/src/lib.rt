@@ -1,4 +1,6 @@
 // The answers to questions for values: of a variable, of an entry, of a pad value.
+#![tactic(auto)]
+
 ghost use Rattle.std.specs.Prelude.{◌≡◌, true, ◌+◌, ◌≤◌, ◌<◌, length};
 ghost use Rattle.format.specs.Fields.{nat_or};
 ghost use Rattle.values.specs.Values.{decoded_of};

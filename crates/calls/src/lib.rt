@@ -1,3 +1,5 @@
 // The check's calls for C: a fresh state, a grant of steps, and a round over a list of jobs.
+#![tactic(auto)]
+
 pub mod checks;
 pub mod rounds;

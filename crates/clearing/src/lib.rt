@@ -1,4 +1,6 @@
 // The clearing of marks as a call for C, for the benchmark alone.
+#![tactic(auto)]
+
 ghost use Rattle.std.specs.Prelude.{◌≡◌, ◌+◌, ◌≤◌, length};
 ghost use Rattle.marks.specs.Marks.{cleared};
 ghost use Rattle.clearing.specs.Clearing.{reached};

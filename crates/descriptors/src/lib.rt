@@ -1,4 +1,6 @@
 // Descriptors: what the CDR, the GDR, a VDR, an ADR and an AEDR say.
+#![tactic(auto)]
+
 ghost use Rattle.std.specs.Prelude.{◌≡◌, ◌+◌, ◌*◌, ◌≤◌, ◌<◌, length};
 ghost use Rattle.records.specs.Opening.{gdr_at, body_of};
 ghost use Rattle.lookup.specs.Bounds.{LevelsFit};

@@ -1,5 +1,7 @@
 // Epochs as dates of the proleptic Gregorian calendar: calls for C. A call answers 0 and sets the caller's numbers, or answers 27 and leaves
 // them alone.
+#![tactic(auto)]
+
 ghost use Rattle.std.specs.Prelude.{◌≡◌};
 ghost use Rattle.epochs.specs.Epochs.{count_of, count_from};
 ghost use Rattle.epochs.specs.Shown.{shown_date, date_shown, shown_double, epoch_shown, difference_shown};

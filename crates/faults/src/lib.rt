@@ -1,3 +1,5 @@
 // Where a refusal lies: the record at fault.
+#![tactic(auto)]
+
 pub mod fault;
 pub mod holder;

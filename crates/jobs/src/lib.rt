@@ -1,4 +1,6 @@
 // Files by turns: the parts of two areas that are a job's own, a job's turn, and a round over eight rows by value.
+#![tactic(auto)]
+
 pub mod parts;
 pub mod rows;
 pub mod turns;

@@ -1,4 +1,6 @@
 // Marks: what the sweep writes, and what the walk's last step looks at.
+#![tactic(auto)]
+
 ghost use Rattle.std.specs.Prelude.{◌≡◌, ◌+◌, ◌*◌, ◌≤◌, ◌<◌, length, true};
 ghost use Rattle.marks.specs.Marks.{cleared, marked, start_at, unclaimed_at, followed_at, found, left_of};
 ghost use Rattle.records.specs.Rules.{size_at};

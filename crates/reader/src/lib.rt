@@ -1,4 +1,6 @@
 // The reader's calls for C. A call answers 0 and sets the caller's numbers, or answers the number of a refusal and leaves them alone.
+#![tactic(auto)]
+
 ghost use Rattle.std.specs.Prelude.{◌≡◌};
 ghost use Rattle.values.specs.Values.{kind_of};
 ghost use Rattle.lookup.specs.declared.lists.Wanted.TheVariants.{Place, Number};

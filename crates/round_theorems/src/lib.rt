@@ -1,1 +1,2 @@
 // What rounds promise of every job, as theorems; no code.
+#![tactic(auto)]

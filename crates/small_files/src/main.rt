@@ -1,5 +1,7 @@
 // The small files: A to I, H with two levels and with nine, and H with padding, checked in one grant of steps and in grants of one
 // step; what is read of J to M.
+#![tactic(auto)]
+
 mod line;
 mod parts;
 mod reads;

@@ -1,3 +1,5 @@
 // The state of a check, and the numbers that it is saved as.
+#![tactic(auto)]
+
 pub mod saved;
 pub mod state;

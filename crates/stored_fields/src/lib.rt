@@ -1,4 +1,6 @@
 // Control fields stored, for the programs that make their own files.
+#![tactic(auto)]
+
 ghost use Rattle.std.specs.Prelude.{◌≡◌};
 ghost use Rattle.stored_fields.specs.Stored.{stored, stored_all};
 

@@ -1,4 +1,6 @@
 // Variables: the rule of a VDR, record bytes, and the place of an element.
+#![tactic(auto)]
+
 pub mod limit;
 pub mod place;
 pub mod vdr;

@@ -1,4 +1,6 @@
 // VAX floats as doubles, by whole numbers alone.
+#![tactic(auto)]
+
 ghost use Rattle.std.specs.Prelude.{◌≡◌, ◌+◌, ◌-◌, ◌*◌, ◌/◌, ◌%◌, ◌^◌, ◌≤◌, ◌<◌, length};
 ghost use Rattle.vax.specs.Layouts.{ffloat, dfloat, gfloat};
 ghost use Rattle.vax.specs.Rounding.{nearest_of, kept_of, size_of, vax_at};

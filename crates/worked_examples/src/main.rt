@@ -1,4 +1,6 @@
 // The worked examples of the format description, run: the VXR of section 2.7 and the tables of chapter 4.
+#![tactic(auto)]
+
 mod tables;
 mod vxr;
 
