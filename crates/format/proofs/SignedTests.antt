@@ -42,9 +42,9 @@ not_negative : (x : ℤ) → lt_z x (pos 0) ≡ false → T (non_neg x)
 not_negative (pos n) e = tt
 not_negative (negsuc n) e = absurd (subst T e tt)
 
-nat_abs : (other : ℕ) (x : ℤ) → lt_z x (pos 0) ≡ false → nat_abs x ≡ nat_or other x
-nat_abs other (pos n) e = refl
-nat_abs other (negsuc n) e = absurd (subst T e tt)
+nat_abs_is : (other : ℕ) (x : ℤ) → lt_z x (pos 0) ≡ false → nat_abs x ≡ nat_or other x
+nat_abs_is other (pos n) e = refl
+nat_abs_is other (negsuc n) e = absurd (subst T e tt)
 
 nat_other : (other : ℕ) (x : ℤ) → lt_z x (pos 0) ≡ true → other ≡ nat_or other x
 nat_other other (pos n) e = absurd (omega (arith, ltb-true n 0 e))
@@ -55,7 +55,7 @@ module _ (w : Width) (other : ℕ) (x : ℤ) (f : SFits w x) where
   cast_nat t e = rw (to_z-of_z {w = w} f) (not_negative x (rw (to_z-of_z {w = w} f) at e), Fits-nat_abs {w = w} {w' = w} t f)
 
   pub is_nat : lt_z (to_z w (of_z w x)) (pos 0) ≡ false → nat_abs (to_z w (of_z w x)) ≡ nat_or other x
-  is_nat e = rw (to_z-of_z {w = w} f) (nat_abs other x (rw (to_z-of_z {w = w} f) at e))
+  is_nat e = rw (to_z-of_z {w = w} f) (nat_abs_is other x (rw (to_z-of_z {w = w} f) at e))
 
   pub is_other : lt_z (to_z w (of_z w x)) (pos 0) ≡ true → other ≡ nat_or other x
   is_other e = nat_other other x (rw (to_z-of_z {w = w} f) at e)
