@@ -29,6 +29,8 @@ tests c r e = let p = both (eqb r 0) (leb c last_epoch) e in (eqb-true r 0 p.0, 
 module _ (n : ℕ) (h : n ≤ last_epoch) where
   pub value_counts : (x : Float) → HasValue x false n 1 → count_of x ≡ Whole n
   unfolding count_of
+  value_counts nan v = absurd v
+  value_counts (inf s) v = absurd v
   value_counts (fin true m e) v = absurd (true≢false v.0)
   value_counts (fin false m e) v =
       let q : m * up e ≡ n * down e = omega (arith, v.1) in
