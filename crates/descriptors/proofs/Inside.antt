@@ -8,7 +8,6 @@ use lib.IntN.{ℤ, pos}
 use lib.ListN.{length}
 use Rattle.format.specs.Fields.{end_of, eq_z}
 use Rattle.format.proofs.FieldRanges.{end_is}
-use Rattle.format.proofs.FieldRanges.{end_is}
 use Rattle.records.specs.Opening.{body_of}
 use Rattle.variables.specs.Vdr.{num_dims_at, layout_at, layout_of, variable_of}
 use Rattle.variables.proofs.Rule.{vdr_reads, of_variable}
