@@ -12,7 +12,6 @@ use borrow.Author.Tests.{eqb-true, eq-eqb}
 use Rattle.format.specs.Fields.{end_of}
 use Rattle.format.proofs.Tests.{not_both}
 use Rattle.format.proofs.FieldRanges.{end_is}
-use Rattle.format.proofs.FieldRanges.{end_is}
 use Rattle.records.specs.Rules.{size_at}
 use Rattle.lookup.specs.Lists.{allowance}
 use Rattle.demands.specs.Acceptance.{variable_offsets, attribute_offsets}
