@@ -5,14 +5,7 @@ use Prim.Native.Nat.{ℕ, ◌+◌, ◌*◌, ◌/◌, ◌%◌, ◌<◌}
 use mathlib.Core.Path.{◌≡◌, sym, ap, ◌∙◌}
 use lib.Dec.{ltb, ltb→lt}
 use borrow.Author.Rules.{rules}
-use Rattle.format.proofs.encodings.encoding_of.Statement.{statement}
-use Rattle.format.proofs.encodings.encoding_of.Tie as tie
-
-array-read-number : tie.Need-array-read-number
-array-read-number c = search rules
-
-number-requires : tie.Need-number-requires
-number-requires c κs = search rules
+use Rattle.format.proofs.encodings.encoding_of.Goals as goal
 
 -- a row of the table
 abbrev row_of : ℕ → ℕ
@@ -27,15 +20,12 @@ parted e =
     ap (λ (n : ℕ). stores n (row_of e / 16)) (low_column (encoding_of e).float (encoding_of e).order (order_small e))
     ∙ ap (stores (encoding_of e).order) (high_column (encoding_of e).float (encoding_of e).order (order_small e))
 
-returns : tie.Need-returns
+pub returns-then-e-lt17 : goal.returns-then-e-lt17
 unfolding encoding_of
-returns c =
-    let e = c.before.before.args.e in
-    ap (λ (n : ℕ). stores (n % 16) (n / 16)) (c.number.ensures ∙ tabled 17 row_of 0 e (search rules)) ∙ parted e
+returns-then-e-lt17 c =
+    let e = c.args.e in
+    ap (λ (n : ℕ). stores (n % 16) (n / 16)) (c.number-row.ensures ∙ tabled 17 row_of 0 e (search rules)) ∙ parted e
 
-returns-2 : tie.Need-returns-2
+pub returns-else-e-lt17 : goal.returns-else-e-lt17
 unfolding encoding_of
-returns-2 c = sym (lookup_above (stores 0 0) 17 encodings c.before.args.e tt c.if1.false)
-
-pub encoding-of-spec : {M : Type 1} → statement M
-encoding-of-spec = tie.close (tie.spec array-read-number number-requires returns returns-2)
+returns-else-e-lt17 c = sym (lookup_above (stores 0 0) 17 encodings c.args.e tt c.if-e-lt17.false)
