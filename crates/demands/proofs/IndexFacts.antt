@@ -20,7 +20,7 @@ use Rattle.walk.specs.Walk.{field_number, chain_tally, covers, values_number, lo
 use Rattle.walk.specs.Levels.{most_of}
 use Rattle.demands.specs.Acceptance.{◌∈◌, Each, Consecutive, last_or0, index_offsets, ValuesRight, RangeRight, EntryRight, IndexRight}
 use Rattle.format.proofs.Tests.{both, or_left, cond_keeps}
-use Rattle.format.specs.Numbers.{first, unless}
+use Rattle.format.specs.Numbers.{unless}
 use Rattle.format.proofs.Numbers.{unless_zero, zeros}
 use Rattle.format.proofs.FieldRanges.{nat_small}
 use Rattle.records.proofs.Judged.{Reach, reach_makes}

@@ -171,7 +171,7 @@ module _ (f : List ℕ) (q : ℕ) (w : Window) (k : ℕ) (runs : NotRefused f q 
 
 pub fresh_jobs : FreshJobs
 fresh_jobs f q w k runs h begun = record {
-  state-is = λ r. state f q w k runs h begun r;
+  state_is = λ r. state f q w k runs h begun r;
   marks_are = λ r. ap (λ (z : Own). z.marks) (alone_is f q w runs k r h) ∙ (steps (own_of f w k) q begun r).marks;
   answer_is = λ r. answer f q w k runs h begun r;
   location_is = λ r x y. told (own_of f w k) q (own_of f (rounds_of f q w r) k).state r (state f q w k runs h begun r) x y;

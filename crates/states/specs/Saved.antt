@@ -1,5 +1,5 @@
 -- The saved state: thirty-four numbers, their ranges, load and save; docs/STATE.md gives them in words. Assumes nothing.
-use Rattle.std.specs.Prelude.{ℕ, suc, ◌+◌, ◌-◌, Bool, true, false, cond, ◌&&◌, ◌||◌, List, [], ◌∷◌, ◌++◌, length, get_or, leb, eqb}
+use Rattle.std.specs.Prelude.{ℕ, suc, ◌+◌, ◌-◌, Bool, true, false, cond, ◌&&◌, ◌||◌, List, [], ◌∷◌, ◌++◌, get_or, leb, eqb}
 use Rattle.std.proofs.Math.Option.{Option, none, some}
 use Rattle.walk.specs.Ranges.{offset, Row, row_of, ranges_of, level_ranges, number_of, in_range, all_in}
 use Rattle.walk.specs.Levels.{no_levels, indexed}
