@@ -13,7 +13,6 @@ use borrow.Author.Tests.{ltb-true, ltb-false, eqb-true, eqb-false}
 use Rattle.format.specs.Fields.{end_of}
 use Rattle.format.specs.Numbers.{first, unless}
 use Rattle.format.proofs.FieldRanges.{end_is}
-use Rattle.format.proofs.FieldRanges.{end_is}
 use Rattle.records.specs.Rules.{size_at}
 use Rattle.records.specs.Opening.{too_long, body_of}
 use Rattle.records.specs.Tiles.{tile}
