@@ -22,7 +22,7 @@ use variables::vdr::Variable;
 use variables::{place, vdr};
 
 // A value, or a refusal.
-#[derive(Drop)]
+#[derive(Clone, Copy)]
 pub enum Read {
     Value(Answer),
     Refused(Refusal),

@@ -16,7 +16,7 @@ use walk::positions::{Levels, Step, Walk};
 use walk::{known, levels};
 
 // Where a run stands, and how many steps it made.
-#[derive(Drop)]
+#[derive(Clone, Copy)]
 pub struct Ran {
     pub state: State,
     pub made: u64,

@@ -17,21 +17,21 @@ use variables::vdr::Layout;
 use variables::{place, vdr};
 
 // A control field, or a refusal.
-#[derive(Drop)]
+#[derive(Clone, Copy)]
 pub enum Field {
     Is(i32),
     Refused(Refusal),
 }
 
 // The dimensions of a variable, or a refusal.
-#[derive(Drop)]
+#[derive(Clone, Copy)]
 pub enum Dimensions {
     Are(Layout),
     Unknown(Refusal),
 }
 
 // Where a name stands and its length, or a refusal.
-#[derive(Drop)]
+#[derive(Clone, Copy)]
 pub enum Name {
     Bytes { offset: u64, length: u64 },
     Nameless(Refusal),

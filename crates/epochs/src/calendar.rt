@@ -4,7 +4,7 @@ ghost use Rattle.epochs.specs.Calendar.{leap, month_days, days_before_month, day
 ghost use Rattle.epochs.specs.Bounds.{InYear, InMonth, DateFits};
 
 // A date: the year, the month from 1 to 12, the day of the month from 1.
-#[derive(Drop)]
+#[derive(Clone, Copy)]
 pub struct Date {
     pub year: u64,
     pub month: u64,
@@ -12,7 +12,7 @@ pub struct Date {
 }
 
 // A year and a day of it, from 0.
-#[derive(Drop)]
+#[derive(Clone, Copy)]
 pub struct YearDay {
     pub year: u64,
     pub day: u64,

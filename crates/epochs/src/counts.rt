@@ -6,7 +6,7 @@ ghost use Rattle.epochs.specs.Epochs.{count_of, is_epoch, is_moment, count_momen
 use crate::calendar;
 
 // A whole number of milliseconds of the years 0 to 9999, or that there is none.
-#[derive(Drop)]
+#[derive(Clone, Copy)]
 pub enum Count {
     Whole(u64),
     NoEpoch,

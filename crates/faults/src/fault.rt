@@ -4,7 +4,7 @@ ghost use Rattle.faults.specs.Fault.{none_involved, sweeping, ending, claiming, 
 
 // The records that a step involves, each by its offset: the one that holds the link, the one that the link leads to, the one that is
 // swept, the first that no link claimed. 0 for one that it does not involve.
-#[derive(Drop)]
+#[derive(Clone, Copy)]
 pub struct Involved {
     pub holder: u32,
     pub target: u32,

@@ -6,7 +6,7 @@ use crate::types;
 
 // The byte order: 1 big-endian, 2 little-endian, 0 for a number that is no encoding; and the float kind:
 // 1 IEEE 754, 2 VAX with D_FLOAT doubles, 3 VAX with G_FLOAT doubles.
-#[derive(Drop)]
+#[derive(Clone, Copy)]
 pub struct Encoding {
     pub order: u32,
     pub float: u32,

@@ -4,7 +4,7 @@ ghost use Rattle.format.specs.Types.{type_of};
 
 // The bytes of one element, 0 for a number that is no data type; and the kind of its value:
 // 0 signed, 1 unsigned, 2 single, 3 double, 4 character code.
-#[derive(Drop)]
+#[derive(Clone, Copy)]
 pub struct DataType {
     pub size: u32,
     pub kind: u32,

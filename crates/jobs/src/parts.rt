@@ -5,7 +5,7 @@ ghost use Rattle.jobs.specs.Gathered.{none_gathered, parts_in, few_of};
 
 // A part of an area: where it begins, and its length.
 #[repr(C)]
-#[derive(Drop)]
+#[derive(Clone, Copy)]
 pub struct Part {
     pub from: usize,
     pub len: usize,
@@ -13,14 +13,14 @@ pub struct Part {
 
 // A job's part of the file area and of the marks area.
 #[repr(C)]
-#[derive(Drop)]
+#[derive(Clone, Copy)]
 pub struct Parts {
     pub file: Part,
     pub marks: Part,
 }
 
 // The parts of eight jobs.
-#[derive(Drop)]
+#[derive(Clone, Copy)]
 pub struct Gathered {
     pub row: [Parts; 8],
 }

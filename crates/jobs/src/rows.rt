@@ -9,13 +9,13 @@ use crate::turns::Job;
 use crate::{parts, turns};
 
 // Eight rows.
-#[derive(Drop)]
+#[derive(Clone, Copy)]
 pub struct Rows {
     pub row: [Job; 8],
 }
 
 // What a round over eight rows gives back.
-#[derive(Drop)]
+#[derive(Clone, Copy)]
 pub struct Round {
     pub answer: i32,
     pub rows: Rows,

@@ -8,7 +8,7 @@ use states::state;
 
 // A row: the owner, the last answer, the parts of the areas that are the job's own, and its saved state.
 #[repr(C)]
-#[derive(Drop)]
+#[derive(Clone, Copy)]
 pub struct Job {
     pub owner: u32,
     pub answer: i32,

@@ -13,7 +13,7 @@ use records::index::Entry;
 use records::{index, layout};
 
 // What the used entries of a VXR say of a record: the one that covers it; none, and the last Last + 1; or a breach.
-#[derive(Drop)]
+#[derive(Clone, Copy)]
 pub enum Scan {
     Covering(Entry),
     Passed(u32),
@@ -21,28 +21,28 @@ pub enum Scan {
 }
 
 // Where an index chain ends: at the entry that covers a record, with how many more records may be met; or at a refusal.
-#[derive(Drop)]
+#[derive(Clone, Copy)]
 pub enum Index {
     Covered { entry: Entry, left: u32 },
     Halted(Refusal),
 }
 
 // Where a record's values begin, or a refusal.
-#[derive(Drop)]
+#[derive(Clone, Copy)]
 pub enum Values {
     Record(u64),
     Refused(Refusal),
 }
 
 // How many levels an index has on the way to a record, or a refusal.
-#[derive(Drop)]
+#[derive(Clone, Copy)]
 pub enum Levels {
     Are(u32),
     Unknown(Refusal),
 }
 
 // The record number that is looked up, 0 where record variance is clear; or none.
-#[derive(Drop)]
+#[derive(Clone, Copy)]
 pub enum RecordNumber {
     There(u32),
     Missing,

@@ -12,21 +12,21 @@ use records::{attributes, layout, opening};
 use variables::vdr;
 
 // Which record of a list is wanted: the one at a place, or the first of an entry number.
-#[derive(Drop)]
+#[derive(Clone, Copy)]
 pub enum Wanted {
     Place(u64),
     Number(i64),
 }
 
 // Where a way ends: at a record, with how many more may be met; or at a refusal.
-#[derive(Drop)]
+#[derive(Clone, Copy)]
 pub enum Way {
     Found { at: u32, left: u32 },
     Stopped(Refusal),
 }
 
 // The record type that is asked for, or a refusal.
-#[derive(Drop)]
+#[derive(Clone, Copy)]
 pub enum Asked {
     Kind(u32),
     Refused(Refusal),

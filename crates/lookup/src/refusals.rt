@@ -3,7 +3,7 @@ ghost use Rattle.std.specs.Prelude.{◌≡◌, pos};
 ghost use Rattle.lookup.specs.Refusals.{refusal_number};
 
 // In the order in which the first of several is given.
-#[derive(Drop)]
+#[derive(Clone, Copy)]
 pub enum Refusal {
     Breach,
     NoSuch,

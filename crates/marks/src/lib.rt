@@ -120,7 +120,7 @@ fn is_followed(f: &[u8], o: usize) -> bool
 }
 
 // What the walk's last step finds, a number, and the record that it finds it at.
-#[derive(Drop)]
+#[derive(Clone, Copy)]
 pub struct Found {
     pub number: u32,
     pub at: u32,

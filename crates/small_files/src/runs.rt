@@ -3,7 +3,7 @@ use calls::checks;
 use states::state;
 
 // What a check came to: -1 or its verdict, the location of a refusal, and the steps it made.
-#[derive(Drop)]
+#[derive(Clone, Copy)]
 pub(crate) struct Run {
     pub(crate) verdict: i32,
     pub(crate) location: u64,

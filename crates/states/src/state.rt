@@ -5,7 +5,7 @@ use walk::positions::{Levels, Walk};
 pub const STATE_LENGTH: usize = 34;
 
 // The stage of a check.
-#[derive(Drop)]
+#[derive(Clone, Copy)]
 pub enum Stage {
     // Not begun.
     Fresh,
@@ -20,7 +20,7 @@ pub enum Stage {
 }
 
 // A check: the length of the file that the opening noted, 0 before it, and the stage.
-#[derive(Drop)]
+#[derive(Clone, Copy)]
 pub struct State {
     pub length: u32,
     pub stage: Stage,

@@ -11,7 +11,7 @@ use format::{bytes, encodings, fields, signed, types};
 use vax::Vax;
 
 // A value: one case for each kind.
-#[derive(Drop)]
+#[derive(Clone, Copy)]
 pub enum Value {
     Signed(i32),
     Unsigned(u32),
@@ -22,7 +22,7 @@ pub enum Value {
 
 // A value, its bits, and the file offset that it was read from. The bits of a signed value are
 // sign-extended; those of a float are its own, a NaN's too, and those of a VAX float are the double's.
-#[derive(Drop)]
+#[derive(Clone, Copy)]
 pub struct Answer {
     pub value: Value,
     pub bits: u64,
@@ -30,7 +30,7 @@ pub struct Answer {
 }
 
 // What is at an offset: a value, the reserved operand of VAX floats, or no element.
-#[derive(Drop)]
+#[derive(Clone, Copy)]
 pub enum Decoded {
     Given(Answer),
     Reserved,

@@ -10,7 +10,7 @@ use crate::vdr::{Layout, Variable};
 use format::fields;
 
 // The place that indices give among the values of a record, or that they give none.
-#[derive(Drop)]
+#[derive(Clone, Copy)]
 pub enum Place {
     At(u64),
     Wrong,

@@ -10,7 +10,7 @@ use format::{bytes, fields};
 use records::{attributes, layout, rules};
 
 // The dimensions of a variable: how many, and where their sizes and variances stand.
-#[derive(Drop)]
+#[derive(Clone, Copy)]
 pub struct Layout {
     pub count: usize,
     pub sizes: usize,
@@ -18,7 +18,7 @@ pub struct Layout {
 }
 
 // A VDR: the number of its rule, and where that is 0 its dimensions, the bytes of a value and the bytes of a record.
-#[derive(Drop)]
+#[derive(Clone, Copy)]
 pub struct Variable {
     pub fault: u32,
     pub dimensions: Layout,

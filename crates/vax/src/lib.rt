@@ -8,7 +8,7 @@ ghost use Rattle.vax.specs.Words.{vax_in, word_at, pair_at, four_at};
 ghost use Rattle.vax.specs.Bounds.{Bounds, DigitsFit};
 
 // A VAX float: the bits of the nearest double, or the reserved operand.
-#[derive(Drop)]
+#[derive(Clone, Copy)]
 pub enum Vax {
     Given(u64),
     Reserved,

@@ -2,7 +2,7 @@
 
 // The variable whose index is walked: its kind, its VDR, its place in the list of its kind, and the greatest MaxRec + 1 of
 // that list up to it. Kinds are record types.
-#[derive(Drop)]
+#[derive(Clone, Copy)]
 pub struct Var {
     pub kind: u32,
     pub vdr: u32,
@@ -11,7 +11,7 @@ pub struct Var {
 }
 
 // The link that is taken next.
-#[derive(Drop)]
+#[derive(Clone, Copy)]
 pub enum Walk {
     // The CDR's link to the GDR.
     Start,
@@ -63,7 +63,7 @@ pub enum Walk {
 
 // An index record one of whose entries led down: the record, the entry after that one, that one's Last. All are 0 where there is none;
 // the entry after one is never 0.
-#[derive(Drop)]
+#[derive(Clone, Copy)]
 pub struct Level {
     pub vxr: u32,
     pub next: u32,
@@ -71,7 +71,7 @@ pub struct Level {
 }
 
 // The index records above the one that is walked, the nearest first.
-#[derive(Drop)]
+#[derive(Clone, Copy)]
 pub struct Levels {
     pub a: Level,
     pub b: Level,
@@ -83,7 +83,7 @@ pub struct Levels {
 }
 
 // Where a link leads.
-#[derive(Drop)]
+#[derive(Clone, Copy)]
 pub enum Link {
     // The file ends before it.
     Past,
@@ -94,7 +94,7 @@ pub enum Link {
 }
 
 // What a step of the walk finds, whatever the marks say. Numbers are refusals, 0 for none. Where the walk goes on comes first in each case.
-#[derive(Drop)]
+#[derive(Clone, Copy)]
 pub enum Step {
     // A zero link that ends a list: where the walk goes on, and the number.
     Over {
