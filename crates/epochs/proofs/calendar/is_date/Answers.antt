@@ -1,0 +1,9 @@
+use Rattle.epochs.proofs.Dates.{date_test}
+use Rattle.epochs.proofs.calendar.is_date.Goals as goal
+
+pub returns : goal.returns
+returns c =
+    let a = c.args in
+    let l = c.is_leap in
+    let k = c.month_days in
+    date_test a.y a.m a.d l.result k.result k.ensures l.ensures
