@@ -1,0 +1,27 @@
+use mathlib.Core.Path.{◌∙◌}
+use native.Mathlib.Omega.{arith}
+use Rattle.walk.proofs.Leads.{led, led_small, step_over, step_past, step_refused, step_taken}
+use Rattle.walk.proofs.attrs.entries_step.Goals as goal
+
+pub returns-then-late-ne0 : goal.returns-then-late-ne0
+returns-then-late-ne0 c =
+    c.refused.ensures ∙ step_refused _ _ _ _ _ _ (led _ _ _ c.link_from-l.ensures c.in-To.is)
+    c.type_number-typed.ensures c.entry_number-late.ensures.0 c.if-late-ne0.true
+
+pub overflow_add-at : goal.overflow_add-at
+overflow_add-at c = omega (arith, led_small _ _ _ c.link_from-l.ensures _ c.in-To.is)
+
+pub after_at-requires : goal.after_at-requires
+after_at-requires c = omega (arith, c.entry_number-late.ensures.1 c.if-late-ne0.false)
+
+pub returns-in-Past : goal.returns-in-Past
+returns-in-Past c = step_past _ _ _ (led _ _ _ c.link_from-l.ensures c.in-Past.is)
+
+pub returns-in-Zero : goal.returns-in-Zero
+returns-in-Zero c = c.entries_over.ensures ∙ step_over _ _ _ (led _ _ _ c.link_from-l.ensures c.in-Zero.is)
+
+pub returns-else-late-ne0 : goal.returns-else-late-ne0
+returns-else-late-ne0 c =
+    c.taken.ensures ∙ step_taken _ _ _ _ _ _ (led _ _ _ c.link_from-l.ensures c.in-To.is)
+    c.type_number-typed.ensures c.entry_number-late.ensures.0 c.if-late-ne0.false _
+    (rw (c.one_more.ensures, c.greater.ensures, c.after_at.ensures.0))

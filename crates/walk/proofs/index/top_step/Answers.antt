@@ -1,0 +1,24 @@
+use mathlib.Core.Path.{◌∙◌}
+use native.Mathlib.Omega.{arith}
+use Rattle.walk.proofs.Leads.{led, led_small, step_over, step_past, step_refused, step_taken}
+use Rattle.walk.proofs.index.top_step.Goals as goal
+
+pub returns-then-late-ne0 : goal.returns-then-late-ne0
+returns-then-late-ne0 c =
+    c.refused.ensures ∙ step_refused _ _ _ _ _ _ (led _ _ _ c.link_from-l.ensures c.in-To.is)
+    c.type_number-typed.ensures c.vxr-late.ensures.0 c.if-late-ne0.true
+
+pub enter-requires : goal.enter-requires
+enter-requires c =
+    (omega (arith, c.vxr-late.ensures.1 c.if-late-ne0.false), led_small _ _ _ c.link_from-l.ensures _ c.in-To.is)
+
+pub returns-in-Past : goal.returns-in-Past
+returns-in-Past c = step_past _ _ _ (led _ _ _ c.link_from-l.ensures c.in-Past.is)
+
+pub returns-in-Zero : goal.returns-in-Zero
+returns-in-Zero c = c.chain_over.ensures ∙ step_over _ _ _ (led _ _ _ c.link_from-l.ensures c.in-Zero.is)
+
+pub returns-else-late-ne0 : goal.returns-else-late-ne0
+returns-else-late-ne0 c =
+    c.taken.ensures ∙ step_taken _ _ _ _ _ _ (led _ _ _ c.link_from-l.ensures c.in-To.is) c.type_number-typed.ensures
+    c.vxr-late.ensures.0 c.if-late-ne0.false _ c.enter.ensures
