@@ -1,0 +1,18 @@
+use Rattle.lookup.specs.Lists.{vdr_kept}
+use Rattle.variables.proofs.Rule.{vdr_inside}
+use Rattle.variables.specs.declared.vdr.Variable.{Variable}
+use borrow.Author.Tests.{eq-eqb, ne_eqb, eqb-true}
+use mathlib.Core.Bool.{true≢false}
+use mathlib.Core.Path.{◌∙◌, sym, ap}
+use Rattle.lookup.proofs.lists.vdr_kept.Goals as goal
+
+pub returns-then-carried-ne0 : goal.returns-then-carried-ne0
+unfolding vdr_kept
+returns-then-carried-ne0 c = (simp (ne_eqb _ _ c.if-carried-ne0.true, ← c.carried.ensures), λ e. absurd (true≢false (sym e)))
+
+pub returns : goal.returns
+unfolding vdr_kept
+returns c =
+    let a = c.args in
+    let v = ap (λ (w : Variable). w.fault) c.variable_at-v.ensures in
+    (simp (v, eq-eqb _ _ c.if-carried-ne0.false, ← c.carried.ensures), λ e. vdr_inside a.f.now a.t a.o (sym v ∙ eqb-true _ _ e))
