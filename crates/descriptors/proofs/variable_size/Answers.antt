@@ -1,0 +1,40 @@
+use borrow.Author.Tests.{eq-eqb, ne_eqb}
+use Rattle.descriptors.specs.Descriptors.{variable_size}
+use Rattle.descriptors.specs.Bounds.{Lie}
+use mir.Facts.{to_z-of_z}
+use mir.Syntax.{w64}
+use native.Mathlib.Omega.{arith}
+use mathlib.Core.Path.{sym, ◌∙◌, subst}
+use Rattle.descriptors.proofs.variable_size.Goals as goal
+
+pub dimensions_of-dimensions-requires : goal.dimensions_of-dimensions-requires
+dimensions_of-dimensions-requires c = c.body-b.ensures
+
+pub overflow_cast-l : goal.overflow_cast-l
+overflow_cast-l c =
+    let h = subst (Lie c.body-b.result.now) c.in-Are.is c.dimensions_of-dimensions.ensures.1 in
+    omega (arith, h.0.sizes, h.1)
+
+pub row_field-requires : goal.row_field-requires
+row_field-requires c =
+    (subst (Lie c.body-b.result.now) c.in-Are.is c.dimensions_of-dimensions.ensures.1).0.sizes
+
+pub returns-then-kind_among-eq8 : goal.returns-then-kind_among-eq8
+unfolding variable_size
+returns-then-kind_among-eq8 c =
+    let e = rw (to_z-of_z {w = w64} c.ranges.kind, to_z-of_z {w = w64} c.ranges.number) at (sym c.dimensions_of-dimensions.ensures.0 ∙ c.in-Are.is) in
+    let k = rw (to_z-of_z {w = w64} c.ranges.kind) at c.kind_among.ensures.0 in
+    c.row_field.ensures ∙ rw (c.body-b.ensures, e, rw k at (eq-eqb _ _ c.if-kind_among-eq8.true), to_z-of_z {w = w64} c.ranges.d)
+
+pub returns-else-kind_among-eq8 : goal.returns-else-kind_among-eq8
+unfolding variable_size
+returns-else-kind_among-eq8 c =
+    let e = rw (to_z-of_z {w = w64} c.ranges.kind, to_z-of_z {w = w64} c.ranges.number) at (sym c.dimensions_of-dimensions.ensures.0 ∙ c.in-Are.is) in
+    let k = rw (to_z-of_z {w = w64} c.ranges.kind) at c.kind_among.ensures.0 in
+    rw (e, rw k at (ne_eqb _ _ c.if-kind_among-eq8.false))
+
+pub returns-in-Unknown : goal.returns-in-Unknown
+unfolding variable_size
+returns-in-Unknown c =
+    let e = rw (to_z-of_z {w = w64} c.ranges.kind, to_z-of_z {w = w64} c.ranges.number) at (sym c.dimensions_of-dimensions.ensures.0 ∙ c.in-Unknown.is) in
+    rw e

@@ -1,0 +1,22 @@
+use Rattle.states.proofs.saved.levels_range.Goals as goal
+
+pub returns-in-Start : goal.returns-in-Start
+returns-in-Start c = rw c.in-Start.is c.none_of-none.ensures
+
+pub returns-in-Vars : goal.returns-in-Vars
+returns-in-Vars c = rw c.in-Vars.is c.none_of-none.ensures
+
+pub returns-in-Chain : goal.returns-in-Chain
+returns-in-Chain c = rw c.in-Chain.is c.levels_stand.ensures
+
+pub returns-in-Entry : goal.returns-in-Entry
+returns-in-Entry c = rw c.in-Entry.is c.levels_stand-in-Entry.ensures
+
+pub returns-in-Attrs : goal.returns-in-Attrs
+returns-in-Attrs c = rw c.in-Attrs.is c.none_of-none.ensures
+
+pub returns-in-Entries : goal.returns-in-Entries
+returns-in-Entries c = rw c.in-Entries.is c.none_of-none.ensures
+
+pub returns-in-Unused : goal.returns-in-Unused
+returns-in-Unused c = rw c.in-Unused.is c.none_of-none.ensures
