@@ -5,16 +5,14 @@ ghost use Rattle.checker.specs.Grant.{granted, grant_of, begun, begin_of};
 use checker::grants;
 
 // A fresh state, and -1, as no check has a verdict yet; or 20, and nothing changed, where it has another length than a state has.
-#[unsafe(no_mangle)]
-pub extern "C" fn tlz_check_begin(state: &mut [u32]) -> i32
+pub fn tlz_check_begin(state: &mut [u32]) -> i32
     ensures { begun result state.new ≡ begin_of state.old }
 {
     grants::begin(state)
 }
 
 // A grant of steps on a saved state: what it answers, in steps how many it made, and in location the offset of the record at fault.
-#[unsafe(no_mangle)]
-pub extern "C" fn tlz_check_grant(
+pub fn tlz_check_grant(
     file: &[u8],
     marks: &mut [u8],
     state: &mut [u32],

@@ -38,8 +38,7 @@ fn turns_in(files: &[u8], marks: &mut [u8], list: &mut [Job], q: u64)
 }
 
 // A round: q steps for each unfinished job, in the order of the list, and -1; or 24, and nothing changed.
-#[unsafe(no_mangle)]
-pub extern "C" fn tlz_round(files: &[u8], marks: &mut [u8], jobs: &mut [Job], q: u64) -> i32
+pub fn tlz_round(files: &[u8], marks: &mut [u8], jobs: &mut [Job], q: u64) -> i32
     ensures { rounded result (window jobs.new marks.new)
         ≡ round_of files.now (window jobs.old marks.old) (length jobs.old) q }
 {

@@ -18,8 +18,7 @@ fn clear_one(m: &mut [u8], at: usize, n: usize, singly: u32)
 }
 
 // The marks of records of these sizes, one after the other, as far as they have 8 bytes or more and fit; gives where that ends.
-#[unsafe(no_mangle)]
-pub extern "C" fn clearing_records(m: &mut [u8], sizes: &[usize], singly: u32) -> usize
+pub fn clearing_records(m: &mut [u8], sizes: &[usize], singly: u32) -> usize
     ensures { (result ≡ reached (length m.old) sizes.now 0) × (m.new ≡ cleared m.old 0 result) }
 {
     let mut at = 0;

@@ -12,8 +12,7 @@ pub mod calendar;
 pub mod counts;
 
 // The date of an epoch: year, month, day and milliseconds of the day.
-#[unsafe(no_mangle)]
-pub extern "C" fn tlz_epoch_date(
+pub fn tlz_epoch_date(
     epoch: f64,
     year: &mut i32,
     month: &mut i32,
@@ -37,14 +36,7 @@ pub extern "C" fn tlz_epoch_date(
 }
 
 // The epoch of a date and milliseconds of the day.
-#[unsafe(no_mangle)]
-pub extern "C" fn tlz_epoch_from(
-    year: i64,
-    month: i64,
-    day: i64,
-    milliseconds: i64,
-    epoch: &mut f64,
-) -> i32
+pub fn tlz_epoch_from(year: i64, month: i64, day: i64, milliseconds: i64, epoch: &mut f64) -> i32
     ensures { shown_double result epoch.new ≡ epoch_shown (count_from year month day milliseconds) epoch.old }
 {
     match counts::count_from(year, month, day, milliseconds) {
@@ -57,8 +49,7 @@ pub extern "C" fn tlz_epoch_from(
 }
 
 // The milliseconds from the epoch b to the epoch a: one subtraction.
-#[unsafe(no_mangle)]
-pub extern "C" fn tlz_epoch_difference(a: f64, b: f64, difference: &mut f64) -> i32
+pub fn tlz_epoch_difference(a: f64, b: f64, difference: &mut f64) -> i32
     ensures { shown_double result difference.new ≡ difference_shown a b difference.old }
 {
     if !(counts::is_epoch(a) & counts::is_epoch(b)) {

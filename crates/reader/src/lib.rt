@@ -73,8 +73,7 @@ fn show_name(r: Name, offset: &mut u64, length: &mut u64) -> i32
 }
 
 // An element of a value of a variable, by kind, number, record, indices and element.
-#[unsafe(no_mangle)]
-pub extern "C" fn tlz_read_value(
+pub fn tlz_read_value(
     file: &[u8],
     kind: i64,
     number: i64,
@@ -97,8 +96,7 @@ pub extern "C" fn tlz_read_value(
 }
 
 // An element of an attribute's entry, by attribute, kind, entry number and element.
-#[unsafe(no_mangle)]
-pub extern "C" fn tlz_read_entry(
+pub fn tlz_read_entry(
     file: &[u8],
     attribute: i64,
     kind: i64,
@@ -120,8 +118,7 @@ pub extern "C" fn tlz_read_entry(
 }
 
 // An element of the entry at a place of its list, from 0: so also of one whose number an earlier entry has.
-#[unsafe(no_mangle)]
-pub extern "C" fn tlz_read_entry_value_at(
+pub fn tlz_read_entry_value_at(
     file: &[u8],
     attribute: i64,
     kind: i64,
@@ -143,8 +140,7 @@ pub extern "C" fn tlz_read_entry_value_at(
 }
 
 // An element of the pad value of a variable, by kind, number and element.
-#[unsafe(no_mangle)]
-pub extern "C" fn tlz_read_pad(
+pub fn tlz_read_pad(
     file: &[u8],
     kind: i64,
     number: i64,
@@ -166,8 +162,7 @@ pub extern "C" fn tlz_read_pad(
 
 // What the file says of itself: 0 majority, 1 encoding, 2 to 4 the counts of rVariables, zVariables and attributes, 5 the number of
 // dimensions of the rVariables, 6 the bytes of padding behind its end.
-#[unsafe(no_mangle)]
-pub extern "C" fn tlz_read_file(file: &[u8], what: u64, field: &mut i32) -> i32
+pub fn tlz_read_file(file: &[u8], what: u64, field: &mut i32) -> i32
     ensures { call result (one_number field.new)
         ≡ call_of (answer_to file.now (ask_file what)) (one_number field.old) }
 {
@@ -175,8 +170,7 @@ pub extern "C" fn tlz_read_file(file: &[u8], what: u64, field: &mut i32) -> i32
 }
 
 // The size of a dimension of the rVariables.
-#[unsafe(no_mangle)]
-pub extern "C" fn tlz_read_dimension(file: &[u8], dimension: i64, field: &mut i32) -> i32
+pub fn tlz_read_dimension(file: &[u8], dimension: i64, field: &mut i32) -> i32
     ensures { call result (one_number field.new)
         ≡ call_of (answer_to file.now (ask_dimension dimension)) (one_number field.old) }
 {
@@ -184,14 +178,7 @@ pub extern "C" fn tlz_read_dimension(file: &[u8], dimension: i64, field: &mut i3
 }
 
 // A field of a variable's VDR, by kind, number and the field's offset in the record.
-#[unsafe(no_mangle)]
-pub extern "C" fn tlz_read_variable(
-    file: &[u8],
-    kind: i64,
-    number: i64,
-    at: u64,
-    field: &mut i32,
-) -> i32
+pub fn tlz_read_variable(file: &[u8], kind: i64, number: i64, at: u64, field: &mut i32) -> i32
     ensures { call result (one_number field.new)
         ≡ call_of (answer_to file.now (ask_variable kind number at)) (one_number field.old) }
 {
@@ -199,14 +186,7 @@ pub extern "C" fn tlz_read_variable(
 }
 
 // The size of a dimension of a zVariable, by kind, number and dimension.
-#[unsafe(no_mangle)]
-pub extern "C" fn tlz_read_size(
-    file: &[u8],
-    kind: i64,
-    number: i64,
-    dimension: i64,
-    field: &mut i32,
-) -> i32
+pub fn tlz_read_size(file: &[u8], kind: i64, number: i64, dimension: i64, field: &mut i32) -> i32
     ensures { call result (one_number field.new)
         ≡ call_of (answer_to file.now (ask_size kind number dimension)) (one_number field.old) }
 {
@@ -217,8 +197,7 @@ pub extern "C" fn tlz_read_size(
 }
 
 // The variance of a dimension of a variable, -1 or 0, by kind, number and dimension.
-#[unsafe(no_mangle)]
-pub extern "C" fn tlz_read_variance(
+pub fn tlz_read_variance(
     file: &[u8],
     kind: i64,
     number: i64,
@@ -235,14 +214,7 @@ pub extern "C" fn tlz_read_variance(
 }
 
 // How many levels the index of a variable has on the way to a record, 1 to 8, by kind, number and record.
-#[unsafe(no_mangle)]
-pub extern "C" fn tlz_read_levels(
-    file: &[u8],
-    kind: i64,
-    number: i64,
-    rec: i64,
-    field: &mut i32,
-) -> i32
+pub fn tlz_read_levels(file: &[u8], kind: i64, number: i64, rec: i64, field: &mut i32) -> i32
     ensures { call result (one_number field.new)
         ≡ call_of (answer_to file.now (ask_levels kind number rec)) (one_number field.old) }
 {
@@ -250,8 +222,7 @@ pub extern "C" fn tlz_read_levels(
 }
 
 // Where the name of a variable stands and its length, by kind and number.
-#[unsafe(no_mangle)]
-pub extern "C" fn tlz_read_variable_name(
+pub fn tlz_read_variable_name(
     file: &[u8],
     kind: i64,
     number: i64,
@@ -269,8 +240,7 @@ pub extern "C" fn tlz_read_variable_name(
 }
 
 // A field of an attribute's ADR, by number and the field's offset in the record.
-#[unsafe(no_mangle)]
-pub extern "C" fn tlz_read_attribute(file: &[u8], number: i64, at: u64, field: &mut i32) -> i32
+pub fn tlz_read_attribute(file: &[u8], number: i64, at: u64, field: &mut i32) -> i32
     ensures { call result (one_number field.new)
         ≡ call_of (answer_to file.now (ask_attribute number at)) (one_number field.old) }
 {
@@ -278,13 +248,7 @@ pub extern "C" fn tlz_read_attribute(file: &[u8], number: i64, at: u64, field: &
 }
 
 // Where the name of an attribute stands and its length, by number.
-#[unsafe(no_mangle)]
-pub extern "C" fn tlz_read_attribute_name(
-    file: &[u8],
-    number: i64,
-    offset: &mut u64,
-    length: &mut u64,
-) -> i32
+pub fn tlz_read_attribute_name(file: &[u8], number: i64, offset: &mut u64, length: &mut u64) -> i32
     ensures { call result (two_numbers offset.new length.new)
         ≡ call_of (answer_to file.now (ask_attribute_name number)) (two_numbers offset.old length.old) }
 {
@@ -292,8 +256,7 @@ pub extern "C" fn tlz_read_attribute_name(
 }
 
 // A field of the AEDR of the first entry of a number, by attribute, kind, entry number and the field's offset in the record.
-#[unsafe(no_mangle)]
-pub extern "C" fn tlz_read_entry_field(
+pub fn tlz_read_entry_field(
     file: &[u8],
     attribute: i64,
     kind: i64,
@@ -311,8 +274,7 @@ pub extern "C" fn tlz_read_entry_field(
 }
 
 // The same for the entry at a place of its list, from 0: so entries of equal numbers can be told apart, and all be listed.
-#[unsafe(no_mangle)]
-pub extern "C" fn tlz_read_entry_at(
+pub fn tlz_read_entry_at(
     file: &[u8],
     attribute: i64,
     kind: i64,
