@@ -1,29 +1,27 @@
 // One line for each file.
 use crate::runs;
 use crate::runs::Run;
+use std::io;
 
 // A number that came back, or none for -1.
-pub(crate) fn verdict(v: i32) {
+pub(crate) fn verdict(rt: &impl Print, v: i32) -> io::Result<()> {
     if v < 0 {
-        io::write_all(1, b"none");
-    } else {
-        io::print_decimal(1, v as u64);
+        return print!(rt; "none");
     }
+    print!(rt; "{v}")
 }
 
-fn ending(r: Run) {
-    io::write_all(1, b": verdict ");
-    verdict(r.verdict);
+fn ending(rt: &impl Print, r: Run) -> io::Result<()> {
+    print!(rt; ": verdict ")?;
+    verdict(rt, r.verdict)?;
     if r.location != 0 {
-        io::write_all(1, b" at ");
-        io::print_decimal(1, r.location);
+        print!(rt; " at {}", r.location)?;
     }
-    io::write_all(1, b" in ");
-    io::print_decimal(1, r.steps);
+    print!(rt; " in {}", r.steps)?;
     if r.steps == 1 {
-        io::write_all(1, b" step");
+        print!(rt; " step")
     } else {
-        io::write_all(1, b" steps");
+        print!(rt; " steps")
     }
 }
 
@@ -32,29 +30,27 @@ fn wide(x: u8) -> u64 {
 }
 
 // The mark at an offset, if the record that starts there is to be shown.
-fn mark(m: &[u8], at: usize, is_shown: bool) {
+fn mark(rt: &impl Print, m: &[u8], at: usize, is_shown: bool) -> io::Result<()> {
     if !is_shown {
-        return;
+        return Ok(());
     }
     if at < m.len() {
-        io::write_all(1, b" ");
-        io::print_decimal(1, at as u64);
-        io::write_all(1, b":");
-        io::print_decimal(1, wide(m[at]));
+        print!(rt; " {at}:{}", wide(m[at]))?;
     }
+    Ok(())
 }
 
 // The marks of a file's first records.
-fn marks(m: &[u8], records: usize) {
-    io::write_all(1, b", marks");
+fn marks(rt: &impl Print, m: &[u8], records: usize) -> io::Result<()> {
+    print!(rt; ", marks")?;
     if records == 0 {
-        io::write_all(1, b" none");
+        print!(rt; " none")?;
     }
-    mark(m, 8, 0 < records);
-    mark(m, 312, 1 < records);
-    mark(m, 372, 2 < records);
-    mark(m, 504, 3 < records);
-    mark(m, 536, 4 < records);
+    mark(rt, m, 8, 0 < records)?;
+    mark(rt, m, 312, 1 < records)?;
+    mark(rt, m, 372, 2 < records)?;
+    mark(rt, m, 504, 3 < records)?;
+    mark(rt, m, 536, 4 < records)
 }
 
 fn same_marks(a: &[u8], b: &[u8]) -> bool {
@@ -76,27 +72,32 @@ fn same_run(a: Run, b: Run) -> bool {
 }
 
 // A file checked both ways, each with marks that are first all 7.
-fn checked(file: &[u8], records: usize) {
+fn checked(rt: &impl Print, file: &[u8], records: usize) -> io::Result<()> {
     let mut m = [7u8; 1062];
     let one = runs::in_one(file, &mut m);
-    ending(one);
-    marks(&m, records);
+    ending(rt, one)?;
+    marks(rt, &m, records)?;
     let mut n = [7u8; 1062];
     let many = runs::in_many(file, &mut n);
     if same_run(one, many) & same_marks(&m, &n) {
-        io::write_all(1, b", same in grants of 1\n");
+        println!(rt; ", same in grants of 1")
     } else {
-        io::write_all(1, b", other in grants of 1\n");
+        println!(rt; ", other in grants of 1")
     }
 }
 
 // The line of the file that is the first bytes of f.
-pub(crate) fn shown(name: &[u8], f: &[u8], length: u32, records: usize) {
+pub(crate) fn shown(
+    rt: &impl Print,
+    name: &str,
+    f: &[u8],
+    length: u32,
+    records: usize,
+) -> io::Result<()> {
     let n = length as usize;
-    io::write_all(1, name);
+    print!(rt; "{name}")?;
     if f.len() < n {
-        io::write_all(1, b": too long\n");
-        return;
+        return println!(rt; ": too long");
     }
-    checked(&f[..n], records);
+    checked(rt, &f[..n], records)
 }

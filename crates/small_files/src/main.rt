@@ -8,49 +8,58 @@ mod reads;
 mod runs;
 mod store;
 
+use std::io;
+
 // No lists: A whole, B empty, C a byte short.
-fn without_lists(name: &[u8], length: u32, records: usize) {
+fn without_lists(rt: &impl Print, name: &str, length: u32, records: usize) -> io::Result<()> {
     let mut f = [0u8; 560];
     parts::opening(&mut f, length, 0, 0, 0);
-    line::shown(name, &f, length, records);
+    line::shown(rt, name, &f, length, records)
 }
 
 // An unlisted record of 8 bytes: D of unused space, E of type 7.
-fn unlisted(name: &[u8], kind: u32) {
+fn unlisted(rt: &impl Print, name: &str, kind: u32) -> io::Result<()> {
     let mut f = [0u8; 560];
     parts::opening(&mut f, 380, 0, 0, 0);
     let record = [8, kind];
     stored_fields::put_all(&mut f, 372, &record);
-    line::shown(name, &f, 380, 3);
+    line::shown(rt, name, &f, 380, 3)
 }
 
 // A listed UIR: F with no next one, G naming itself.
-fn listed(name: &[u8], next: u32) {
+fn listed(rt: &impl Print, name: &str, next: u32) -> io::Result<()> {
     let mut f = [0u8; 560];
     parts::opening(&mut f, 388, 0, 0, 372);
     let record = [16, 0xffff_ffff, next, 0];
     stored_fields::put_all(&mut f, 372, &record);
-    line::shown(name, &f, 388, 3);
+    line::shown(rt, name, &f, 388, 3)
 }
 
 // One zVariable, its VVR last: H with one of 14 bytes, I with one of 15; H with more levels of its index.
-fn variable(name: &[u8], levels: u32, vvr: u32, length: u32) {
+fn variable(rt: &impl Print, name: &str, levels: u32, vvr: u32, length: u32) -> io::Result<()> {
     let mut f = [0u8; 806];
     parts::opening(&mut f, length, 372, 1, 0);
     parts::variable(&mut f, levels, vvr);
-    line::shown(name, &f, length, 5);
+    line::shown(rt, name, &f, length, 5)
 }
 
 // H, whose eof is 550, with padding up to a length.
-fn padded(name: &[u8], length: u32) {
+fn padded(rt: &impl Print, name: &str, length: u32) -> io::Result<()> {
     let mut f = [0u8; 1062];
     parts::opening(&mut f, 550, 372, 1, 0);
     parts::variable(&mut f, 1, 14);
-    line::shown(name, &f, length, 5);
+    line::shown(rt, name, &f, length, 5)
 }
 
 // H with two bytes at 546, in an encoding: what is read of a record.
-fn decoded(name: &[u8], encoding: u32, high: u8, low: u8, rec: i64) {
+fn decoded(
+    rt: &impl Print,
+    name: &str,
+    encoding: u32,
+    high: u8,
+    low: u8,
+    rec: i64,
+) -> io::Result<()> {
     let mut f = [0u8; 550];
     parts::start(&mut f, encoding, 3);
     parts::gdr(&mut f, 550, 372, 1, 0);
@@ -58,11 +67,11 @@ fn decoded(name: &[u8], encoding: u32, high: u8, low: u8, rec: i64) {
     store::put_byte(&mut f, 546, high);
     store::put_byte(&mut f, 547, low);
     let none = [0i64; 0];
-    reads::shown(name, &f, rec, &none);
+    reads::shown(rt, name, &f, rec, &none)
 }
 
 // Sizes 2, 3, both varying, by the flags' majority: index (1, 0).
-fn both_vary(name: &[u8], flags: u32) {
+fn both_vary(rt: &impl Print, name: &str, flags: u32) -> io::Result<()> {
     let mut f = [0u8; 566];
     parts::start(&mut f, 6, flags);
     parts::gdr(&mut f, 566, 372, 1, 0);
@@ -70,48 +79,48 @@ fn both_vary(name: &[u8], flags: u32) {
     let variances = [0xffff_ffff, 0xffff_ffff];
     parts::plane(&mut f, &sizes, &variances, 14);
     let index = [1i64, 0];
-    reads::shown(name, &f, 0, &index);
+    reads::shown(rt, name, &f, 0, &index)
 }
 
 // Sizes 3, 5, of which only the first varies: index (2, 4).
-fn one_varies(name: &[u8]) {
+fn one_varies(rt: &impl Print, name: &str) -> io::Result<()> {
     let mut f = [0u8; 563];
     parts::opening(&mut f, 563, 372, 1, 0);
     let sizes = [3, 5];
     let variances = [0xffff_ffff, 0];
     parts::plane(&mut f, &sizes, &variances, 11);
     let index = [2i64, 4];
-    reads::shown(name, &f, 0, &index);
+    reads::shown(rt, name, &f, 0, &index)
 }
 
 // A to I, and more of H: checked in one grant of steps and in grants of one step.
-fn checks() {
-    without_lists(b"A", 372, 2);
-    without_lists(b"B", 0, 0);
-    without_lists(b"C", 371, 2);
-    unlisted(b"D", 0xffff_ffff);
-    unlisted(b"E", 7);
-    listed(b"F", 0);
-    listed(b"G", 372);
-    variable(b"H", 1, 14, 550);
-    variable(b"I", 1, 15, 551);
-    variable(b"H, two levels", 2, 14, 582);
-    variable(b"H, nine levels", 9, 14, 806);
-    padded(b"H, padded by 511 bytes", 1061);
-    padded(b"H, padded by 512 bytes", 1062);
+fn checks(rt: &impl Print) -> io::Result<()> {
+    without_lists(rt, "A", 372, 2)?;
+    without_lists(rt, "B", 0, 0)?;
+    without_lists(rt, "C", 371, 2)?;
+    unlisted(rt, "D", 0xffff_ffff)?;
+    unlisted(rt, "E", 7)?;
+    listed(rt, "F", 0)?;
+    listed(rt, "G", 372)?;
+    variable(rt, "H", 1, 14, 550)?;
+    variable(rt, "I", 1, 15, 551)?;
+    variable(rt, "H, two levels", 2, 14, 582)?;
+    variable(rt, "H, nine levels", 9, 14, 806)?;
+    padded(rt, "H, padded by 511 bytes", 1061)?;
+    padded(rt, "H, padded by 512 bytes", 1062)
 }
 
 // J to M: a value of each.
-fn values() {
-    decoded(b"J", 6, 0xff, 0xfe, 1);
-    decoded(b"J, encoding 1", 1, 0xff, 0xfe, 1);
-    decoded(b"K", 6, 0, 0, 3);
-    both_vary(b"L, row majority", 3);
-    both_vary(b"L, column majority", 2);
-    one_varies(b"M");
+fn values(rt: &impl Print) -> io::Result<()> {
+    decoded(rt, "J", 6, 0xff, 0xfe, 1)?;
+    decoded(rt, "J, encoding 1", 1, 0xff, 0xfe, 1)?;
+    decoded(rt, "K", 6, 0, 0, 3)?;
+    both_vary(rt, "L, row majority", 3)?;
+    both_vary(rt, "L, column majority", 2)?;
+    one_varies(rt, "M")
 }
 
-fn main() {
-    checks();
-    values();
+fn main(rt: HostRuntime) -> io::Result<()> {
+    checks(&rt)?;
+    values(&rt)
 }

@@ -1,18 +1,23 @@
 // What is read of a file, through the reader's call.
 use crate::line;
+use std::io;
 
 // A number of 64 bits, signed.
-fn signed(bits: u64) {
+fn signed(rt: &impl Print, bits: u64) -> io::Result<()> {
     if bits < 0x8000_0000_0000_0000 {
-        io::print_decimal(1, bits);
-        return;
+        return print!(rt; "{bits}");
     }
-    io::write_all(1, b"-");
-    io::print_decimal(1, 0xffff_ffff_ffff_ffff - bits + 1);
+    print!(rt; "-{}", 0xffff_ffff_ffff_ffff - bits + 1)
 }
 
 // The line of the first element of a value of the first zVariable.
-pub(crate) fn shown(name: &[u8], file: &[u8], rec: i64, indices: &[i64]) {
+pub(crate) fn shown(
+    rt: &impl Print,
+    name: &str,
+    file: &[u8],
+    rec: i64,
+    indices: &[i64],
+) -> io::Result<()> {
     let mut kind: u64 = 9;
     let mut bits: u64 = 0;
     let mut offset: u64 = 0;
@@ -27,18 +32,13 @@ pub(crate) fn shown(name: &[u8], file: &[u8], rec: i64, indices: &[i64]) {
         &mut bits,
         &mut offset,
     );
-    io::write_all(1, name);
+    print!(rt; "{name}")?;
     if number == 0 {
-        io::write_all(1, b": kind ");
-        io::print_decimal(1, kind);
-        io::write_all(1, b", value ");
-        signed(bits);
-        io::write_all(1, b" at ");
-        io::print_decimal(1, offset);
-        io::write_all(1, b"\n");
-        return;
+        print!(rt; ": kind {kind}, value ")?;
+        signed(rt, bits)?;
+        return println!(rt; " at {offset}");
     }
-    io::write_all(1, b": refused ");
-    line::verdict(number);
-    io::write_all(1, b"\n");
+    print!(rt; ": refused ")?;
+    line::verdict(rt, number)?;
+    println!(rt; "")
 }

@@ -32,7 +32,7 @@ fn one_more(file: &[u8], marks: &mut [u8], state: &mut [u32], made: u64) -> Run 
     Run {
         verdict,
         location,
-        steps: std::num::wrapping_add_u64(made, steps),
+        steps: made.wrapping_add(steps),
     }
 }
 

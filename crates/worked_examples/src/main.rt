@@ -4,10 +4,12 @@
 mod tables;
 mod vxr;
 
-fn main() {
-    vxr::example();
-    tables::plane(true, false);
-    tables::plane(false, true);
-    tables::plane(true, true);
-    tables::solid();
+use std::io;
+
+fn main(rt: HostRuntime) -> io::Result<()> {
+    vxr::example(&rt)?;
+    tables::plane(&rt, true, false)?;
+    tables::plane(&rt, false, true)?;
+    tables::plane(&rt, true, true)?;
+    tables::solid(&rt)
 }

@@ -1,5 +1,6 @@
 // Chapter 4: where each value of a record stands, as offsets from the record's start, the last index running fastest.
 use records::layout;
+use std::io;
 use variables::place::Place;
 use variables::vdr::Variable;
 use variables::{limit, place, vdr};
@@ -25,95 +26,97 @@ fn offset(place: u64, value: u64) -> u64 {
 }
 
 // The offset of the value of the given indices.
-fn shown(f: &[u8], v: Variable, row: bool, indices: &[i64]) {
+fn shown(rt: &impl Print, f: &[u8], v: Variable, row: bool, indices: &[i64]) -> io::Result<()> {
     let p = place::place_of(f, v, row, indices);
-    io::write_all(1, b" ");
+    print!(rt; " ")?;
     match p {
-        Place::At(n) => {
-            io::print_decimal(1, offset(n, v.value));
-        }
-        Place::Wrong => {
-            io::write_all(1, b"refused");
-        }
+        Place::At(n) => print!(rt; "{}", offset(n, v.value)),
+        Place::Wrong => print!(rt; "refused"),
     }
 }
 
 // What a line begins with: the bytes of a record, and the majority.
-fn heading(bytes: u64, row: bool) {
-    io::write_all(1, b", ");
-    io::print_decimal(1, bytes);
-    io::write_all(1, b" bytes, ");
+fn heading(rt: &impl Print, bytes: u64, row: bool) -> io::Result<()> {
+    print!(rt; ", {bytes} bytes, ")?;
     if row {
-        io::write_all(1, b"row majority:");
+        print!(rt; "row majority:")
     } else {
-        io::write_all(1, b"column majority:");
+        print!(rt; "column majority:")
     }
 }
 
 // The k-th value of dimensions of 3 and 5, or of 2, 3 and 4.
-fn value(f: &[u8], v: Variable, row: bool, k: u64) {
+fn value(rt: &impl Print, f: &[u8], v: Variable, row: bool, k: u64) -> io::Result<()> {
     let n = v.dimensions.count;
     if n == 2 {
         let plane = [(k / 5) as i64, (k % 5) as i64];
-        shown(f, v, row, &plane);
+        shown(rt, f, v, row, &plane)
     } else {
         let solid = [(k / 12) as i64, (k / 4 % 3) as i64, (k % 4) as i64];
-        shown(f, v, row, &solid);
+        shown(rt, f, v, row, &solid)
     }
 }
 
 // Each of n values.
-fn values(f: &[u8], v: Variable, row: bool, n: u64) {
-    heading(v.bytes, row);
+fn values(rt: &impl Print, f: &[u8], v: Variable, row: bool, n: u64) -> io::Result<()> {
+    heading(rt, v.bytes, row)?;
     let mut k = 0;
     while k < n {
-        value(f, v, row, k);
+        value(rt, f, v, row, k)?;
         k += 1;
     }
+    Ok(())
 }
 
 // A variance as it is written.
-fn truth(varies: bool) {
+fn truth(rt: &impl Print, varies: bool) -> io::Result<()> {
     if varies {
-        io::write_all(1, b"TRUE");
+        print!(rt; "TRUE")
     } else {
-        io::write_all(1, b"FALSE");
+        print!(rt; "FALSE")
     }
 }
 
-fn plane_line(f: &[u8], v: Variable, first: bool, second: bool, row: bool) {
-    io::write_all(1, b"3,5 ");
-    truth(first);
-    io::write_all(1, b",");
-    truth(second);
-    values(f, v, row, 15);
-    io::write_all(1, b"\n");
+fn plane_line(
+    rt: &impl Print,
+    f: &[u8],
+    v: Variable,
+    first: bool,
+    second: bool,
+    row: bool,
+) -> io::Result<()> {
+    print!(rt; "3,5 ")?;
+    truth(rt, first)?;
+    print!(rt; ",")?;
+    truth(rt, second)?;
+    values(rt, f, v, row, 15)?;
+    println!(rt; "")
 }
 
 // Single floats in dimensions of 3 and 5.
-pub(crate) fn plane(first: bool, second: bool) {
+pub(crate) fn plane(rt: &impl Print, first: bool, second: bool) -> io::Result<()> {
     let mut f = [0u8; 148];
     describe(&mut f, 148, 21, 1, 2);
     let dimensions = [3, 5, variance(first), variance(second)];
     stored_fields::put_all(&mut f, layout::Z_NUM_DIMS + 4, &dimensions);
     let v = vdr::variable_at(&f, 8, 0);
-    plane_line(&f, v, first, second, true);
-    plane_line(&f, v, first, second, false);
+    plane_line(rt, &f, v, first, second, true)?;
+    plane_line(rt, &f, v, first, second, false)
 }
 
-fn solid_line(f: &[u8], v: Variable, row: bool) {
-    io::write_all(1, b"2,3,4 TRUE,FALSE,TRUE");
-    values(f, v, row, 24);
-    io::write_all(1, b"\n");
+fn solid_line(rt: &impl Print, f: &[u8], v: Variable, row: bool) -> io::Result<()> {
+    print!(rt; "2,3,4 TRUE,FALSE,TRUE")?;
+    values(rt, f, v, row, 24)?;
+    println!(rt; "")
 }
 
 // Five characters in dimensions of 2, 3 and 4, of which the second does not vary.
-pub(crate) fn solid() {
+pub(crate) fn solid(rt: &impl Print) -> io::Result<()> {
     let mut f = [0u8; 156];
     describe(&mut f, 156, 51, 5, 3);
     let dimensions = [2, 3, 4, variance(true), variance(false), variance(true)];
     stored_fields::put_all(&mut f, layout::Z_NUM_DIMS + 4, &dimensions);
     let v = vdr::variable_at(&f, 8, 0);
-    solid_line(&f, v, true);
-    solid_line(&f, v, false);
+    solid_line(rt, &f, v, true)?;
+    solid_line(rt, &f, v, false)
 }

@@ -1,6 +1,7 @@
 // Section 2.7: a VXR of ten entries, two of them used.
 use format::fields;
 use records::{index, layout};
+use std::io;
 
 // Its fields, with no entry used: thirty fields that hold -1.
 fn header(f: &mut [u8]) {
@@ -21,56 +22,45 @@ fn used_entries(f: &mut [u8]) {
 }
 
 // Entry i, counted from 0, whose range begins at floor or above; answers where the next may begin.
-fn entry(f: &[u8], i: u32, floor: u32) -> u32 {
+fn entry(rt: &impl Print, f: &[u8], i: u32, floor: u32) -> io::Result<u32> {
     let e = index::entry_at(f, 0, i, floor, 2147483647);
-    io::write_all(1, b"VXR entry ");
-    io::print_decimal(1, i as u64 + 1);
+    print!(rt; "VXR entry {}", i as u64 + 1)?;
     if e.fault != 0 {
-        io::write_all(1, b": refused\n");
-        return floor;
+        println!(rt; ": refused")?;
+        return Ok(floor);
     }
-    io::write_all(1, b": ");
-    io::print_decimal(1, e.first as u64);
-    io::write_all(1, b"..");
-    io::print_decimal(1, e.last as u64);
-    io::write_all(1, b" at 0x");
-    io::print_hex(1, e.link as u64, 8);
-    io::write_all(1, b"\n");
-    std::num::wrapping_add_u32(e.last, 1)
+    println!(rt; ": {}..{} at 0x{:08x}", e.first, e.last, e.link)?;
+    Ok(e.last.wrapping_add(1))
 }
 
-fn entries(f: &[u8], used: u32) {
+fn entries(rt: &impl Print, f: &[u8], used: u32) -> io::Result<()> {
     let mut i = 0;
     let mut floor = 0;
     while i < used {
-        floor = entry(f, i, floor);
+        floor = entry(rt, f, i, floor)?;
         i += 1;
     }
+    Ok(())
 }
 
 // The fields of a VXR at the file's start, and its entries.
-fn shown(f: &[u8]) {
+fn shown(rt: &impl Print, f: &[u8]) -> io::Result<()> {
     if f.len() < layout::FIRSTS {
-        return;
+        return Ok(());
     }
     if index::vxr(f, 0) != 0 {
-        io::write_all(1, b"VXR refused\n");
-        return;
+        return println!(rt; "VXR refused");
     }
+    let bytes = fields::nat_at(f, 0);
     let used = fields::nat_at(f, layout::VXR_USED);
-    io::write_all(1, b"VXR of ");
-    io::print_decimal(1, fields::nat_at(f, 0) as u64);
-    io::write_all(1, b" bytes: ");
-    io::print_decimal(1, used as u64);
-    io::write_all(1, b" of ");
-    io::print_decimal(1, fields::nat_at(f, layout::VXR_ENTRIES) as u64);
-    io::write_all(1, b" entries used\n");
-    entries(f, used);
+    let count = fields::nat_at(f, layout::VXR_ENTRIES);
+    println!(rt; "VXR of {bytes} bytes: {used} of {count} entries used")?;
+    entries(rt, f, used)
 }
 
-pub(crate) fn example() {
+pub(crate) fn example(rt: &impl Print) -> io::Result<()> {
     let mut f = [0u8; 140];
     header(&mut f);
     used_entries(&mut f);
-    shown(&f);
+    shown(rt, &f)
 }
