@@ -9,8 +9,8 @@ PREFIX = /usr/local
 DESTDIR =
 CFLAGS = -std=c11 -O2 -Wall -Wextra -Wpedantic
 
-# The archives that rt makes, one a crate with calls for C. libtlepozaluh.a has all but the benchmark's, libtlepozaluh_read.a the
-# reader and epochs.
+# The archives that rt makes, libNAME.a of each crate NAME_c with calls for C. libtlepozaluh.a has all but the benchmark's,
+# libtlepozaluh_read.a the reader and epochs.
 READER = $(addprefix target/staticlib/,libreader.a libepochs.a)
 ARCHIVES = target/staticlib/libcalls.a $(READER)
 LIBRARIES = build/libtlepozaluh.a build/libtlepozaluh_read.a
@@ -32,20 +32,20 @@ run: tools
 	$(MAKE) examples
 
 examples:
-	rt check worked_examples
+	cd crates/worked_examples && rt run
 
 test:
 	.ci/run
 
 neighbours:
-	rt check
+	rt all check
 	tests/neighbours/run
 
 lib: $(LIBRARIES)
 
 target/staticlib/lib%.a: $(wildcard crates/*/src/*.rt)
-	rt staticlib $*
-	touch $@
+	cd crates/$*_c && rt lib
+	install -D -m 644 crates/$*_c/out/lib$*_c.a $@
 
 # Each call begins a cache line, so that its speed does not hang on what is linked before it.
 ALIGN = objcopy --set-section-alignment '.text.tlz_*=64'
@@ -77,7 +77,7 @@ CLEARING = $(patsubst %,build/clearing_%.o,0 16 32 48)
 
 $(CLEARING): build/clearing_%.o: target/staticlib/libclearing.a
 	mkdir -p build
-	ar p $< clearing.o >$@.whole
+	ar p $< clearing_c.o >$@.whole
 	objcopy --redefine-sym clearing_records=clearing_records_$* $@.whole $@.own
 	printf '.section .text.clearing_records,"ax"\n.p2align 6\n.fill $*, 1, 0x90\n.section .note.GNU-stack,""\n' | as -o $@.before
 	ld -r -o $@ $@.before $@.own

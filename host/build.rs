@@ -3,7 +3,7 @@
 
 use std::path::{Path, PathBuf};
 
-/// Where `rt staticlib NAME` writes them, seen from this package; other folders are seen from here too.
+/// Where `make lib` puts them, seen from this package; other folders are seen from here too.
 const DEFAULT: &str = "../target/staticlib";
 
 /// Links one archive of the folder; ends the build if it is not there.
@@ -11,7 +11,7 @@ fn link(folder: &Path, name: &str) {
     let archive = folder.join(format!("lib{name}.a"));
     if !archive.is_file() {
         eprintln!("error: there is no {}", archive.display());
-        eprintln!("Make it with `rt staticlib {name}` (or `make lib`) in the project's folder,");
+        eprintln!("Make it with `make lib` in the project's folder,");
         eprintln!("or name the folder that holds lib{name}.a in TLZ_LIB_DIR.");
         std::process::exit(1);
     }

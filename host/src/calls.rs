@@ -177,7 +177,7 @@ fn export(text: &str, structs: &[String]) -> Option<Call> {
     Some(Call { name: name.to_string(), answer: number_type(answer)?.to_string(), parameters })
 }
 
-/// The functions of a Rattle source that C can call: `#[no_mangle]` and `extern "C"`.
+/// The functions of a Rattle source that C can call: `#[unsafe(no_mangle)]` and `extern "C"`.
 pub fn of_rattle_source(text: &str) -> Result<Vec<Call>, String> {
     let structs = structs::names(text)?;
     let text = without_line_comments(text);
@@ -186,7 +186,7 @@ pub fn of_rattle_source(text: &str) -> Result<Vec<Call>, String> {
         let (_, call) = after.split_once("extern \"C\" fn ").ok_or(format!("no call: {head}"))?;
         export(call, &structs).ok_or(format!("a call that cannot be read: {head}"))
     };
-    text.split("#[no_mangle]").skip(1).map(read).collect()
+    text.split("#[unsafe(no_mangle)]").skip(1).map(read).collect()
 }
 
 fn binding(text: &str, structs: &[String]) -> Option<Call> {

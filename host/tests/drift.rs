@@ -59,14 +59,14 @@ fn rattle_files(folder: &Path) -> Vec<PathBuf> {
     found
 }
 
-/// The crate whose call is for the benchmark alone and in no library.
-const OF_BENCHMARK: &str = "clearing";
+/// The crates whose call is for the benchmark alone and in no library.
+const OF_BENCHMARK: [&str; 2] = ["clearing", "clearing_c"];
 
 /// All sources of crates/*/src that the libraries are made of, in one text.
 fn sources() -> String {
     let crates = read_dir(project().join("crates")).expect("crates");
     let folders = crates.map(|entry| entry.expect("a crate").path());
-    let folders = folders.filter(|folder| !folder.ends_with(OF_BENCHMARK));
+    let folders = folders.filter(|folder| OF_BENCHMARK.iter().all(|name| !folder.ends_with(name)));
     let folders = folders.map(|folder| folder.join("src")).filter(|folder| folder.is_dir());
     let files = folders.flat_map(|folder| rattle_files(&folder));
     files.map(|file| read_to_string(file).expect("a source") + "\n").collect()
@@ -269,7 +269,7 @@ const OF_ROW: &[(&str, &str)] = &[
 
 /// Edits of the sources, made wherever the text stands: a function below a call may have the same parameters.
 const OF_SOURCES: &[(&str, &str)] = &[
-    ("#[no_mangle]\npub extern \"C\" fn tlz_check_begin", "pub fn tlz_check_begin"),
+    ("#[unsafe(no_mangle)]\npub extern \"C\" fn tlz_check_begin", "pub fn tlz_check_begin"),
     ("fn tlz_check_begin(state: &mut [u32]) -> i32", "fn tlz_check_begin(state: &mut [u32])"),
     ("fn tlz_check_begin(state: &mut [u32])", "fn tlz_check_begin(state: &mut [u64])"),
     ("fn tlz_check_begin(state: &mut [u32])", "fn tlz_check_begin(state: &[u32])"),
@@ -306,7 +306,7 @@ fn drift_is_found() {
 /// Parameters of one type in another order are found by their names.
 #[test]
 fn swapped_names_are_found() {
-    let source = "#[no_mangle]\npub extern \"C\" fn tlz_x(kind: &mut u64, bits: &mut u64) -> i32 {";
+    let source = "#[unsafe(no_mangle)]\npub extern \"C\" fn tlz_x(kind: &mut u64, bits: &mut u64) -> i32 {";
     assert!(drift("int32_t tlz_x(uint64_t *kind, uint64_t *bits);", source).is_empty());
     assert!(drift("int32_t tlz_x(uint64_t *value_kind, uint64_t *bits);", source).is_empty());
     assert!(!drift("int32_t tlz_x(uint64_t *bits, uint64_t *kind);", source).is_empty());
@@ -315,7 +315,7 @@ fn swapped_names_are_found() {
 /// Doubles, and pointers to them, in all three texts.
 #[test]
 fn doubles_as_parameters() {
-    let source = "#[no_mangle]\npub extern \"C\" fn tlz_x(\n    epoch: f64,\n    year: &mut i32,\n    to: &mut f64,\n) -> i32\n{ 0 }";
+    let source = "#[unsafe(no_mangle)]\npub extern \"C\" fn tlz_x(\n    epoch: f64,\n    year: &mut i32,\n    to: &mut f64,\n) -> i32\n{ 0 }";
     let header = "int32_t tlz_x(double epoch, int32_t *year, double *to);";
     let bindings =
         "extern \"C\" {\n    pub fn tlz_x(epoch: f64, year: *mut i32, to: *mut f64) -> i32;\n}";
@@ -342,9 +342,9 @@ fn doubles_as_parameters() {
 /// Every form of parameter that a call can have.
 #[test]
 fn forms_of_parameters() {
-    let source = "// a comment, #[no mangle]\n#[no_mangle]\npub extern \"C\" fn tlz_read(\n    file: &[u8],\n    \
+    let source = "// a comment, #[no mangle]\n#[unsafe(no_mangle)]\npub extern \"C\" fn tlz_read(\n    file: &[u8],\n    \
         number: i64, // which\n    indices: &[i64],\n    low: u32,\n    out: &mut [i16],\n    bits: &mut u64,\n    one: &u8,\n) -> u32\n    \
-        requires { x } ensures { y }\n{ 0 }\n#[no_mangle]\npub extern \"C\" fn tlz_none() { }\n";
+        requires { x } ensures { y }\n{ 0 }\n#[unsafe(no_mangle)]\npub extern \"C\" fn tlz_none() { }\n";
     let header = "#define X(a) \\\n    f(a);\n/* int32_t no(void); */\nextern \"C\" {\nuint32_t tlz_read(const uint8_t *file, \
         size_t n,\n int64_t number, const int64_t *indices, size_t index_count, uint32_t low, int16_t *out,\n size_t m, \
         uint64_t* bits, const uint8_t * one);\nvoid tlz_none(void);\n}\n";
