@@ -1,0 +1,11 @@
+use mir.Syntax.{w32, w64}
+use mir.Facts.{to_z-of_z}
+use mir.Val.{SFits}
+use mathlib.Core.Path.{◌∙◌}
+use Rattle.reader.proofs.tlz_read_attribute_name.Goals as goal
+
+pub returns : goal.returns
+returns c =
+    let s : SFits w32 c.show_name.result = record { sfits = c.show_name.type_inv } in
+    rw (to_z-of_z {w = w32} s)
+    (c.show_name.ensures ∙ rw (c.attribute_name.ensures, to_z-of_z {w = w64} c.ranges.number))
