@@ -31,6 +31,7 @@ use Rattle.demands.proofs.Lists.{Listed}
 use Rattle.demands.proofs.Trees.{TreeRules}
 use Rattle.demands.proofs.Levels.{levels_of, most_named, most_top}
 use Rattle.demands.proofs.Nested.{head_or0, entry_is, Carried, carried, Ranged, ValuesGood, index_rules, EntryGood, after_entry, RowGood, after_row, chain_carried, chain_rules, zero_link}
+use Rattle.demands.proofs.Rules.{lowest_right, lowest_parts}
 use Rattle.demands.proofs.Splits.{Along, split_in, in_left, in_right, in_either, along_each, each_along, each_in, listed_reads, listed_makes, is_moved, last_back, offset_in}
 
 -- MaxRec is -1 or more
@@ -308,7 +309,7 @@ module _ (f : List ℕ) (k v : ℕ) where
 
     -- ---- an entry, by the levels below it
     pub entry_right : (n : ℕ) (above : List Slot) (c : Carried) (s : Slot) → EntryGood f k v n above c s → EntryRight f k v n s
-    entry_right zero above c s g = (range_right above c.floor s g.1.range, values_right above c s g.1)
+    entry_right zero above c s g = lowest_right f k v s (range_right above c.floor s g.1.range, values_right above c s g.1)
     entry_right (suc n) above c s (inl g) = (range_right above c.floor s g.1.range, inl (values_right above c s g.1))
     entry_right (suc n) above c s (inr g) =
         let ss = lower_slots f s in
@@ -333,7 +334,9 @@ module _ (f : List ℕ) (k v : ℕ) where
         → ((t : Slot) → t ∈ entries_under f n s → Stands f (named_by f t)) → EntryRight f k v n s → c.floor ≤ first_of f s
         → last_of f s ≤ most_of (levels_of f above).a
         → EntryGood f k v n above c s
-    entry_good zero above c s x w i ok e h b = values_good above c s (range_good above c.floor s x w i e.0 h b) (ok s (inl refl)) e.1
+    entry_good zero above c s x w i ok e h b =
+        let p = lowest_parts f k v s e in
+        values_good above c s (range_good above c.floor s x w i p.0 h b) (ok s (inl refl)) p.1
     entry_good (suc n) above c s x w i ok (e, inl p) h b = inl (values_good above c s (range_good above c.floor s x w i e h b) (ok s (inl refl)) p)
     entry_good (suc n) above c s x w i ok (e, inr p) h b =
         let y = ok s (inl refl) in

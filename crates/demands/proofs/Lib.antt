@@ -18,6 +18,7 @@ pub mod Nested
 pub mod NestedDemand
 pub mod Splits
 pub mod AttributeFacts
+pub mod Rules
 pub mod IndexFacts
 pub mod Lowest
 pub mod OneLevel
