@@ -1,7 +1,7 @@
 use mathlib.Core.Path.{sym, ◌∙◌}
 use lib.ListN.{length}
 use Rattle.jobs.specs.Turns.{parts_at, window}
-use Rattle.jobs.proofs.Tests.{runs_few, runs_inside}
+use Rattle.jobs.proofs.Tests.{runs_inside}
 use Rattle.jobs.proofs.Turning.{round_stops, round_goes}
 use Rattle.jobs.proofs.Gathers.{few_low, tested}
 use Rattle.calls.proofs.rounds.tlz_round.Goals as goal

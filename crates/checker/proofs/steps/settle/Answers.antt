@@ -11,7 +11,7 @@ use Rattle.checker.proofs.steps.settle.Goals as goal
 pub returns-in-Over : goal.returns-in-Over
 unfolding stepped
 returns-in-Over c =
-    let a = c.args in 
+    let a = c.args in
     rw c.in-Over.is (λ n up. ap (λ (r : S.Went). conf (went_to n up r) a.m.now) c.list_over.ensures ∙ over_settled (ending (holder_of a.w)) n c.in-Over.number up c.in-Over.next a.m.now)
 
 pub returns-in-End : goal.returns-in-End

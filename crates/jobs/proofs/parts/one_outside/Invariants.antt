@@ -1,7 +1,7 @@
 use mathlib.Core.Path.{◌≡◌}
 use mathlib.Core.Bool.{false}
 use Prim.Native.Nat.{◌≤◌, ◌-◌}
-use Rattle.jobs.specs.Parts.{outside, any_outside}
+use Rattle.jobs.specs.Parts.{any_outside}
 use Rattle.jobs.specs.Gathered.{parts_in}
 use Rattle.jobs.proofs.parts.one_outside.Given as goal
 

@@ -1,10 +1,5 @@
 use native.Mathlib.Omega.{arith}
-use mathlib.Core.Path.{◌≡◌, sym, ◌∙◌}
-use mathlib.Core.Bool.{true}
-use Prim.Native.Nat.{ℕ, ◌-◌}
-use Rattle.records.specs.Index.{index_at}
-use Rattle.lookup.specs.Indexes.{after_lower, lowered}
-use Rattle.lookup.specs.declared.indexes.Scan.{Scan}
+use mathlib.Core.Path.{sym, ◌∙◌}
 use Rattle.lookup.specs.declared.indexes.Scan.TheVariants.{Covering, Passed, Broken}
 use Rattle.lookup.proofs.Lowering.{lowest_here, too_deep, none_left, not_met, one_down}
 use Rattle.lookup.proofs.indexes.+go_down.Goals as goal
@@ -45,7 +40,7 @@ returns-in-Covering t c =
     let a = c.args in
     let met = sym c.lower_met.ensures.0 ∙ c.if-not-lower_met.false in
     let down = one_down a.levels a.f.now a.r a.e a.left c.if-levels-eq0.false (sym c.is_index.ensures ∙ c.if-not-is_index.false)
-      c.if-left-eq0.false met c.nat_at.result c.nat_at.ensures.0 (Covering _) (sym c.in-Covering.is ∙ c.scan_entries-s.ensures.0) in
+    c.if-left-eq0.false met c.nat_at.result c.nat_at.ensures.0 (Covering _) (sym c.in-Covering.is ∙ c.scan_entries-s.ensures.0) in
     (c.go_down.ensures.0 ∙ sym down, c.go_down.ensures.1)
 
 pub returns-in-Passed : goal.returns-in-Passed
@@ -53,7 +48,7 @@ returns-in-Passed t c =
     let a = c.args in
     let met = sym c.lower_met.ensures.0 ∙ c.if-not-lower_met.false in
     let down = one_down a.levels a.f.now a.r a.e a.left c.if-levels-eq0.false (sym c.is_index.ensures ∙ c.if-not-is_index.false)
-      c.if-left-eq0.false met c.nat_at.result c.nat_at.ensures.0 (Passed _) (sym c.in-Passed.is ∙ c.scan_entries-s.ensures.0) in
+    c.if-left-eq0.false met c.nat_at.result c.nat_at.ensures.0 (Passed _) (sym c.in-Passed.is ∙ c.scan_entries-s.ensures.0) in
     (sym down, tt)
 
 pub returns-in-Broken : goal.returns-in-Broken
@@ -61,5 +56,5 @@ returns-in-Broken t c =
     let a = c.args in
     let met = sym c.lower_met.ensures.0 ∙ c.if-not-lower_met.false in
     let down = one_down a.levels a.f.now a.r a.e a.left c.if-levels-eq0.false (sym c.is_index.ensures ∙ c.if-not-is_index.false)
-      c.if-left-eq0.false met c.nat_at.result c.nat_at.ensures.0 Broken (sym c.in-Broken.is ∙ c.scan_entries-s.ensures.0) in
+    c.if-left-eq0.false met c.nat_at.result c.nat_at.ensures.0 Broken (sym c.in-Broken.is ∙ c.scan_entries-s.ensures.0) in
     (sym down, tt)

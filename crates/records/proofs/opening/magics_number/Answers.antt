@@ -15,16 +15,14 @@ returns-then-not-magics_right c =
 
 pub returns-then-big4-eq3435921409 : goal.returns-then-big4-eq3435921409
 unfolding magics_number wholly_compressed
-returns-then-big4-eq3435921409 c =
-    (
-      simp (eq-eqb _ _ c.if-big4-eq3435921409.true, ← c.big4.ensures, c.if-not-magics_right.false, ← c.magics_right.ensures, le-leb _ _ c.if-f-lt372.false),
-      λ z. absurd (omega arith),
-    )
+returns-then-big4-eq3435921409 c = (
+  simp (eq-eqb _ _ c.if-big4-eq3435921409.true, ← c.big4.ensures, c.if-not-magics_right.false, ← c.magics_right.ensures, le-leb _ _ c.if-f-lt372.false),
+  λ z. absurd (omega arith),
+)
 
 pub returns : goal.returns
 unfolding magics_number wholly_compressed
-returns c =
-    (
-      simp (ne_eqb _ _ c.if-big4-eq3435921409.false, ← c.big4.ensures, c.if-not-magics_right.false, ← c.magics_right.ensures, le-leb _ _ c.if-f-lt372.false),
-      λ z. c.if-f-lt372.false,
-    )
+returns c = (
+  simp (ne_eqb _ _ c.if-big4-eq3435921409.false, ← c.big4.ensures, c.if-not-magics_right.false, ← c.magics_right.ensures, le-leb _ _ c.if-f-lt372.false),
+  λ z. c.if-f-lt372.false,
+)

@@ -2,7 +2,6 @@ use mathlib.Core.Path.{◌≡◌}
 use Prim.Native.Nat.{◌≤◌, ◌-◌}
 use lib.ListN.{drop}
 use Rattle.states.specs.Saved.{state_length, same_numbers}
-use Rattle.states.proofs.Same.{agree}
 use Rattle.states.proofs.saved.same_numbers.Given as goal
 
 -- Idea: the first i numbers agree, so what is left to compare says whether all do.

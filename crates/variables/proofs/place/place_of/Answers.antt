@@ -16,35 +16,35 @@ unfolding place_of placed
 returns-then-not-row_fits c = simp (c.if-not-row_fits.true, ← c.row_fits.ensures, eq-eqb _ _ c.if-indices-n.false)
 
 -- the sizes lie before the end
-sizes-fit : (c : Else-not-row_fits) → let a = c.args in
+sizes_fit : (c : Else-not-row_fits) → let a = c.args in
     row_fits a.f.now a.v.dimensions.sizes a.v.dimensions.count ≡ true
-sizes-fit c = sym c.row_fits.ensures ∙ c.if-not-row_fits.false
+sizes_fit c = sym c.row_fits.ensures ∙ c.if-not-row_fits.false
 
 pub returns-then-not-row_fits-2 : goal.returns-then-not-row_fits-2
 unfolding place_of placed
 returns-then-not-row_fits-2 c =
-    simp (c.if-not-row_fits-2.true, ← c.row_fits-2.ensures, sizes-fit (goal.at.returns-then-not-row_fits-2 c).Else-not-row_fits, eq-eqb _ _ c.if-indices-n.false)
+    simp (c.if-not-row_fits-2.true, ← c.row_fits-2.ensures, sizes_fit (goal.at.returns-then-not-row_fits-2 c).Else-not-row_fits, eq-eqb _ _ c.if-indices-n.false)
 
 -- and the variances
-variances-fit : (c : Else-not-row_fits-2) → let a = c.args in
+variances_fit : (c : Else-not-row_fits-2) → let a = c.args in
     row_fits a.f.now a.v.dimensions.variances a.v.dimensions.count ≡ true
-variances-fit c = sym c.row_fits-2.ensures ∙ c.if-not-row_fits-2.false
+variances_fit c = sym c.row_fits-2.ensures ∙ c.if-not-row_fits-2.false
 
 pub indices_right-requires : goal.indices_right-requires
-indices_right-requires c = (row_in _ _ _ (sizes-fit (goal.at.indices_right-requires c).Else-not-row_fits), omega (arith, c.if-indices-n.false))
+indices_right-requires c = (row_in _ _ _ (sizes_fit (goal.at.indices_right-requires c).Else-not-row_fits), omega (arith, c.if-indices-n.false))
 
 pub returns-then-not-indices_right : goal.returns-then-not-indices_right
 unfolding place_of placed
 returns-then-not-indices_right c =
     let wrong = c.if-not-indices_right.true in
-    simp (wrong, ← c.indices_right.ensures, variances-fit (goal.at.returns-then-not-indices_right c).Else-not-row_fits-2, sizes-fit (goal.at.returns-then-not-indices_right c).Else-not-row_fits, eq-eqb _ _ c.if-indices-n.false)
+    simp (wrong, ← c.indices_right.ensures, variances_fit (goal.at.returns-then-not-indices_right c).Else-not-row_fits-2, sizes_fit (goal.at.returns-then-not-indices_right c).Else-not-row_fits, eq-eqb _ _ c.if-indices-n.false)
 
 pub place_in-requires : goal.place_in-requires
 place_in-requires c =
-    (record { sizes = row_in _ _ _ (sizes-fit (goal.at.place_in-requires c).Else-not-row_fits); variances = row_in _ _ _ (variances-fit (goal.at.place_in-requires c).Else-not-row_fits-2) }, omega (arith, c.if-indices-n.false))
+    (record { sizes = row_in _ _ _ (sizes_fit (goal.at.place_in-requires c).Else-not-row_fits); variances = row_in _ _ _ (variances_fit (goal.at.place_in-requires c).Else-not-row_fits-2) }, omega (arith, c.if-indices-n.false))
 
 pub returns : goal.returns
 unfolding place_of placed
 returns c =
     let right = c.if-not-indices_right.false in
-    simp (← c.place_in.ensures, right, ← c.indices_right.ensures, variances-fit (goal.at.returns c).Else-not-row_fits-2, sizes-fit (goal.at.returns c).Else-not-row_fits, eq-eqb _ _ c.if-indices-n.false)
+    simp (← c.place_in.ensures, right, ← c.indices_right.ensures, variances_fit (goal.at.returns c).Else-not-row_fits-2, sizes_fit (goal.at.returns c).Else-not-row_fits, eq-eqb _ _ c.if-indices-n.false)

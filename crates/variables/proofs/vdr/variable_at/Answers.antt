@@ -14,14 +14,14 @@ unfolding variable_of
 returns-then-reached-ne0 c = simp (c.faulty.ensures, ne_eqb _ _ c.if-reached-ne0.true, ← c.reach-reached.ensures.0, ← c.head_of.ensures.0)
 
 -- the 128 bytes that a VDR of either kind begins with lie in the file, where it is reached
-head-inside : (c : Else-reached-ne0) → let a = c.args in a.at + 128 ≤ length a.f.now
-head-inside c = omega (arith, c.reach-reached.ensures.1 c.if-reached-ne0.false, c.head_of.ensures.1)
+head_inside : (c : Else-reached-ne0) → let a = c.args in a.at + 128 ≤ length a.f.now
+head_inside c = omega (arith, c.reach-reached.ensures.1 c.if-reached-ne0.false, c.head_of.ensures.1)
 
 pub element_size-element-requires : goal.element_size-element-requires
-element_size-element-requires c = omega (arith, head-inside (goal.at.element_size-element-requires c).Else-reached-ne0)
+element_size-element-requires c = omega (arith, head_inside (goal.at.element_size-element-requires c).Else-reached-ne0)
 
 pub vdr_fields-requires : goal.vdr_fields-requires
-vdr_fields-requires c = (omega (arith, head-inside (goal.at.vdr_fields-requires c).Else-reached-ne0), c.element_size-element.ensures.0)
+vdr_fields-requires c = (omega (arith, head_inside (goal.at.vdr_fields-requires c).Else-reached-ne0), c.element_size-element.ensures.0)
 
 pub returns-then-not-vdr_fields : goal.returns-then-not-vdr_fields
 unfolding variable_of
@@ -29,7 +29,7 @@ returns-then-not-vdr_fields c =
     simp (c.faulty-then-not-vdr_fields.ensures, c.if-not-vdr_fields.true, ← c.vdr_fields.ensures, eq-eqb _ _ c.if-reached-ne0.false, ← c.reach-reached.ensures.0, ← c.head_of.ensures.0)
 
 pub num_dims_at-p-requires : goal.num_dims_at-p-requires
-num_dims_at-p-requires c = omega (arith, head-inside (goal.at.num_dims_at-p-requires c).Else-reached-ne0)
+num_dims_at-p-requires c = omega (arith, head_inside (goal.at.num_dims_at-p-requires c).Else-reached-ne0)
 
 -- what is left of the rule once the fields are right, over the end and the offset of the number of dimensions
 rest : (c : After-end) →
@@ -50,14 +50,13 @@ returns-then-not-count_right c =
     simp (c.faulty-then-not-count_right.ensures, rest (goal.at.returns-then-not-count_right c).After-end, wrong, ← c.count_right.ensures, le-ltb _ _ c.if-end-p.false)
 
 pub dimensioned_vdr-requires : goal.dimensioned_vdr-requires
-dimensioned_vdr-requires c =
-    (
-      omega (arith, head-inside (goal.at.dimensioned_vdr-requires c).Else-reached-ne0),
-      omega arith,
-      c.dimensions_at.ensures.1,
-      c.element_size-element.ensures.0,
-      c.element_size-element.ensures.1,
-    )
+dimensioned_vdr-requires c = (
+  omega (arith, head_inside (goal.at.dimensioned_vdr-requires c).Else-reached-ne0),
+  omega arith,
+  c.dimensions_at.ensures.1,
+  c.element_size-element.ensures.0,
+  c.element_size-element.ensures.1,
+)
 
 pub returns : goal.returns
 returns c =
