@@ -41,7 +41,8 @@ pub fn tlz_epoch_from(year: i64, month: i64, day: i64, milliseconds: i64, epoch:
 {
     match counts::count_from(year, month, day, milliseconds) {
         Count::Whole(n) => {
-            *epoch = n as f64;
+            // A signed number is cast without a sum, so 0 does not become -0 where a program has set rounding downward.
+            *epoch = n as i64 as f64;
             0
         }
         Count::NoEpoch => 27,
