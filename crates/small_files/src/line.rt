@@ -89,13 +89,13 @@ fn checked(rt: &impl Print, file: &[u8], records: usize) -> io::Result<()> {
 // The line of the file that is the first bytes of f.
 pub(crate) fn shown(
     rt: &impl Print,
-    name: &str,
+    name: &[u8],
     f: &[u8],
     length: u32,
     records: usize,
 ) -> io::Result<()> {
     let n = length as usize;
-    print!(rt; "{name}")?;
+    rt.write_all(name)?;
     if f.len() < n {
         return println!(rt; ": too long");
     }

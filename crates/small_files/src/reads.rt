@@ -13,7 +13,7 @@ fn signed(rt: &impl Print, bits: u64) -> io::Result<()> {
 // The line of the first element of a value of the first zVariable.
 pub(crate) fn shown(
     rt: &impl Print,
-    name: &str,
+    name: &[u8],
     file: &[u8],
     rec: i64,
     indices: &[i64],
@@ -32,7 +32,7 @@ pub(crate) fn shown(
         &mut bits,
         &mut offset,
     );
-    print!(rt; "{name}")?;
+    rt.write_all(name)?;
     if number == 0 {
         print!(rt; ": kind {kind}, value ")?;
         signed(rt, bits)?;
