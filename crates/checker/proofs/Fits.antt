@@ -15,7 +15,7 @@ use Rattle.states.proofs.LevelLists.{levels_small}
 use Rattle.checker.proofs.Sound.{SoundBy}
 
 verdict_small : (v : ℕ) → IsVerdict v → v ≤ 23
-verdict_small v t = go (leb v 14) (eqb v 20) refl refl t.in_range_lem
+verdict_small v t = go (leb v 14) (eqb v 20) refl refl t.in_range
   where
     go : (a b : Bool) → leb v 14 ≡ a → eqb v 20 ≡ b → (a || b || eqb v 23) ≡ true → v ≤ 23
     go true b h k e = omega (arith, leb-true v 14 h)

@@ -30,7 +30,7 @@ verdict_cond : (b : Bool) {x y : ℕ} → IsVerdict x → IsVerdict y → IsVerd
 verdict_cond b p q = cond_keeps IsVerdict b p q
 
 verdict : (v : ℕ) → verdict_range v ≡ true → IsVerdict v
-verdict v e = record { in_range_lem = e }
+verdict v e = record { in_range = e }
 
 pub verdict_0 : IsVerdict 0
 verdict_0 = verdict 0 refl

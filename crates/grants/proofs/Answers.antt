@@ -27,7 +27,7 @@ pub answer_comes : (n : ℕ) (g : Stage) → Loaded n g → comes_back (answer_o
 answer_comes n Fresh h = refl
 answer_comes n (Sweep o) h = refl
 answer_comes n (Walking w up) h = refl
-answer_comes n (Done v p) h = go (leb v 14) (eqb v 20) (eqb v 23) h.1.verdict.in_range_lem
+answer_comes n (Done v p) h = go (leb v 14) (eqb v 20) (eqb v 23) h.1.verdict.in_range
   where
     go : (a b c : Bool) → (a || b || c) ≡ true → (a || (b || (eqb v 21 || c))) ≡ true
     go true b c e = refl

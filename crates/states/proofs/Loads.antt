@@ -63,7 +63,7 @@ load_is l = (go (eqb (get_or l 0 0) 0) (verdict_range (get_or l 0 0 - 1)) refl).
         (cond a (at (get_or l 1 0) (checked l (get_or l 1 0) (stage_by l (get_or l 2 0))))
         (cond b (done (get_or l 0 0 - 1) (saved_location (get_or l 0 0 - 1) (get_or l 33 0))) (at (get_or l 1 0) OutOfRange)))
     go true b e = record { loaded = checked_loaded l (get_or l 1 0) (stage_by l (get_or l 2 0)) }
-    go false true e = record { loaded = (refl, record { verdict = record { in_range_lem = e }; located = saved_fault (anywhere (get_or l 33 0)) (get_or l 0 0 - 1) }) }
+    go false true e = record { loaded = (refl, record { verdict = record { in_range = e }; located = saved_fault (anywhere (get_or l 33 0)) (get_or l 0 0 - 1) }) }
     go false false e = record { loaded = tt }
 
 -- ---- of the numbers of a save it makes the state again
@@ -91,7 +91,7 @@ module _ (n : ℕ) where
   unfolding load
   load_done v p t =
       let less : suc v - 1 ≡ v = omega arith in
-      rw (eqb-suc-zero v, less, t.verdict.in_range_lem, t.located)
+      rw (eqb-suc-zero v, less, t.verdict.in_range, t.located)
 
   load_stage : (g : Stage) → Loaded n g → load (save_numbers n g) ≡ at n g
   unfolding load stage_by
@@ -123,7 +123,7 @@ pub not_21 : (n : ℕ) (g : Stage) → Loaded n g → answer_of g ≡ pos 21 →
 not_21 n Fresh h e = let z : ◌≡◌ {A = ℕ} 0 1 = cc in omega arith
 not_21 n (Sweep o) h e = let z : ◌≡◌ {A = ℕ} 0 1 = cc in omega arith
 not_21 n (Walking w up) h e = let z : ◌≡◌ {A = ℕ} 0 1 = cc in omega arith
-not_21 n (Done v p) h e = let z : v ≡ 21 = cc in true≢false (sym (rw z at h.1.verdict.in_range_lem))
+not_21 n (Done v p) h e = let z : v ≡ 21 = cc in true≢false (sym (rw z at h.1.verdict.in_range))
 not_21 n OutOfRange h e = let z : ◌≡◌ {A = ℕ} 0 1 = cc in omega arith
 
 pub done_0 : (g : Stage) → answer_of g ≡ pos 0 → g ≡ Done 0 (location_in g)

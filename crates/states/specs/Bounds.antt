@@ -15,7 +15,7 @@ VerdictFits OutOfRange = Unit {0}
 
 -- a verdict that a saved state may tell
 pub record IsVerdict (v : ℕ) : Type 0 where
-  pub in_range_lem : verdict_range v ≡ true
+  pub in_range : verdict_range v ≡ true
 
 -- and its location
 pub record IsOutcome (v p : ℕ) : Type 0 where
