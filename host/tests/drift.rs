@@ -306,7 +306,8 @@ fn drift_is_found() {
 /// Parameters of one type in another order are found by their names.
 #[test]
 fn swapped_names_are_found() {
-    let source = "#[unsafe(no_mangle)]\npub extern \"C\" fn tlz_x(kind: &mut u64, bits: &mut u64) -> i32 {";
+    let source =
+        "#[unsafe(no_mangle)]\npub extern \"C\" fn tlz_x(kind: &mut u64, bits: &mut u64) -> i32 {";
     assert!(drift("int32_t tlz_x(uint64_t *kind, uint64_t *bits);", source).is_empty());
     assert!(drift("int32_t tlz_x(uint64_t *value_kind, uint64_t *bits);", source).is_empty());
     assert!(!drift("int32_t tlz_x(uint64_t *bits, uint64_t *kind);", source).is_empty());
