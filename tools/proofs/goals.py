@@ -105,8 +105,8 @@ def inside(found, of_calls, path, owner, name, type):
         return
     if word in of_calls or type.startswith("the-claims") or "-claims." in word:
         yield f"{path}.{name}" + ("" if name == "ensures" else ".ensures"), "call"
-    elif name == "ensures":
-        yield f"{path}.{name}", "ensures"
+    elif name in ("ensures", "is"):
+        yield f"{path}.{name}", name
     elif word.startswith("Came-"):
         yield f"{path}.{name}", "⊎"
     elif word in found and PARTS.match(word):
