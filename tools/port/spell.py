@@ -11,10 +11,10 @@ stands in proofs/ gets `_lem`.
 import collections
 import os
 import re
+import subprocess
 import sys
 
 WORD = r"[^\s(){}\[\],;.|:◌`\"]+"
-KIT = "/opt/rattle/rattle"
 LEMMA = "_lem"
 
 
@@ -32,8 +32,10 @@ def read(path):
 
 
 def library():
+    """The words of the kit's library, which lies beside the page that `rt doc` names."""
     found = set()
-    for path in texts(KIT, ".antt"):
+    page = subprocess.run(["rt", "doc"], check=True, capture_output=True, text=True).stdout.strip()
+    for path in texts(os.path.join(os.path.dirname(page), "rattle"), ".antt"):
         if "/examples/" not in path:
             found.update(re.findall(WORD, read(path)))
     return found

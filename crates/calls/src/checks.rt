@@ -1,4 +1,4 @@
-// A check of one file, as C calls it.
+// A check of one file.
 ghost use Rattle.std.specs.Prelude.{◌≡◌};
 ghost use Rattle.checker.specs.Grant.{granted, grant_of, begun, begin_of};
 

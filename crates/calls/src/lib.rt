@@ -1,4 +1,4 @@
-// The check's calls for C: a fresh state, a grant of steps, and a round over a list of jobs.
+// The check's calls, which crates/calls_c gives to C: a fresh state, a grant of steps, and a round over a list of jobs.
 #![tactic(auto)]
 
 pub mod checks;

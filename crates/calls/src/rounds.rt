@@ -1,4 +1,4 @@
-// A round over a lent list of rows, stepped in place, as C calls it.
+// A round over a lent list of rows, stepped in place.
 ghost use Rattle.std.specs.Prelude.{◌≡◌, ◌≤◌, length, false};
 ghost use Rattle.jobs.specs.Parts.{any_outside};
 ghost use Rattle.jobs.specs.Turns.{parts_at, window, turns_to, rounded, round_of};

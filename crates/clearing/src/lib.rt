@@ -1,4 +1,4 @@
-// The clearing of marks as a call for C, for the benchmark alone.
+// The clearing of marks as a call, which crates/clearing_c gives to C, for the benchmark alone.
 #![tactic(auto)]
 
 ghost use Rattle.std.specs.Prelude.{◌≡◌, ◌+◌, ◌≤◌, length};

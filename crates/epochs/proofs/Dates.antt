@@ -162,30 +162,30 @@ module _ (n y d : ℕ) (l : Bool) (in_y : InYear n y d) (l_is : l ≡ leap y) wh
   pub day_of_year : d < cond l 366 365
   day_of_year = rw l_is in_y.day
 
-  module _ (m b : ℕ) (in-m : InMonth l d m) (b-is : b ≡ days_before_month l m) where
+  module _ (m b : ℕ) (in_m : InMonth l d m) (b_is : b ≡ days_before_month l m) where
     pub date_found : (date y m (d - b + 1) ≡ date_of n) × DateFits (date y m (d - b + 1))
     date_found =
-        let b_of : b ≡ days_before_month (leap y) m = b-is ∙ ap (λ (t : Bool). days_before_month t m) l_is in
-        let low : b ≤ d = rw (sym b-is) at in-m.from in
-        let high : d < days_before_month (leap y) (suc m) = rw l_is at in-m.to in
+        let b_of : b ≡ days_before_month (leap y) m = b_is ∙ ap (λ (t : Bool). days_before_month t m) l_is in
+        let low : b ≤ d = rw (sym b_is) at in_m.from in
+        let high : d < days_before_month (leap y) (suc m) = rw l_is at in_m.to in
         let v : Valid y m (d - b + 1) = record { some = omega arith; within = omega (arith, next_before (leap y) m) } in (
           date_is n y m (d - b + 1) v (omega (arith, in_y)),
-          record { year = in_y.year; month = in-m.last; day = omega (arith, v.within, month_short (leap y) m in-m.first in-m.last) },
+          record { year = in_y.year; month = in_m.last; day = omega (arith, v.within, month_short (leap y) m in_m.first in_m.last) },
         )
 
 -- ---- what the code finds of a date
 pub date_test : (y m d : ℕ) (l : Bool) (k : ℕ) → k ≡ month_days l m → l ≡ leap y → (leb 1 d && leb d k) ≡ is_date (date y m d)
 unfolding is_date
-date_test y m d l k k-is l_is = rw (k-is, l_is)
+date_test y m d l k k_is l_is = rw (k_is, l_is)
 
 -- the days before it: s of the years, b of the months
 module _ (y m d : ℕ) (there : is_date (date y m d) ≡ true) where
   pub month_of_date : (1 ≤ m) × (m ≤ 12)
   month_of_date = let v = valid_of y m d there in (month_from y m d v, month_to y m d v)
 
-  module _ (small : y ≤ 9999) (l : Bool) (s b : ℕ) (s-is : s ≡ days_before_year y) (l_is : l ≡ leap y) (b-is : b ≡ days_before_month l m) where
+  module _ (small : y ≤ 9999) (l : Bool) (s b : ℕ) (s_is : s ≡ days_before_year y) (l_is : l ≡ leap y) (b_is : b ≡ days_before_month l m) where
     pub days_found : (s + b + (d - 1) ≡ days_before (date y m d)) × (s + b + (d - 1) < 3652425)
     unfolding days_before
     days_found =
-        let e : s + b + (d - 1) ≡ before y m d = rw (s-is, b-is, l_is) in
+        let e : s + b + (d - 1) ≡ before y m d = rw (s_is, b_is, l_is) in
         (e, rw e (day_small y m d small (valid_of y m d there)))

@@ -18,9 +18,9 @@ use Rattle.epochs.specs.Shown.{shown_date, shown_at, date_shown, shown_double, e
 use Rattle.epochs.proofs.Wholes.{count_value}
 
 -- ---- dates
-module _ (x : Float) (c : Count) (c_is : c ≡ count_of x) (n : ℕ) (n-is : c ≡ Whole n) where
+module _ (x : Float) (c : Count) (c_is : c ≡ count_of x) (n : ℕ) (n_is : c ≡ Whole n) where
   pub day_fits : n / day_length < 3652425
-  day_fits = omega (arith, (count_value x n (sym c_is ∙ n-is)).1)
+  day_fits = omega (arith, (count_value x n (sym c_is ∙ n_is)).1)
 
   pub date_shown_lem : (d : Date) → (d ≡ date_of (n / day_length)) × DateFits d → (y₀ m₀ d₀ t₀ : ℤ)
       → shown_date (pos 0) (to_z w32 d.year) (to_z w32 d.month) (to_z w32 d.day) (to_z w32 (n % day_length)) ≡ date_shown (count_of x) y₀ m₀ d₀ t₀
@@ -30,7 +30,7 @@ module _ (x : Float) (c : Count) (c_is : c ≡ count_of x) (n : ℕ) (n-is : c �
       let pm = to_z_pos w32 {n = d.month} (omega (arith, k.1.month)) in
       let pd = to_z_pos w32 {n = d.day} (omega (arith, k.1.day)) in
       let pt = to_z_pos w32 {n = n % day_length} (omega arith) in
-      rw (sym c_is ∙ n-is, py, pm, pd, pt) (ap (λ (e : Date). shown_at e (n % day_length)) k.0)
+      rw (sym c_is ∙ n_is, py, pm, pd, pt) (ap (λ (e : Date). shown_at e (n % day_length)) k.0)
 
 pub date_not_shown : (c k : Count) → k ≡ c → k ≡ NoEpoch → (y₀ m₀ d₀ t₀ : ℤ) → shown_date (pos 27) y₀ m₀ d₀ t₀ ≡ date_shown c y₀ m₀ d₀ t₀
 unfolding date_shown
@@ -46,11 +46,11 @@ unfolding epoch_shown
 epoch_not_shown c k e r x = rw (sym e ∙ r)
 
 -- ---- differences
-module _ (a b : Float) (p q : Bool) (p_is : p ≡ is_epoch a) (q-is : q ≡ is_epoch b) where
+module _ (a b : Float) (p q : Bool) (p_is : p ≡ is_epoch a) (q_is : q ≡ is_epoch b) where
   pub difference_is_shown : (p && q) ≡ true → (x : Float) → shown_double (pos 0) (sub binary64 a b) ≡ difference_shown a b x
   unfolding difference_shown
-  difference_is_shown e x = rw (sym p_is, sym q-is, e)
+  difference_is_shown e x = rw (sym p_is, sym q_is, e)
 
   pub difference_not_shown : (p && q) ≡ false → (x : Float) → shown_double (pos 27) x ≡ difference_shown a b x
   unfolding difference_shown
-  difference_not_shown e x = rw (sym p_is, sym q-is, e)
+  difference_not_shown e x = rw (sym p_is, sym q_is, e)

@@ -94,7 +94,7 @@ all_years = sym (by_division 10000)
 
 in_year : (n y b : ℕ) → y ≤ 9999 → b ≡ days_before_year y → b ≤ n → n < days_before_year (suc y) → InYear n y (n - b)
 unfolding days_before_year
-in_year n y b h b-is from to = record { year = h; sum = omega arith; day = omega arith }
+in_year n y b h b_is from to = record { year = h; sum = omega arith; day = omega arith }
 
 -- a day n, and y the year by the mean length of a year: n is in y or in the year before
 module _ (n y : ℕ) (e : y ≡ (400 * n + 400) / 146097) (h : n < 3652425) where
@@ -108,13 +108,13 @@ module _ (n y : ℕ) (e : y ≡ (400 * n + 400) / 146097) (h : n < 3652425) wher
   not_last k = omega arith
 
   pub year_found : (b : ℕ) → b ≡ days_before_year y → b ≤ n → InYear n y (n - b)
-  year_found b b-is k =
-      let from : days_before_year y ≤ n = rw b-is at k in
-      in_year n y b (not_last (rw (sym (by_division y)) at from)) b-is k (rw (by_division (suc y)) at not_after)
+  year_found b b_is k =
+      let from : days_before_year y ≤ n = rw b_is at k in
+      in_year n y b (not_last (rw (sym (by_division y)) at from)) b_is k (rw (by_division (suc y)) at not_after)
 
-  module _ (b : ℕ) (b-is : b ≡ days_before_year y) (k : n < b) where
+  module _ (b : ℕ) (b_is : b ≡ days_before_year y) (k : n < b) where
     pub some_year : 1 ≤ y
-    some_year = some_before n y (rw b-is at k)
+    some_year = some_before n y (rw b_is at k)
 
     pub before_some : (c : ℕ) → c ≡ days_before_year (y - 1) → c ≤ n
     before_some c c_is = rw (c_is, sym (by_division (y - 1))) not_before
@@ -123,5 +123,5 @@ module _ (n y : ℕ) (e : y ≡ (400 * n + 400) / 146097) (h : n < 3652425) wher
     year_before c c_is =
         let p = some_year in
         let up : suc (y - 1) ≡ y = omega arith in
-        let to : n < days_before_year y = rw b-is at k in
+        let to : n < days_before_year y = rw b_is at k in
         in_year n (y - 1) c (omega arith) c_is (before_some c c_is) (rw up to)

@@ -1,5 +1,5 @@
-// Epochs as dates of the proleptic Gregorian calendar: calls for C. A call answers 0 and sets the caller's numbers, or answers 27 and leaves
-// them alone.
+// Epochs as dates of the proleptic Gregorian calendar: the calls that crates/epochs_c gives to C. A call answers 0 and sets the caller's
+// numbers, or answers 27 and leaves them alone.
 #![tactic(auto)]
 
 ghost use Rattle.std.specs.Prelude.{◌≡◌};

@@ -1,4 +1,5 @@
-// The reader's calls for C. A call answers 0 and sets the caller's numbers, or answers the number of a refusal and leaves them alone.
+// The reader's calls, which crates/reader_c gives to C. A call answers 0 and sets the caller's numbers, or answers the number of a refusal
+// and leaves them alone.
 #![tactic(auto)]
 
 ghost use Rattle.std.specs.Prelude.{◌≡◌};

@@ -1,5 +1,5 @@
 -- Where the fields of each record stand, "offsets of fields are from the record's start" (4.1): section 4 of docs/RULES.md. A name ends in
--- At for a field, and begins with headOf for the link to the first record of a list. Assumes nothing.
+-- _at for a field, and begins with head_of for the link to the first record of a list. Assumes nothing.
 use Rattle.std.specs.Prelude.{ℕ, ◌+◌}
 
 -- 4.1: "Every record has its size at 0 and its type at 4"; 4.3: "the link to the next one at 8" of every record in a list

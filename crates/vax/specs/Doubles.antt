@@ -1,5 +1,5 @@
 -- Doubles by their bits: which bits are those of a finite double, the number that they denote as a fraction of whole numbers, and "nearest, ties to
--- an even last bit" (15.5) over all finite doubles. The double of bits n is ±unitsOf n / 2 ^ 1074. Assumes nothing.
+-- an even last bit" (15.5) over all finite doubles. The double of bits n is ±units_of n / 2 ^ 1074. Assumes nothing.
 use Rattle.std.specs.Prelude.{ℕ, zero, suc, ◌+◌, ◌-◌, ◌*◌, ◌/◌, ◌%◌, ◌^◌, ◌≤◌, ◌<◌, ◌≡◌, Bool, cond, leb}
 use Rattle.std.specs.Bool.{beq}
 

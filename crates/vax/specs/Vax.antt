@@ -6,7 +6,7 @@ use Rattle.vax.specs.Layouts.{Kind, parts}
 use Rattle.vax.specs.declared.Vax.{Vax}
 use Rattle.vax.specs.declared.Vax.TheVariants.{Given, Reserved}
 
--- ---- the value of a sign, an exponent e and a mantissa m: ±0.1m (binary) * 2 ^ (e - b), which is ±numOf w e m / denOf w b. 15.4: "An
+-- ---- the value of a sign, an exponent e and a mantissa m: ±0.1m (binary) * 2 ^ (e - b), which is ±num_of w e m / den_of w b. 15.4: "An
 -- exponent of zero with the sign clear is zero (+0) whatever its mantissa"
 abbrev pub num_of : ℕ → ℕ → ℕ → ℕ
 num_of w zero m = 0
