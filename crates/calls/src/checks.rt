@@ -1,4 +1,5 @@
 // A check of one file.
+// Answers are numbers, and what comes beside one goes where the caller says: the C interface of tlz_check_begin and tlz_check_grant.
 ghost use Rattle.std.specs.Prelude.{◌≡◌};
 ghost use Rattle.checker.specs.Grant.{granted, grant_of, begun, begin_of};
 

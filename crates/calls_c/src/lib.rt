@@ -1,4 +1,6 @@
 // The check's calls for C: each is the call of crates/calls by that name, with its clauses.
+// Answers are numbers, and what comes beside one goes where the caller says: the C interface of tlz_check_begin, tlz_check_grant and tlz_round.
+// Each stands twice: a library of Rattle cannot be a static library too.
 #![tactic(auto)]
 
 ghost use Rattle.std.specs.Prelude.{◌≡◌, length};

@@ -16,8 +16,8 @@ use Rattle.records.specs.Opening.{gdr_at}
 use Rattle.records.specs.Attributes.{adr_rule, aedr_rule}
 use Rattle.records.specs.Index.{entry_of, index_at, vxr_rule, vvr_rule}
 use Rattle.records.specs.Unused.{uir_rule}
-use Rattle.records.specs.declared.index.Entry as I
-use Rattle.variables.specs.declared.vdr.Variable.{Variable}
+use Rattle.records.specs.Index as I
+use Rattle.variables.specs.Vdr.{Variable}
 use Rattle.variables.specs.Vdr.{carried_of, variable_of}
 use Rattle.records.proofs.Judged.{reach_cases}
 use Rattle.records.proofs.Fielded.{adr_has, aedr_has, vxr_has, vvr_has, uir_has}

@@ -3,8 +3,8 @@ use mathlib.Core.Path.{◌≡◌, ap, ◌∙◌}
 use mathlib.Core.List.{List}
 use Prim.Native.Nat.{ℕ, ◌≤◌}
 use native.Mathlib.Omega.{arith}
-use lib.ListN.{length, take}
-use Rattle.records.specs.Opening.{file_end, body_of}
+use lib.ListN.{length}
+use Rattle.records.specs.Opening.{body_of}
 use Rattle.records.proofs.Bodies.{body_le}
 use Rattle.walk.specs.Levels.{levels_after}
 use Rattle.walk.specs.Walk.{walk_step}
@@ -16,11 +16,6 @@ use Rattle.checker.specs.declared.steps.Went.{Went}
 use Rattle.faults.specs.Holder.{holder_of}
 use Rattle.checker.specs.Step.{conf, stepped, step_by}
 use Rattle.checker.specs.Bounds.{Lent, went_to}
-
--- what lies before the end
-pub body_is : (f : List ℕ) (e : ℕ) → e ≡ file_end f → take e f ≡ body_of f
-unfolding body_of
-body_is f e h = ap (λ (k : ℕ). take k f) h
 
 -- what a step of the walk comes to, with its levels
 pub walked : (f m : List ℕ) (n : ℕ) (w : W.Walk) (up : Levels) (b : List ℕ)

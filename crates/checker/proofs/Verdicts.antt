@@ -17,7 +17,7 @@ use Rattle.walk.specs.declared.positions.Level.{Level}
 use Rattle.walk.specs.declared.positions.Walk as W
 use Rattle.walk.specs.declared.positions.Step as T
 use Rattle.marks.specs.Marks.{unclaimed_at, followed_at, found, left_from, left_of}
-use Rattle.marks.specs.declared.Found.{Found}
+use Rattle.marks.specs.Marks.{Found}
 use Rattle.states.specs.Saved.{verdict_range}
 use Rattle.states.specs.Bounds.{IsVerdict}
 use Rattle.checker.specs.Step.{open_number}

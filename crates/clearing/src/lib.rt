@@ -5,7 +5,8 @@ ghost use Rattle.std.specs.Prelude.{◌≡◌, ◌+◌, ◌≤◌, length};
 ghost use Rattle.marks.specs.Marks.{cleared};
 ghost use Rattle.clearing.specs.Clearing.{reached};
 
-// The marks of a record, as the sweep clears them, or singly throughout.
+// The marks of a record, as the sweep clears them, or singly as before where `singly` is not 0: a number, as C gives it to
+// `clearing_records`.
 fn clear_one(m: &mut [u8], at: usize, n: usize, singly: u32)
     requires { at + n ≤ length m.old }
     ensures { m.new ≡ cleared m.old at n }
@@ -22,9 +23,7 @@ pub fn clearing_records(m: &mut [u8], sizes: &[usize], singly: u32) -> usize
     ensures { (result ≡ reached (length m.old) sizes.now 0) × (m.new ≡ cleared m.old 0 result) }
 {
     let mut at = 0;
-    let mut i = 0;
-    while i < sizes.len() {
-        let n = sizes[i];
+    for &n in sizes {
         if n < 8 {
             return at;
         }
@@ -33,7 +32,6 @@ pub fn clearing_records(m: &mut [u8], sizes: &[usize], singly: u32) -> usize
         }
         clear_one(m, at, n, singly);
         at += n;
-        i += 1;
     }
     at
 }

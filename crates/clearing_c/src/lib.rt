@@ -1,4 +1,5 @@
 // The clearing of marks for C, for the benchmark alone: the call of crates/clearing by that name, with its clauses.
+// It stands twice: a library of Rattle cannot be a static library too.
 #![tactic(auto)]
 
 ghost use Rattle.std.specs.Prelude.{◌≡◌, length};

@@ -16,7 +16,7 @@ use Rattle.records.specs.Opening.{gdr_at}
 use Rattle.records.specs.Attributes.{adr_rule, aedr_rule}
 use Rattle.records.specs.Index.{used_at, vxr_rule, index_at, entry_of}
 use Rattle.records.specs.Unused.{uir_rule}
-use Rattle.records.specs.declared.index.Entry.{Entry}
+use Rattle.records.specs.Index.{Entry}
 use Rattle.variables.specs.Vdr.{carried_of, head_of, variable_of}
 use Rattle.walk.specs.Walk.{walk_step_by, walk_step, type_number, takes, gdr_named, field_number, over_by, vars_tally, after_vars, var_number, vars_list, entered, lower_over, lower_next, chain_list, chain_step, covers, values_number, entry_refused, values_step, lower_number, lower_step, entry_step, attr_number, attrs_list, after_entries, entries_list, num_number, entry_number, unused_number, unused_list, Listing, list_step}
 use Rattle.walk.specs.Levels.{is_none, most_of, room_below, pushed, popped}

@@ -9,7 +9,7 @@ use borrow.Author.Tests.{eqb-true, eq-eqb}
 use Rattle.format.specs.Fields.{end_of}
 use Rattle.records.specs.Rules.{size_at}
 use Rattle.marks.specs.Marks.{found}
-use Rattle.marks.specs.declared.Found.{Found}
+use Rattle.marks.specs.Marks.{Found}
 use Rattle.faults.specs.Fault.{fault_at}
 use Rattle.demands.proofs.Claims.{mem, in_use, Tiles, fits, first_in, Looks}
 

@@ -20,7 +20,7 @@ use Rattle.records.specs.Tiles.{tile}
 use Rattle.records.proofs.Tiled.{tile_seven, tile_fourteen, tile_has}
 use Rattle.records.proofs.Bodies.{body_le}
 use Rattle.marks.specs.Marks.{start_at, left_of}
-use Rattle.marks.specs.declared.Found as F
+use Rattle.marks.specs.Marks as F
 use Rattle.walk.specs.declared.positions.Walk.TheVariants.{Start}
 use Rattle.faults.specs.Holder.{holder_of}
 use Rattle.faults.specs.Fault.{ending, claiming, leaving, fault_at}

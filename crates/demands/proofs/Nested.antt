@@ -19,7 +19,7 @@ use Rattle.records.specs.Opening.{gdr_at}
 use Rattle.records.specs.Index.{used_at, vxr_rule, index_at, entry_of}
 use Rattle.records.specs.Tree.{Slot, slots_of, first_of, last_of, named_by, named_by_all, levels_below, flat, names_index, entries_under}
 use Rattle.records.proofs.Ranges.{EntryParts, entry_is_lem, entry_reads}
-use Rattle.records.specs.declared.index.Entry.{Entry}
+use Rattle.records.specs.Index.{Entry}
 use Rattle.variables.specs.Vdr.{variable_of}
 use Rattle.walk.specs.Levels.{no_levels, is_none, most_of, room_below, popped}
 use Rattle.walk.specs.Walk.{walk_step_by, type_number, takes, leads_to, by_link, Listing, claim, list_step, over_by, gdr_named, field_number, vars_tally, after_vars, var_number, into_index, vars_list, chain_tally, entered, lower_next, chain_list, chain_step, covers, values_number, entry_refused, values_step, lower_number, lower_step, entry_step, attr_number, attrs_list, entries_tally, after_entries, one_more, entry_number, entries_list, unused_number, unused_list}

@@ -2,7 +2,7 @@
 use mathlib.Core.Path.{◌≡◌, refl, subst}
 use mathlib.Core.Bool.{Bool, true, false}
 use mathlib.Core.List.{List}
-use Prim.Native.Nat.{ℕ, ◌+◌, ◌*◌, ◌≤◌, ◌<◌}
+use Prim.Native.Nat.{ℕ, ◌+◌, ◌*◌, ◌≤◌}
 use native.Mathlib.Omega.{arith}
 use lib.IntN.{ℤ, pos}
 use lib.ListN.{length}
@@ -11,16 +11,13 @@ use Rattle.format.proofs.FieldRanges.{end_is}
 use Rattle.records.specs.Opening.{body_of}
 use Rattle.variables.specs.Vdr.{num_dims_at, layout_at, layout_of, variable_of}
 use Rattle.variables.proofs.Rule.{vdr_reads, of_variable}
-use Rattle.lookup.specs.Lists.{kind_among, meets, variable_way, attribute_way, entry_way}
-use Rattle.lookup.specs.declared.refusals.Refusal.{Refusal}
+use Rattle.lookup.specs.Lists.{Way, kind_among, meets, variable_way, attribute_way, entry_way}
 use Rattle.lookup.specs.declared.lists.Wanted.{Wanted}
-use Rattle.lookup.specs.declared.lists.Way.{Way}
-use Rattle.lookup.specs.declared.lists.Way.TheVariants.{Found, Stopped}
+use Rattle.lookup.specs.declared.lists.Met.{Met as MetRecord}
+use Rattle.std.specs.Prelude.{Ok}
 use Rattle.lookup.proofs.Sought.{Finds}
 use Rattle.lookup.proofs.Found.{Met, variable_finds, attribute_finds, entry_finds, attribute_inside, entry_inside, variable_right, variable_inside}
-use Rattle.descriptors.specs.declared.Dimensions.TheVariants.{Are, Unknown}
-use Rattle.descriptors.specs.Descriptors.{variable_dimensions}
-use Rattle.descriptors.specs.Bounds.{field_bytes, Holds, Lie}
+use Rattle.descriptors.specs.Bounds.{field_bytes, Lie}
 
 counted : (f : List ℕ) (o : ℕ) → (layout_of f 8 o).sizes + 4 * (layout_of f 8 o).count ≤ end_of f → o + 132 ≤ length f
 unfolding layout_of layout_at num_dims_at
@@ -43,41 +40,24 @@ module _ (f : List ℕ) where
 
 -- in a file, whose part before its end is b
 module _ (f b : List ℕ) (part : b ≡ body_of f) where
-  -- what a way has found holds as many bytes as each record that it can find
-  holds : (t n : ℕ) → ((o : ℕ) → meets b t o ≡ true → o + n ≤ length b) → (way : Way) → Finds (Met f t) way → Holds b n way
-  holds t n h (Found o left) m = h o (rw part m.met)
-  holds t n h (Stopped v) m = tt
+  -- a record that a way has found holds as many bytes as each record that it can find
+  holds : (t n : ℕ) → ((o : ℕ) → meets b t o ≡ true → o + n ≤ length b) → (way : Way) → Finds (Met f t) way → (m : MetRecord) → way ≡ Ok m → m.at + n ≤ length b
+  holds t n h way found m e = h m.at (rw part (subst (Finds (Met f t)) e found).met)
 
-  pub variable_holds : (k n : ℤ) → Holds b (field_bytes (kind_among 3 8 k)) (variable_way f k n)
+  pub variable_holds : (k n : ℤ) (m : MetRecord) → variable_way f k n ≡ Ok m → m.at + field_bytes (kind_among 3 8 k) ≤ length b
   variable_holds k n = holds (kind_among 3 8 k) (field_bytes (kind_among 3 8 k)) (variable_bytes b k) (variable_way f k n) (variable_finds f k n)
 
-  pub variable_named : (k n : ℤ) → Holds b 128 (variable_way f k n)
+  pub variable_named : (k n : ℤ) (m : MetRecord) → variable_way f k n ≡ Ok m → m.at + 128 ≤ length b
   variable_named k n = holds (kind_among 3 8 k) 128 (λ o m. variable_inside b o k m) (variable_way f k n) (variable_finds f k n)
 
-  pub attribute_holds : (n : ℤ) → Holds b 116 (attribute_way f n)
+  pub attribute_holds : (n : ℤ) (m : MetRecord) → attribute_way f n ≡ Ok m → m.at + 116 ≤ length b
   attribute_holds n = holds 4 116 (attribute_inside b) (attribute_way f n) (attribute_finds f n)
 
-  pub entry_holds : (a k : ℤ) (w : Wanted) → Holds b (field_bytes (kind_among 5 9 k)) (entry_way f a k w)
+  pub entry_holds : (a k : ℤ) (w : Wanted) (m : MetRecord) → entry_way f a k w ≡ Ok m → m.at + field_bytes (kind_among 5 9 k) ≤ length b
   entry_holds a k w = holds (kind_among 5 9 k) (field_bytes (kind_among 5 9 k)) (entry_bytes b k) (entry_way f a k w) (entry_finds f a k w)
 
-  pub found_inside : (k n : ℤ) (o left : ℕ) → variable_way f k n ≡ Found o left → o + 128 ≤ length b
-  found_inside k n o left e = subst (Holds b 128) e (variable_named k n)
-
-  -- a variable that was found is one of a file whose length an offset can say
-  found_short : (k n : ℤ) (o left : ℕ) → variable_way f k n ≡ Found o left → length b < 2147483648
-  found_short k n o left e =
-      let m = (subst (Finds (Met f (kind_among 3 8 k))) e (variable_finds f k n)).file in
-      rw part (omega (arith, m.short, m.part))
-
-  -- the dimensions of a variable that was found, and of one that was not
-  module _ (k n : ℤ) where
-    pub dimensions_are : (o left : ℕ) → variable_way f k n ≡ Found o left → Are (variable_of b (kind_among 3 8 k) o).dimensions ≡ variable_dimensions f k n
-    unfolding variable_dimensions
-    dimensions_are o left e = rw (e, part)
-
-    pub dimensions_lie : (o left : ℕ) → variable_way f k n ≡ Found o left → Lie b (Are (variable_of b (kind_among 3 8 k) o).dimensions)
-    dimensions_lie o left e = ((of_variable b (kind_among 3 8 k) o).rows, found_short k n o left e)
-
-    pub dimensions_unknown : (v : Refusal) → variable_way f k n ≡ Stopped v → Unknown v ≡ variable_dimensions f k n
-    unfolding variable_dimensions
-    dimensions_unknown v e = rw e
+  -- the dimensions of a variable that was found lie in a file whose length an offset can say
+  pub dimensions_lie : (k n : ℤ) (m : MetRecord) → variable_way f k n ≡ Ok m → Lie b (variable_of b (kind_among 3 8 k) m.at).dimensions
+  dimensions_lie k n m e =
+      let found = (subst (Finds (Met f (kind_among 3 8 k))) e (variable_finds f k n)).file in
+      record { rows = (of_variable b (kind_among 3 8 k) m.at).rows; short = rw part (omega (arith, found.short, found.part)) }

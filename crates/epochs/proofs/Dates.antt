@@ -159,9 +159,6 @@ date_is n y m d v e =
 
 -- ---- the date that the code finds: the day d of the year y, its month m, and b days before that
 module _ (n y d : ℕ) (l : Bool) (in_y : InYear n y d) (l_is : l ≡ leap y) where
-  pub day_of_year : d < cond l 366 365
-  day_of_year = rw l_is in_y.day
-
   module _ (m b : ℕ) (in_m : InMonth l d m) (b_is : b ≡ days_before_month l m) where
     pub date_found : (date y m (d - b + 1) ≡ date_of n) × DateFits (date y m (d - b + 1))
     date_found =

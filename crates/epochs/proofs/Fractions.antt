@@ -18,8 +18,8 @@ use lib.Ieee.Order.{round_mono, le_of_values}
 use lib.Ieee.Positive.{num, den, positive, positive_of_value, own_value, values_of_le, between}
 use lib.Ieee.Compare.{differs_from_itself}
 use borrow.Author.Tests.{ltb-true, ltb-false, eqb-true, not-false}
+use Rattle.std.specs.Prelude.{Some, None}
 use Rattle.format.proofs.Tests.{both, either}
-use Rattle.epochs.specs.declared.counts.Count.TheVariants.{Whole, NoEpoch}
 use Rattle.epochs.specs.Epochs.{last_epoch, count_of}
 use Rattle.epochs.proofs.Wholes.{value_counts, count_value, count_is, may_cast, refused_unless}
 use Rattle.epochs.proofs.Exact.{exact_natural, exact_sum, zero_int}
@@ -52,7 +52,7 @@ zero_bits : to_bits binary64 (fin false 0 (pos 0)) ≡ 0
 unfolding to_bits size span climb
 zero_bits = refl
 
-bits_count : count_of (of_bits binary64 0) ≡ Whole 0
+bits_count : count_of (of_bits binary64 0) ≡ Some 0
 unfolding count_of of_bits
 bits_count = refl
 
@@ -66,19 +66,26 @@ below_one (fin false m e) zero v h = refl
 below_one (fin false m e) (suc n) v h = absurd (omega (arith, v.1, ltb-true (m * up e * 1) (1 * down e) h))
 
 -- ---- no test refuses a count
-module _ (x : Float) (f : T (fits binary64 x)) where
-  pub refused_late : le x last ≡ false → NoEpoch ≡ count_of x
+-- as the code holds it
+fit : (x : Float) → fits binary64 x ≡ true → T (fits binary64 x)
+fit x e = subst T (sym e) tt
+
+module _ (x : Float) (held : fits binary64 x ≡ true) where
+  f : T (fits binary64 x)
+  f = fit x held
+
+  pub refused_late : le x last ≡ false → None ≡ count_of x
   refused_late e = refused_unless x (λ n k. go n (count_value x n k))
     where
       go : (n : ℕ) → (HasValue x false n 1) × (n ≤ last_epoch) → ⊥
       go n v = subst T e (le_of_values x last n 1 last_epoch 1 (omega arith) (omega arith) v.0 (refl, refl) (omega (arith, v.1)))
 
-  pub zero_counts : to_bits binary64 x ≡ 0 → Whole 0 ≡ count_of x
+  pub zero_counts : to_bits binary64 x ≡ 0 → Some 0 ≡ count_of x
   zero_counts h =
       let e : x ≡ of_bits binary64 0 = sym (of_bits-to_bits binary64 x f) ∙ ap (of_bits binary64) h in
       sym (ap count_of e ∙ bits_count)
 
-  pub refused_small : lt x one ≡ true → (to_bits binary64 x ≡ 0 → ⊥) → NoEpoch ≡ count_of x
+  pub refused_small : lt x one ≡ true → (to_bits binary64 x ≡ 0 → ⊥) → None ≡ count_of x
   refused_small l h = refused_unless x (λ n k. h (go n (count_value x n k).0 (count_is x n f k).0))
     where
       go : (n : ℕ) → HasValue x false n 1 → x ≡ of_int binary64 (pos n) → to_bits binary64 x ≡ 0
@@ -87,7 +94,7 @@ module _ (x : Float) (f : T (fits binary64 x)) where
           let q : x ≡ fin false 0 (pos 0) = e ∙ rw z zero_int in
           rw q zero_bits
 
-  module _ (n : ℕ) (k : count_of x ≡ Whole n) where
+  module _ (n : ℕ) (k : count_of x ≡ Some n) where
     back_again : sub binary64 (add binary64 x large) large ≡ x
     unfolding of_int
     back_again =
@@ -104,7 +111,7 @@ module _ (x : Float) (f : T (fits binary64 x)) where
         let h : x ≡ nan = differs_from_itself x (subst T (sym g) tt) in
         subst (λ (z : Float). HasValue z false n 1) h (count_value x n k).0
 
-  pub refused_fraction : ne (sub binary64 (add binary64 x large) large) x ≡ true → NoEpoch ≡ count_of x
+  pub refused_fraction : ne (sub binary64 (add binary64 x large) large) x ≡ true → None ≡ count_of x
   refused_fraction e = refused_unless x (λ n k. not_lost n k e)
 
 -- ---- what passes them is a count
@@ -225,13 +232,13 @@ found (fin false m e) h l k =
     let w = not_lost_whole m e b k in
     record { number = w.number; value = w.value; small = number_small m e b w.number w.value }
 
-module _ (x : Float) (f : T (fits binary64 x)) (h : le x last ≡ true) (l : lt x one ≡ false)
+module _ (x : Float) (held : fits binary64 x ≡ true) (h : le x last ≡ true) (l : lt x one ≡ false)
     (e : ne (sub binary64 (add binary64 x large) large) x ≡ false) where
   the_count : Found x
   unfolding ne
   the_count = found x h l (not-false (eq (sub binary64 (add binary64 x large) large) x) e)
 
-  counts : count_of x ≡ Whole the_count.number
+  counts : count_of x ≡ Some the_count.number
   counts = value_counts the_count.number the_count.small x the_count.value
 
   -- and the cast gives it
@@ -239,10 +246,10 @@ module _ (x : Float) (f : T (fits binary64 x)) (h : le x last ≡ true) (l : lt 
   cast_back =
       let n = the_count.number in
       let back = unsigned_back binary64 64 n (may_cast n the_count.small) (omega (arith, the_count.small)) in
-      subst (λ (y : Float). T (in_unsigned binary64 64 y) × (to_unsigned 64 y ≡ n)) (sym (count_is x n f counts).0) back
+      subst (λ (y : Float). T (in_unsigned binary64 64 y) × (to_unsigned 64 y ≡ n)) (sym (count_is x n (fit x held) counts).0) back
 
   pub may_take : T (in_unsigned binary64 64 x)
   may_take = cast_back.0
 
-  pub part_counts : Whole (to_unsigned 64 x) ≡ count_of x
-  part_counts = ap Whole cast_back.1 ∙ sym counts
+  pub part_counts : Some (to_unsigned 64 x) ≡ count_of x
+  part_counts = ap Some cast_back.1 ∙ sym counts

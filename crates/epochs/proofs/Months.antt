@@ -120,10 +120,6 @@ unfolding days_before_month month_days
 year_length true = refl
 year_length false = refl
 
-pub year_small : (l : Bool) → cond l 366 365 ≤ 366
-year_small true = omega arith
-year_small false = omega arith
-
 module _ (l : Bool) (d : ℕ) (h : d < cond l 366 365) where
   month_at : InMonth l d (month_by l d)
   month_at = holds_says l d (month_by l d) (below (cond l 366 365) (λ d. holds l d (month_by l d)) (all_months l) d h)

@@ -8,9 +8,8 @@ use lib.IntN.{ℤ, pos, negsuc, nat_abs, ◌-ℤ◌}
 use lib.Ieee.{Float, binary64, of_int, in_signed, to_signed, in_float}
 use lib.Ieee.Back.{positive_back, negative_back}
 use borrow.Author.Tests.{ltb-true}
+use Rattle.std.specs.Prelude.{Option, Some, None}
 use Rattle.epochs.specs.declared.calendar.Date.{Date}
-use Rattle.epochs.specs.declared.counts.Count.{Count}
-use Rattle.epochs.specs.declared.counts.Count.TheVariants.{Whole, NoEpoch}
 use Rattle.epochs.specs.Calendar.{date, days_before, date_of}
 use Rattle.epochs.specs.Epochs.{day_length, last_epoch, count_of, is_epoch, count_at, count_moment, count_from}
 use Rattle.epochs.specs.Shown.{shown_date, shown_at, date_shown, shown_double, epoch_shown, difference_shown}
@@ -55,13 +54,13 @@ module _ (n : ℕ) (h : n ≤ last_epoch) where
       let d = date_of (n / day_length) in
       record { year = year_small d.year d.month d.day k.1; there = of_valid d.year d.month d.day k.0; time = omega arith }
 
-  counted_back : count_moment at (n % day_length) ≡ Whole n
+  counted_back : count_moment at (n % day_length) ≡ Some n
   unfolding at count_at days_before
   counted_back =
       let d = date_of (n / day_length) in
       let m = of_moment d.year d.month d.day (n % day_length) moment_there in
       sym (counted d.year d.month d.day (n % day_length) m)
-      ∙ ap Whole (ap (λ (k : ℕ). k * day_length + n % day_length) (date_counts (n / day_length)).1 ∙ omega arith)
+      ∙ ap Some (ap (λ (k : ℕ). k * day_length + n % day_length) (date_counts (n / day_length)).1 ∙ omega arith)
 
 no_answer : {A : Type 0} → pos 27 ≡ pos 0 → A
 no_answer e = let q : ◌≡◌ {A = ℕ} 0 27 = cc in absurd (omega arith)
@@ -70,10 +69,10 @@ pub date_and_back : DateAndBack
 unfolding date_shown epoch_shown count_from at
 date_and_back x f y m d t z = go (count_of x) refl
   where
-    go : (c : Count) → count_of x ≡ c → let s = date_shown c y m d t in s.answer ≡ pos 0
+    go : (c : Option ℕ) → count_of x ≡ c → let s = date_shown c y m d t in s.answer ≡ pos 0
         → epoch_shown (count_from s.year s.month s.day s.milliseconds) z ≡ shown_double (pos 0) x
-    go (Whole n) e a = let k = count_is x n f e in rw (counted_back n k.1) (ap (shown_double (pos 0)) (sym k.0))
-    go NoEpoch e a = no_answer a
+    go (Some n) e a = let k = count_is x n f e in rw (counted_back n k.1) (ap (shown_double (pos 0)) (sym k.0))
+    go None e a = no_answer a
 
 -- ---- the count of a date has that date
 dated_back : (y m d t n : ℕ) → Moment y m d t → count_at (date y m d) t ≡ n → (date y m d ≡ date_of (n / day_length)) × (t ≡ n % day_length)
@@ -82,11 +81,11 @@ dated_back y m d t n a e =
     let q : before y m d ≡ n / day_length = omega (arith, a.time) in
     (date_is (n / day_length) y m d (valid_of y m d a.there) q, omega (arith, a.time))
 
-natural_back : (y m d t : ℕ) (z : Float) (y₀ m₀ d₀ t₀ : ℤ) (c : Count) → count_moment (date y m d) t ≡ c → (epoch_shown c z).answer ≡ pos 0
+natural_back : (y m d t : ℕ) (z : Float) (y₀ m₀ d₀ t₀ : ℤ) (c : Option ℕ) → count_moment (date y m d) t ≡ c → (epoch_shown c z).answer ≡ pos 0
     → date_shown (count_of (epoch_shown c z).double) y₀ m₀ d₀ t₀ ≡ shown_date (pos 0) (pos y) (pos m) (pos d) (pos t)
 unfolding date_shown epoch_shown
-natural_back y m d t z y₀ m₀ d₀ t₀ NoEpoch e a = no_answer a
-natural_back y m d t z y₀ m₀ d₀ t₀ (Whole n) e a =
+natural_back y m d t z y₀ m₀ d₀ t₀ None e a = no_answer a
+natural_back y m d t z y₀ m₀ d₀ t₀ (Some n) e a =
     let k = count_of_moment y m d t n e in
     let s : n ≤ last_epoch = omega (arith, k.1, count_small y m d t k.0) in
     let b = dated_back y m d t n k.0 k.1 in

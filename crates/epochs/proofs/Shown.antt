@@ -8,9 +8,8 @@ use lib.Ieee.{Float, binary64, of_int, sub}
 use mir.Syntax.{w32}
 use mir.Val.{to_z}
 use mir.Facts.{to_z_pos}
+use Rattle.std.specs.Prelude.{Option, Some, None}
 use Rattle.epochs.specs.declared.calendar.Date.{Date}
-use Rattle.epochs.specs.declared.counts.Count.{Count}
-use Rattle.epochs.specs.declared.counts.Count.TheVariants.{Whole, NoEpoch}
 use Rattle.epochs.specs.Calendar.{date_of}
 use Rattle.epochs.specs.Bounds.{DateFits}
 use Rattle.epochs.specs.Epochs.{day_length, count_of, is_epoch}
@@ -18,7 +17,7 @@ use Rattle.epochs.specs.Shown.{shown_date, shown_at, date_shown, shown_double, e
 use Rattle.epochs.proofs.Wholes.{count_value}
 
 -- ---- dates
-module _ (x : Float) (c : Count) (c_is : c ≡ count_of x) (n : ℕ) (n_is : c ≡ Whole n) where
+module _ (x : Float) (c : Option ℕ) (c_is : c ≡ count_of x) (n : ℕ) (n_is : c ≡ Some n) where
   pub day_fits : n / day_length < 3652425
   day_fits = omega (arith, (count_value x n (sym c_is ∙ n_is)).1)
 
@@ -32,16 +31,16 @@ module _ (x : Float) (c : Count) (c_is : c ≡ count_of x) (n : ℕ) (n_is : c �
       let pt = to_z_pos w32 {n = n % day_length} (omega arith) in
       rw (sym c_is ∙ n_is, py, pm, pd, pt) (ap (λ (e : Date). shown_at e (n % day_length)) k.0)
 
-pub date_not_shown : (c k : Count) → k ≡ c → k ≡ NoEpoch → (y₀ m₀ d₀ t₀ : ℤ) → shown_date (pos 27) y₀ m₀ d₀ t₀ ≡ date_shown c y₀ m₀ d₀ t₀
+pub date_not_shown : (c k : Option ℕ) → k ≡ c → k ≡ None → (y₀ m₀ d₀ t₀ : ℤ) → shown_date (pos 27) y₀ m₀ d₀ t₀ ≡ date_shown c y₀ m₀ d₀ t₀
 unfolding date_shown
 date_not_shown c k e r y₀ m₀ d₀ t₀ = rw (sym e ∙ r)
 
 -- ---- epochs
-pub epoch_is_shown : (c k : Count) → k ≡ c → (n : ℕ) → k ≡ Whole n → (x : Float) → shown_double (pos 0) (of_int binary64 (pos n)) ≡ epoch_shown c x
+pub epoch_is_shown : (c k : Option ℕ) → k ≡ c → (n : ℕ) → k ≡ Some n → (x : Float) → shown_double (pos 0) (of_int binary64 (pos n)) ≡ epoch_shown c x
 unfolding epoch_shown
 epoch_is_shown c k e n r x = rw (sym e ∙ r)
 
-pub epoch_not_shown : (c k : Count) → k ≡ c → k ≡ NoEpoch → (x : Float) → shown_double (pos 27) x ≡ epoch_shown c x
+pub epoch_not_shown : (c k : Option ℕ) → k ≡ c → k ≡ None → (x : Float) → shown_double (pos 27) x ≡ epoch_shown c x
 unfolding epoch_shown
 epoch_not_shown c k e r x = rw (sym e ∙ r)
 

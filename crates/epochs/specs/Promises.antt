@@ -1,10 +1,9 @@
 -- What is promised of dates and epochs, of every double that binary64 holds (`fits`), as each `f64` is. Section 17 of docs/RULES.md.
 -- Assumes nothing.
-use Rattle.std.specs.Prelude.{◌≡◌, true, false, ℕ, suc, ◌*◌, ◌≤◌, T, ℤ, pos, ◌-ℤ◌, Float}
+use Rattle.std.specs.Prelude.{◌≡◌, true, false, ℕ, suc, ◌*◌, ◌≤◌, T, ℤ, pos, ◌-ℤ◌, Float, Some}
 use Rattle.std.specs.Float.{binary64, fin}
 use Rattle.std.specs.Float.Ieee.{fits, of_int, in_signed, to_signed}
 use Rattle.epochs.specs.declared.calendar.Date.{Date}
-use Rattle.epochs.specs.declared.counts.Count.TheVariants.{Whole}
 use Rattle.epochs.specs.Calendar.{days_before_year, is_date, days_before, date_of}
 use Rattle.epochs.specs.Epochs.{day_length, last_epoch, count_of, count_from}
 use Rattle.epochs.specs.Shown.{shown_date, date_shown, shown_double, epoch_shown, difference_shown}
@@ -24,8 +23,8 @@ LastEpoch = days_before_year 10000 * day_length ≡ suc last_epoch
 
 -- a double counts n exactly if it is the double of the whole number n, and n is no later than the last epoch; so no two of these numbers have one double
 pub record CountsOf (x : Float) (n : ℕ) : Type 0 where
-  pub is : count_of x ≡ Whole n → (x ≡ of_int binary64 (pos n)) × (n ≤ last_epoch)
-  pub all : x ≡ of_int binary64 (pos n) → n ≤ last_epoch → count_of x ≡ Whole n
+  pub is : count_of x ≡ Some n → (x ≡ of_int binary64 (pos n)) × (n ≤ last_epoch)
+  pub all : x ≡ of_int binary64 (pos n) → n ≤ last_epoch → count_of x ≡ Some n
 
 abbrev pub WholeNumbers : Type 0
 WholeNumbers = (x : Float) (n : ℕ) → T (fits binary64 x) → CountsOf x n
@@ -53,4 +52,4 @@ pub record Difference (a b : Float) (m n : ℕ) : Type 0 where
   pub equal : m ≡ n → of_int binary64 (pos m -ℤ pos n) ≡ fin false 0 (pos 0)
 
 abbrev pub ExactDifference : Type 0
-ExactDifference = (a b : Float) (m n : ℕ) → count_of a ≡ Whole m → count_of b ≡ Whole n → Difference a b m n
+ExactDifference = (a b : Float) (m n : ℕ) → count_of a ≡ Some m → count_of b ≡ Some n → Difference a b m n

@@ -1,10 +1,10 @@
 // The proleptic Gregorian calendar of the years 0 to 9999.
 ghost use Rattle.std.specs.Prelude.{◌≡◌, true, cond, ◌≤◌, ◌<◌};
-ghost use Rattle.epochs.specs.Calendar.{leap, month_days, days_before_month, days_before_year, date, is_date, days_before, date_of};
+ghost use Rattle.epochs.specs.Calendar.{leap, month_days, days_before_month, days_before_year, is_date, days_before, date_of};
 ghost use Rattle.epochs.specs.Bounds.{InYear, InMonth, DateFits};
 
 // A date: the year, the month from 1 to 12, the day of the month from 1.
-#[derive(Clone, Copy)]
+#[derive(Clone, Copy, Debug, PartialEq, Eq)]
 pub struct Date {
     pub year: u64,
     pub month: u64,
@@ -12,7 +12,7 @@ pub struct Date {
 }
 
 // A year and a day of it, from 0.
-#[derive(Clone, Copy)]
+#[derive(Clone, Copy, Debug, PartialEq, Eq)]
 pub struct YearDay {
     pub year: u64,
     pub day: u64,
@@ -22,13 +22,7 @@ pub struct YearDay {
 fn is_leap(y: u64) -> bool
     ensures { result ≡ leap y }
 {
-    if y % 4 != 0 {
-        return false;
-    }
-    if y % 100 != 0 {
-        return true;
-    }
-    y % 400 == 0
+    y % 4 == 0 && (y % 100 != 0 || y % 400 == 0)
 }
 
 // The days of the years before y. The quotients are how many of them 4, 400 and 100 divide, year 0 among them.
@@ -45,42 +39,42 @@ fn year_of(n: u64) -> YearDay
     requires { n < 3652425 }
     ensures { InYear n result.year result.day }
 {
-    let y = (400 * n + 400) / 146097;
-    let b = before_year(y);
-    if n < b {
-        let z = y - 1;
+    let found = (400 * n + 400) / 146097;
+    let before = before_year(found);
+    if n < before {
+        let year = found - 1;
         return YearDay {
-            year: z,
-            day: n - before_year(z),
+            year,
+            day: n - before_year(year),
         };
     }
     YearDay {
-        year: y,
-        day: n - b,
+        year: found,
+        day: n - before,
     }
 }
 
-// The days by which February is shorter than 30.
+// The days by which February is shorter than 30. By a choice: 2 - u64::from(l) would not say which year has which.
 fn short(l: bool) -> u64
     ensures { (result ≡ cond l 1 2) × (1 ≤ result) × (result ≤ 2) }
 {
     if l { 1 } else { 2 }
 }
 
-// The days of a month; a number that is no month has none.
+// The days of a month; a number that is no month has none. With an arm of its own for February the way back from a date takes a fifth longer.
 fn month_days(l: bool, m: u64) -> u64
     ensures { result ≡ month_days l m }
 {
-    if m < 1 {
-        return 0;
+    match m {
+        1..=12 => {
+            if m == 2 {
+                30 - short(l)
+            } else {
+                30 + (m + m / 8) % 2
+            }
+        }
+        _ => 0,
     }
-    if 12 < m {
-        return 0;
-    }
-    if m == 2 {
-        return 30 - short(l);
-    }
-    30 + (m + m / 8) % 2
 }
 
 // The days of the months before a month: as if February had 30 days, less what it is short of them.
@@ -111,29 +105,27 @@ pub fn date_of(n: u64) -> Date
     ensures { (result ≡ date_of n) × DateFits result }
 {
     let p = year_of(n);
-    let y = p.year;
-    let d = p.day;
-    let l = is_leap(y);
-    let m = month_of(l, d);
+    let l = is_leap(p.year);
+    let m = month_of(l, p.day);
     let b = before_month(l, m);
     Date {
-        year: y,
+        year: p.year,
         month: m,
-        day: d - b + 1,
+        day: p.day - b + 1,
     }
 }
 
 // A date exists: its month has that day.
-pub fn is_date(y: u64, m: u64, d: u64) -> bool
-    ensures { result ≡ is_date (date y m d) }
+pub fn is_date(d: Date) -> bool
+    ensures { result ≡ is_date d }
 {
-    (1 <= d) & (d <= month_days(is_leap(y), m))
+    (1 <= d.day) & (d.day <= month_days(is_leap(d.year), d.month))
 }
 
 // The days before a date.
-pub fn days_before(y: u64, m: u64, d: u64) -> u64
-    requires { (y ≤ 9999) × (is_date (date y m d) ≡ true) }
-    ensures { (result ≡ days_before (date y m d)) × (result < 3652425) }
+pub fn days_before(d: Date) -> u64
+    requires { (d.year ≤ 9999) × (is_date d ≡ true) }
+    ensures { (result ≡ days_before d) × (result < 3652425) }
 {
-    before_year(y) + before_month(is_leap(y), m) + (d - 1)
+    before_year(d.year) + before_month(is_leap(d.year), d.month) + (d.day - 1)
 }

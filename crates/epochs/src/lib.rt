@@ -1,12 +1,10 @@
-// Epochs as dates of the proleptic Gregorian calendar: the calls that crates/epochs_c gives to C. A call answers 0 and sets the caller's
-// numbers, or answers 27 and leaves them alone.
+// Epochs as dates of the proleptic Gregorian calendar: the calls that crates/epochs_c gives to C, in C's form, which tlepozaluh.h states: a
+// call answers 0 and sets the caller's numbers, or answers 27 and leaves them alone.
 #![tactic(auto)]
 
 ghost use Rattle.std.specs.Prelude.{◌≡◌};
 ghost use Rattle.epochs.specs.Epochs.{count_of, count_from};
 ghost use Rattle.epochs.specs.Shown.{shown_date, date_shown, shown_double, epoch_shown, difference_shown};
-
-use counts::Count;
 
 pub mod calendar;
 pub mod counts;
@@ -23,7 +21,7 @@ pub fn tlz_epoch_date(
         ≡ date_shown (count_of epoch) year.old month.old day.old milliseconds.old }
 {
     match counts::count_of(epoch) {
-        Count::Whole(n) => {
+        Some(n) => {
             let d = calendar::date_of(n / 86400000);
             *year = d.year as i32;
             *month = d.month as i32;
@@ -31,7 +29,7 @@ pub fn tlz_epoch_date(
             *milliseconds = (n % 86400000) as i32;
             0
         }
-        Count::NoEpoch => 27,
+        None => 27,
     }
 }
 
@@ -40,12 +38,12 @@ pub fn tlz_epoch_from(year: i64, month: i64, day: i64, milliseconds: i64, epoch:
     ensures { shown_double result epoch.new ≡ epoch_shown (count_from year month day milliseconds) epoch.old }
 {
     match counts::count_from(year, month, day, milliseconds) {
-        Count::Whole(n) => {
+        Some(n) => {
             // A signed number is cast without a sum, so 0 does not become -0 where a program has set rounding downward.
-            *epoch = n as i64 as f64;
+            *epoch = n.cast_signed() as f64;
             0
         }
-        Count::NoEpoch => 27,
+        None => 27,
     }
 }
 

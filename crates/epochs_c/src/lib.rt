@@ -1,4 +1,5 @@
 // The calls of epochs for C: each is the call of crates/epochs by that name, with its clauses.
+// Each stands twice: a library of Rattle cannot be a static library too.
 #![tactic(auto)]
 
 ghost use Rattle.std.specs.Prelude.{◌≡◌};

@@ -3,8 +3,9 @@ ghost use Rattle.std.specs.Prelude.{◌≡◌};
 ghost use Rattle.faults.specs.Fault.{none_involved, sweeping, ending, claiming, leaving, fault_at, saved_location};
 
 // The records that a step involves, each by its offset: the one that holds the link, the one that the link leads to, the one that is
-// swept, the first that no link claimed. 0 for one that it does not involve.
-#[derive(Clone, Copy)]
+// swept, the first that no link claimed. 0 for one that it does not involve. No Option: the location that is saved says it so too, and
+// saved_location takes every number for one, 0 among them.
+#[derive(Clone, Copy, Debug, PartialEq, Eq)]
 pub struct Involved {
     pub holder: u32,
     pub target: u32,
@@ -25,14 +26,13 @@ pub fn none_involved() -> Involved
 }
 
 // A step of the sweep.
+// This and the next three are public, and one struct update each.
 pub fn sweeping(at: u32) -> Involved
     ensures { result ≡ sweeping at }
 {
     Involved {
-        holder: 0,
-        target: 0,
         swept: at,
-        unclaimed: 0,
+        ..none_involved()
     }
 }
 
@@ -42,9 +42,7 @@ pub fn ending(holder: u32) -> Involved
 {
     Involved {
         holder,
-        target: 0,
-        swept: 0,
-        unclaimed: 0,
+        ..none_involved()
     }
 }
 
@@ -55,8 +53,7 @@ pub fn claiming(holder: u32, target: u32) -> Involved
     Involved {
         holder,
         target,
-        swept: 0,
-        unclaimed: 0,
+        ..none_involved()
     }
 }
 
@@ -65,31 +62,30 @@ pub fn leaving(at: u32) -> Involved
     ensures { result ≡ leaving at }
 {
     Involved {
-        holder: 0,
-        target: 0,
-        swept: 0,
         unclaimed: at,
+        ..none_involved()
     }
 }
 
-// Which record, for which number.
+// Which record, for which number. No Breach: fault_at answers for every number, also for 0, which is none.
+#[tactic(auto, unfolding(crate::specs::Fault::fault_at))]
 pub fn fault_at(r: Involved, number: u32) -> u32
     ensures { result ≡ fault_at r number }
 {
     let claims = r.target != 0;
-    if (number == 8) | (number == 9) | (number == 12) | ((number == 11) & !claims) {
-        return r.holder;
+    match number {
+        8 | 9 | 12 => r.holder,
+        10 | 23 => r.target,
+        11 if claims => r.target,
+        11 => r.holder,
+        14 if claims => r.target,
+        7 | 14 => r.swept,
+        13 => r.unclaimed,
+        _ => 0,
     }
-    if (number == 10) | (number == 23) | (((number == 14) | (number == 11)) & claims) {
-        return r.target;
-    }
-    if (number == 7) | (number == 14) {
-        return r.swept;
-    }
-    if number == 13 { r.unclaimed } else { 0 }
 }
 
-// What a finished check with this verdict says again.
+// What a finished check with this verdict says again. Both are numbers: saved_location answers for every verdict and every location.
 pub fn saved_location(number: u32, location: u32) -> u32
     ensures { result ≡ saved_location number location }
 {

@@ -1,24 +1,24 @@
--- A row of fields, one field after the other. Assumes nothing.
-use mathlib.Core.Path.{◌≡◌, sym, ap}
-use mathlib.Core.Bool.{true, false, ◌&&◌}
+-- A row of fields, by the numbers of its fields. Assumes nothing.
+use mathlib.Core.Path.{◌≡◌, refl, ap, ◌∙◌}
+use mathlib.Core.Bool.{Bool, ◌&&◌}
 use mathlib.Core.List.{List}
-use Prim.Native.Nat.{ℕ, suc, ◌+◌, ◌-◌, ◌≤◌, ◌<◌}
+use Prim.Native.Nat.{ℕ, zero, suc, ◌+◌, ◌*◌}
 use native.Mathlib.Omega.{arith}
 use lib.IntN.{ℤ}
-use Rattle.format.specs.Fields.{at_least, at_most, each_within}
+use Rattle.std.specs.List.{list_all, range_with_len}
+use Rattle.format.specs.Fields.{within_at, each_within}
 
-module _ (f : List ℕ) (at n : ℕ) (lo hi : ℤ) where
-  -- the first field, and the rest
-  each_first : 0 < n → each_within f at n lo hi ≡ (at_least f at lo && at_most f at hi && each_within f (at + 4) (n - 1) lo hi)
+module _ (f : List ℕ) (at : ℕ) (lo hi : ℤ) where
+  -- the field number i of the row lies in lo to hi
+  abbrev pub here : ℕ → Bool
+  here i = within_at f (at + 4 * i) lo hi
+
+  each_from : (n k : ℕ) → list_all here (range_with_len k n) ≡ each_within f (at + 4 * k) n lo hi
   unfolding each_within
-  each_first h = let up : suc (n - 1) ≡ n = omega arith in ap (λ (k : ℕ). each_within f at k lo hi) (sym up)
+  each_from zero k = refl
+  each_from (suc n) k =
+      let next : at + 4 * (k + 1) ≡ at + 4 * k + 4 = omega arith in
+      ap (λ (b : Bool). here k && b) (each_from n (k + 1) ∙ ap (λ (p : ℕ). each_within f p n lo hi) next)
 
-  pub each_bad : 0 < n → (at_least f at lo && at_most f at hi) ≡ false → false ≡ each_within f at n lo hi
-  each_bad h e = rw (each_first h, e)
-
-  pub each_good : 0 < n → (at_least f at lo && at_most f at hi) ≡ true → each_within f at n lo hi ≡ each_within f (at + 4) (n - 1) lo hi
-  each_good h e = rw (each_first h, e)
-
-  pub each_none : n ≤ 0 → true ≡ each_within f at n lo hi
-  unfolding each_within
-  each_none h = let z : n ≡ 0 = omega arith in rw z
+  pub each_is : (n : ℕ) → list_all here (range_with_len 0 n) ≡ each_within f at n lo hi
+  each_is n = each_from n 0 ∙ ap (λ (p : ℕ). each_within f p n lo hi) (omega arith)

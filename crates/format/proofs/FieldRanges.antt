@@ -2,7 +2,7 @@
 use mathlib.Core.Path.{◌≡◌, refl, ap}
 use mathlib.Core.Bool.{Bool, true, false, cond}
 use mathlib.Core.List.{List}
-use Prim.Native.Nat.{ℕ, suc, ◌-◌, ◌^◌, ◌≤◌, ◌<◌}
+use Prim.Native.Nat.{ℕ, ◌^◌, ◌≤◌, ◌<◌}
 use native.Mathlib.Omega.{arith}
 use lib.Dec.{ltb, leb}
 use lib.ListN.{length}
@@ -30,11 +30,11 @@ module _ (f : List ℕ) where
 
 -- ---- fields are below 2 ^ 31
 small_nat : (k n : ℕ) → k < 2147483648 → nat_or k (signed_of 31 n) < 2147483648
-small_nat k n h = go (ltb n (2 ^ 31)) refl
+small_nat k n h = go (ltb n (2 ^ 31)) _ refl
   where
-    go : (b : Bool) → ltb n (2 ^ 31) ≡ b → nat_or k (cond b (pos n) (negsuc (2 ^ 32 - suc n))) < 2147483648
-    go true e = ltb-true n (2 ^ 31) e
-    go false e = h
+    go : (b : Bool) (m : ℕ) → ltb n (2 ^ 31) ≡ b → nat_or k (cond b (pos n) (negsuc m)) < 2147483648
+    go true m e = ltb-true n (2 ^ 31) e
+    go false m e = h
 
 module _ (f : List ℕ) where
   pub nat_small : (p : ℕ) → nat_at f p < 2147483648

@@ -1,6 +1,6 @@
 pub mod Widths
-pub mod Complement
 pub mod SignedTests
+pub mod Complement
 pub mod Table
 pub mod Each
 pub mod Agree

@@ -1,20 +1,22 @@
 -- Numbers of n bytes, once for every n. Assumes nothing.
-use mathlib.Core.Path.{◌≡◌, refl, subst}
+use mathlib.Core.Path.{◌≡◌, refl, subst, ap, ◌∙◌}
 use mathlib.Core.List.{List, [], ◌∷◌, ◌++◌}
-use Prim.Native.Nat.{ℕ, zero, suc, ◌+◌, ◌-◌, ◌*◌, ◌/◌, ◌%◌, ◌^◌, ◌≤◌, ◌<◌}
-use native.Mathlib.Nat.{add-zero, zero-add, lt_of_lt_of_le, pow-suc, pow-le-pow_right}
+use Prim.Native.Nat.{ℕ, zero, suc, ◌+◌, ◌*◌, ◌%◌, ◌^◌, ◌≤◌, ◌<◌}
+use native.Mathlib.Nat.{add-zero, zero-add, lt_of_lt_of_le, pow-suc, pow-le-pow_right, mod-eq_of_lt}
 use native.Mathlib.Numerals.{add-one}
 use native.Mathlib.Omega.{arith}
 use lib.Dec.{lit<}
 use lib.ListN.{length, get_or, take, drop, length-drop}
-use lib.Seq.{take-suc, drop-cons, get_or-drop}
-use Rattle.format.specs.Bytes.{big_from, big_at, little_of, little_at, OfBytes, Four, swapped_of}
-
-pub grow : (i : ℕ) → 256 ^ (i + 1) ≡ 256 ^ i * 256
-grow i = rw add-one (pow-suc 256 i)
-
-pub room : (i n : ℕ) → i < n → n ≤ 8 → 256 ^ (i + 1) ≤ 2 ^ 64
-room i n h k = pow-le-pow_right {n = 256} (lit< tt) {i = i + 1} {j = 8} (omega arith)
+use lib.Seq.{take-suc, get_or-drop}
+use mir.Syntax.{w32}
+use Rattle.std.specs.Int.{from_be_bytes, from_le_bytes, swap_bytes}
+use Rattle.std.specs.Int.Bits.{bit_or}
+use Rattle.std.specs.List.{fold}
+use Rattle.std.specs.Prelude.{reverse}
+use Rattle.std.proofs.lemmas.Grind.{reverse_onto}
+use Rattle.std.proofs.lemmas.List.Sums.{fold-append}
+use Rattle.std.proofs.lemmas.Nat.{or_shifted, le_bytes_4}
+use Rattle.format.specs.Bytes.{big_from, big_at, little_of, little_at, OfBytes}
 
 -- ---- the number of n bytes is below 256 ^ n
 bytes_drop : (at : ℕ) (s : List ℕ) → OfBytes s → OfBytes (drop at s)
@@ -51,31 +53,14 @@ big_snoc n [] b = refl
 big_snoc n (x ∷ bs) b = big_snoc (n * 256 + x) bs b
 
 -- one byte more
-pub big_more : (s : List ℕ) (at i : ℕ) → at + i < length s → big_at s at (i + 1) ≡ big_at s at i * 256 + get_or s (at + i) 0
+big_more : (s : List ℕ) (at i : ℕ) → at + i < length s → big_at s at (i + 1) ≡ big_at s at i * 256 + get_or s (at + i) 0
 unfolding big_at
 big_more s at i h =
     let inside : i < length (drop at s) = rw length-drop (omega arith) in
     rw (add-one, take-suc (drop at s) i 0 inside, big_snoc, get_or-drop)
 
--- one byte more in front
-pub little_more : (s : List ℕ) (at i n : ℕ)
-    → 0 < i
-    → i ≤ n
-    → at + n ≤ length s
-    → little_at s (at + (i - 1)) (n - (i - 1)) ≡ get_or s (at + (i - 1)) 0 + 256 * little_at s (at + i) (n - i)
-unfolding little_at
-little_more s at i n h k fit =
-    let count : n - (i - 1) ≡ suc (n - i) = omega arith in
-    let next : suc (at + (i - 1)) ≡ at + i = omega arith in
-    let inside : at + (i - 1) < length s = omega arith in
-    rw (count, drop-cons s (at + (i - 1)) 0 inside, next)
-
--- the number of bytes read grows by one
-pub more : (i n : ℕ) → 0 < i → i ≤ n → n - (i - 1) ≡ n - i + 1
-more i n h k = omega arith
-
 -- the four bytes of a control field
-pub big_four : (s : List ℕ) (at : ℕ)
+big_four : (s : List ℕ) (at : ℕ)
     → at + 4 ≤ length s
     → big_at s at 4 ≡ ((get_or s at 0 * 256 + get_or s (at + 1) 0) * 256 + get_or s (at + 2) 0) * 256 + get_or s (at + 3) 0
 unfolding big_at
@@ -87,38 +72,64 @@ big_four s at h =
     let d = big_more s at 3 (omega arith) in
     omega arith
 
--- the same bytes, the first the least significant
-pub little_four : (s : List ℕ) (at : ℕ)
+-- the same bytes in the machine's order, swapped
+pub swap_four : (s : List ℕ) (at n : ℕ) {p q r t : ℕ}
     → at + 4 ≤ length s
-    → little_at s at 4 ≡ ((get_or s (at + 3) 0 * 256 + get_or s (at + 2) 0) * 256 + get_or s (at + 1) 0) * 256 + get_or s at 0
+    → OfBytes s
+    → n ≡ from_le_bytes w32 (get_or s p 0 ∷ get_or s q 0 ∷ get_or s r 0 ∷ get_or s t 0 ∷ [])
+    → p ≡ at
+    → q ≡ at + 1
+    → r ≡ at + 2
+    → t ≡ at + 3
+    → swap_bytes w32 n ≡ big_at s at 4
+swap_four s at n {p} {q} {r} {t} h b e i j k l =
+    ap (from_be_bytes w32) (le_bytes_4 four n refl bytes e) ∙ rw (i, j, k, l) (omega (arith, big_four s at h))
+  where
+    four : List ℕ
+    four = get_or s p 0 ∷ get_or s q 0 ∷ get_or s r 0 ∷ get_or s t 0 ∷ []
+
+    bytes : (i : ℕ) → get_or four i 0 < 256
+    bytes zero = b p
+    bytes (suc zero) = b q
+    bytes (suc (suc zero)) = b r
+    bytes (suc (suc (suc zero))) = b t
+    bytes (suc (suc (suc (suc i)))) = lit< tt
+
+-- ---- a byte shifted in below a number of fewer than 8 bytes
+abbrev pub shift_in : ℕ → ℕ → ℕ
+shift_in n b = bit_or (n * 256 % 2 ^ 64) b
+
+grow : (k : ℕ) → 256 ^ (k + 1) ≡ 256 ^ k * 256
+grow k = rw add-one (pow-suc 256 k)
+
+shift_in_is : (n b k : ℕ) → n < 256 ^ k → k < 8 → b < 256 → shift_in n b ≡ n * 256 + b
+shift_in_is n b k h l c =
+    let room : 256 ^ (k + 1) ≤ 256 ^ 8 = pow-le-pow_right {n = 256} (lit< tt) {i = k + 1} {j = 8} (omega arith) in
+    let small : n * 256 < 2 ^ 64 = omega (arith, grow k) in
+    rw (mod-eq_of_lt small) (or_shifted n 8 b c)
+
+big_folds : (n : ℕ) (s : List ℕ) (a k : ℕ) → OfBytes s → a < 256 ^ k → k + n ≤ 8 → fold shift_in a (take n s) ≡ big_from a (take n s)
+big_folds zero s a k h l f = refl
+big_folds (suc n) [] a k h l f = refl
+big_folds (suc n) (b ∷ s) a k h l f =
+    let more : a * 256 + b < 256 ^ (k + 1) = omega (arith, h 0, grow k) in
+    ap (λ (m : ℕ). fold shift_in m (take n s)) (shift_in_is a b k l (omega arith) (h 0))
+    ∙ big_folds n s (a * 256 + b) (k + 1) (λ i. h (suc i)) more (omega arith)
+
+-- the bytes shifted in from the first on, and from the last on
+pub big_fold : (s : List ℕ) (at n : ℕ) → OfBytes s → n ≤ 8 → fold shift_in 0 (take n (drop at s)) ≡ big_at s at n
+unfolding big_at
+big_fold s at n h f = big_folds n (drop at s) 0 0 (bytes_drop at s h) (lit< tt) (omega arith)
+
+little_folds : (n : ℕ) (s : List ℕ) → OfBytes s → n ≤ 8 → fold shift_in 0 (reverse (take n s)) ≡ little_of (take n s)
+little_folds zero s h f = refl
+little_folds (suc n) [] h f = refl
+little_folds (suc n) (b ∷ s) h f =
+    let later = λ (i : ℕ). h (suc i) in
+    let low = little_below n s later in
+    let is : shift_in (little_of (take n s)) b ≡ little_of (take n s) * 256 + b = shift_in_is (little_of (take n s)) b n low (omega arith) (h 0) in
+    rw (reverse_onto (take n s) b [], fold-append shift_in 0 (reverse (take n s)) (b ∷ []), little_folds n s later (omega arith)) (omega (arith, is))
+
+pub little_fold : (s : List ℕ) (at n : ℕ) → OfBytes s → n ≤ 8 → fold shift_in 0 (reverse (take n (drop at s))) ≡ little_at s at n
 unfolding little_at
-little_four s at h =
-    let none : little_at s (at + 4) 0 ≡ 0 = refl in
-    let d = little_more s at 4 4 (omega arith) (omega arith) (omega arith) in
-    let c = little_more s at 3 4 (omega arith) (omega arith) (omega arith) in
-    let b = little_more s at 2 4 (omega arith) (omega arith) (omega arith) in
-    let a = rw add-zero at (little_more s at 1 4 (omega arith) (omega arith) (omega arith)) in
-    omega arith
-
--- the four bytes of a number, from the least significant on
-module _ (a b c d : ℕ) (ha : a < 256) (hb : b < 256) (hc : c < 256) (hd : d < 256) where
-  last : (((d * 256 + c) * 256 + b) * 256 + a) % 256 ≡ a
-  last = omega (arith, ha)
-
-  third : (((d * 256 + c) * 256 + b) * 256 + a) / 256 % 256 ≡ b
-  third = let q : (((d * 256 + c) * 256 + b) * 256 + a) / 256 ≡ (d * 256 + c) * 256 + b = omega (arith, ha) in rw q (omega (arith, hb))
-
-  second : (((d * 256 + c) * 256 + b) * 256 + a) / 65536 % 256 ≡ c
-  second = let q : (((d * 256 + c) * 256 + b) * 256 + a) / 65536 ≡ d * 256 + c = omega (arith, ha, hb) in rw q (omega (arith, hc))
-
-  first : (((d * 256 + c) * 256 + b) * 256 + a) / 16777216 ≡ d
-  first = omega (arith, ha, hb, hc)
-
-  swap_bytes : swapped_of (((d * 256 + c) * 256 + b) * 256 + a) ≡ ((a * 256 + b) * 256 + c) * 256 + d
-  swap_bytes = rw (last, third, second, first)
-
--- either order from the other
-pub swap_four : (s : List ℕ) (at : ℕ) → at + 4 ≤ length s → Four s at → swapped_of (little_at s at 4) ≡ big_at s at 4
-swap_four s at h b =
-    rw (little_four s at h, big_four s at h)
-    (swap_bytes (get_or s at 0) (get_or s (at + 1) 0) (get_or s (at + 2) 0) (get_or s (at + 3) 0) b.first b.second b.third b.fourth)
+little_fold s at n h f = little_folds n (drop at s) (bytes_drop at s h) f

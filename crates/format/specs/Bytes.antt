@@ -1,5 +1,5 @@
 -- Numbers in a list of bytes: either byte order, and two's complement. Assumes nothing.
-use Rattle.std.specs.Prelude.{ℕ, suc, ◌+◌, ◌-◌, ◌*◌, ◌^◌, ◌/◌, ◌%◌, ◌<◌, cond, List, [], ◌∷◌, take, drop, get_or, ltb, ℤ, pos, negsuc}
+use Rattle.std.specs.Prelude.{ℕ, suc, ◌+◌, ◌-◌, ◌*◌, ◌^◌, ◌<◌, cond, List, [], ◌∷◌, take, drop, get_or, ltb, ℤ, pos, negsuc}
 
 -- bytes after the number n, each less significant than the one before
 abbrev pub big_from : ℕ → List ℕ → ℕ
@@ -22,17 +22,6 @@ little_at s at n = little_of (take n (drop at s))
 -- all numbers of a list are bytes
 abbrev pub OfBytes : List ℕ → Type 0
 OfBytes s = (i : ℕ) → get_or s i 0 < 256
-
--- the four numbers at an offset are bytes
-pub record Four (s : List ℕ) (at : ℕ) : Type 0 where
-  pub first : get_or s at 0 < 256
-  pub second : get_or s (at + 1) 0 < 256
-  pub third : get_or s (at + 2) 0 < 256
-  pub fourth : get_or s (at + 3) 0 < 256
-
--- a number of four bytes with its bytes in the other order
-abbrev pub swapped_of : ℕ → ℕ
-swapped_of n = ((n % 256 * 256 + n / 256 % 256) * 256 + n / 65536 % 256) * 256 + n / 16777216
 
 -- two's complement: of k + 1 bits, a number of 2 ^ k or more stands for that number less 2 ^ (k + 1) (3.2: "A 2-byte signed value above
 -- 32,767 as a plain number is that number less 65,536; likewise for 1 and 4 bytes")

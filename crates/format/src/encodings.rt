@@ -2,32 +2,37 @@
 ghost use Rattle.std.specs.Prelude.{◌≡◌};
 ghost use Rattle.format.specs.Encodings.{encoding_of};
 
-use crate::types;
-
-// The byte order: 1 big-endian, 2 little-endian, 0 for a number that is no encoding; and the float kind:
-// 1 IEEE 754, 2 VAX with D_FLOAT doubles, 3 VAX with G_FLOAT doubles.
-#[derive(Clone, Copy)]
-pub struct Encoding {
-    pub order: u32,
-    pub float: u32,
+#[derive(Clone, Copy, Debug, PartialEq, Eq)]
+pub enum ByteOrder {
+    Big,
+    Little,
 }
 
-// The encodings by their numbers: sixteen times the float kind, and the byte order.
-const ENCODINGS: [u8; 17] = [
-    0, 0x11, 0x11, 0x22, 0x12, 0x11, 0x12, 0x11, 0, 0x11, 0, 0x11, 0x11, 0x12, 0x22, 0x32, 0x12,
-];
+// IEEE 754, or VAX floats whose doubles are D_FLOAT or G_FLOAT.
+#[derive(Clone, Copy, Debug, PartialEq, Eq)]
+pub enum FloatKind {
+    Ieee,
+    VaxD,
+    VaxG,
+}
 
-// The encoding of a number.
-pub fn encoding_of(e: u32) -> Encoding
+#[derive(Clone, Copy, Debug, PartialEq, Eq)]
+pub struct Encoding {
+    pub order: ByteOrder,
+    pub float: FloatKind,
+}
+
+// The encoding of a number, if it is one: a field of a file may hold any number.
+#[tactic(auto, unfolding(crate::specs::Encodings::encoding_of))]
+pub fn encoding_of(e: u32) -> Option<Encoding>
     ensures { result ≡ encoding_of e }
 {
-    if e < 17 {
-        let row = types::number(ENCODINGS[e as usize]);
-        Encoding {
-            order: row % 16,
-            float: row / 16,
-        }
-    } else {
-        Encoding { order: 0, float: 0 }
-    }
+    let (order, float) = match e {
+        1 | 2 | 5 | 7 | 9 | 11 | 12 => (ByteOrder::Big, FloatKind::Ieee),
+        4 | 6 | 13 | 16 => (ByteOrder::Little, FloatKind::Ieee),
+        3 | 14 => (ByteOrder::Little, FloatKind::VaxD),
+        15 => (ByteOrder::Little, FloatKind::VaxG),
+        _ => return None,
+    };
+    Some(Encoding { order, float })
 }

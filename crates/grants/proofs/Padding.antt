@@ -26,7 +26,7 @@ use Rattle.walk.specs.declared.positions.Step.TheVariants.{Over, End, Take, Down
 use Rattle.faults.specs.Holder.{holder_of}
 use Rattle.faults.specs.Fault.{none_involved, sweeping, ending, claiming, leaving}
 use Rattle.faults.specs.declared.fault.Involved.{Involved}
-use Rattle.marks.specs.declared.Found.{Found}
+use Rattle.marks.specs.Marks.{Found}
 use Rattle.states.specs.declared.state.Stage.{Stage}
 use Rattle.states.specs.declared.state.Stage.TheVariants.{Fresh, Sweep, Walking, Done, OutOfRange}
 use Rattle.states.specs.declared.state.State.{State}

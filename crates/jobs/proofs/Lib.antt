@@ -1,4 +1,3 @@
 pub mod Tests
 pub mod Turning
-pub mod Gathers
 pub mod Areas

@@ -1,117 +1,84 @@
 -- Laws of the tests of a round. Assumes nothing.
-use mathlib.Core.Path.{◌≡◌, refl, sym}
-use mathlib.Core.Bool.{Bool, true, false, not, ◌||◌, and-true, and-false, and_comm, or-true}
-use Prim.Native.Nat.{ℕ, zero, suc, ◌+◌, ◌-◌, ◌≤◌, ◌<◌}
+use mathlib.Core.Path.{◌≡◌, refl, sym, ◌∙◌, ap}
+use mathlib.Core.Bool.{Bool, true, false, ◌||◌, or-false, or_assoc, true≢false}
+use mathlib.Core.List.{List, [], ◌∷◌}
+use Prim.Native.Nat.{ℕ, zero, suc, ◌+◌, ◌≤◌, ◌<◌}
 use native.Mathlib.Numerals.{add-one}
 use native.Mathlib.Omega.{arith}
-use lib.Dec.{leb, ltb, eqb}
-use borrow.Author.Tests.{not-false, leb-true, le-leb, ltb-true, lt-ltb, ltb-false, eqb-true, eqb-false, eq-eqb, ne_eqb}
+use lib.ListN.{length, get_or}
+use borrow.Author.Count.{below_more}
+use Rattle.std.specs.List.{list_any}
+use Rattle.std.proofs.lemmas.Bool.Decides.{nat_tests}
 use Rattle.format.proofs.Tests.{neither}
 use Rattle.jobs.specs.declared.parts.Part.{Part}
 use Rattle.jobs.specs.declared.parts.Parts.{Parts}
-use Rattle.jobs.specs.Parts.{inside, outside, overlap, any_to, any_outside, any_clash, refused_of}
+use Rattle.jobs.specs.Parts.{inside, outside, overlap, clash, any_to, any_outside, any_clash, refused_of}
 
--- two tests with one meaning
-alike : (x y : Bool) → (x ≡ true → y ≡ true) → (y ≡ true → x ≡ true) → x ≡ y
-alike true y f g = sym (f refl)
-alike false true f g = g refl
-alike false false f g = refl
-
-pub same_leb : (a b c d : ℕ) → (a ≤ b → c ≤ d) → (c ≤ d → a ≤ b) → leb a b ≡ leb c d
-same_leb a b c d f g = alike (leb a b) (leb c d) (λ h. le-leb c d (f (leb-true a b h))) (λ h. le-leb a b (g (leb-true c d h)))
-
-same_ltb : (a b c d : ℕ) → (a < b → c < d) → (c < d → a < b) → ltb a b ≡ ltb c d
-same_ltb a b c d f g = alike (ltb a b) (ltb c d) (λ h. lt-ltb c d (f (ltb-true a b h))) (λ h. lt-ltb a b (g (ltb-true c d h)))
-
--- ---- inside
-inside_is : (p : Part) (n : ℕ) → inside p n ≡ true → p.from + p.len ≤ n
-unfolding inside
-inside_is p n h = leb-true _ _ h
-
+-- ---- parts
 pub outside_not : (p : Parts) (files marks : ℕ) → outside p files marks ≡ false
     → (p.file.from + p.file.len ≤ files) × (p.marks.from + p.marks.len ≤ marks)
-unfolding outside
-outside_not p files marks h =
-    let e = neither (not (inside p.file files)) (not (inside p.marks marks)) h in
-    (inside_is p.file files (not-false _ e.0), inside_is p.marks marks (not-false _ e.1))
-
--- ---- overlap
-pub first_empty : (p r : Part) → p.len ≡ 0 → overlap p r ≡ false
-unfolding overlap
-first_empty p r e = rw (eq-eqb p.len 0 e)
-
-pub second_empty : (p r : Part) → r.len ≡ 0 → overlap p r ≡ false
-unfolding overlap
-second_empty p r e = rw (eq-eqb r.len 0 e, and-false)
-
-module _ (p r : Part) (one : p.len ≡ 0 → ⊥) (other : r.len ≡ 0 → ⊥) where
-  pub first_before : p.from < r.from → ltb (r.from - p.from) p.len ≡ overlap p r
-  unfolding overlap
-  first_before l =
-      rw (ne_eqb p.len 0 one, ne_eqb r.len 0 other, lt-ltb p.from (r.from + r.len) (omega arith))
-      (same_ltb (r.from - p.from) p.len r.from (p.from + p.len) (λ h. omega arith) (λ h. omega arith))
-
-  pub first_after : r.from ≤ p.from → ltb (p.from - r.from) r.len ≡ overlap p r
-  unfolding overlap
-  first_after l =
-      rw (ne_eqb p.len 0 one, ne_eqb r.len 0 other, lt-ltb r.from (p.from + p.len) (omega (arith, one)), and-true)
-      (same_ltb (p.from - r.from) r.len p.from (r.from + r.len) (λ h. omega arith) (λ h. omega arith))
+unfolding outside inside
+outside_not p files marks h = grind (arith, nat_tests)
 
 pub overlap_swap : (p r : Part) → overlap p r ≡ overlap r p
 unfolding overlap
-overlap_swap p r =
-    let a = and_comm (not (eqb p.len 0)) (not (eqb r.len 0)) in
-    let b = and_comm (ltb p.from (r.from + r.len)) (ltb r.from (p.from + p.len)) in
-    rw (a, b)
+overlap_swap p r = grind (arith, nat_tests)
 
 -- ---- some number below n
 pub none_more : (t : ℕ → Bool) (k : ℕ) → any_to t k ≡ false → t k ≡ false → any_to t (k + 1) ≡ false
 unfolding any_to
 none_more t k a b = rw (add-one, a, b)
 
-found_by : (t : ℕ → Bool) (k n : ℕ) → t k ≡ true → k < suc n → (k < n → any_to t n ≡ true) → (y : Bool) → eqb k n ≡ y → any_to t n || t n ≡ true
-found_by t k n a l below true e = let same : n ≡ k = sym (eqb-true k n e) in rw (same, a, or-true)
-found_by t k n a l below false e = let ne = eqb-false k n e in let h : k < n = omega arith in rw (below h)
-
-pub found : (t : ℕ → Bool) (k n : ℕ) → t k ≡ true → k < n → any_to t n ≡ true
-unfolding any_to
-found t k zero a l = absurd (omega arith)
-found t k (suc n) a l = found_by t k n a l (found t k n a) (eqb k n) refl
-
-no_by : (t : ℕ → Bool) (k n : ℕ) → (any_to t n ≡ false) × (t n ≡ false) → k < suc n → (k < n → t k ≡ false) → (y : Bool) → eqb k n ≡ y → t k ≡ false
-no_by t k n h l below true e = let same : k ≡ n = eqb-true k n e in rw same h.1
-no_by t k n h l below false e = let ne = eqb-false k n e in let g : k < n = omega arith in below g
-
 pub none_at : (t : ℕ → Bool) (n k : ℕ) → any_to t n ≡ false → k < n → t k ≡ false
 unfolding any_to
 none_at t zero k h l = absurd (omega arith)
 none_at t (suc n) k h l =
     let e = neither (any_to t n) (t n) h in
-    no_by t k n e l (λ g. none_at t n k e.0 g) (eqb k n) refl
+    below_more (λ i. t i ≡ false) n (λ i. none_at t n i e.0) e.1 k (omega arith)
+
+pub found : (t : ℕ → Bool) (k n : ℕ) → t k ≡ true → k < n → any_to t n ≡ true
+found t k n a l = by (any_to t n) refl
+  where
+    by : (b : Bool) → any_to t n ≡ b → b ≡ true
+    by true e = refl
+    by false e = absurd (true≢false (sym a ∙ none_at t n k e l))
 
 pub any_same : (t u : ℕ → Bool) (n : ℕ) → ((k : ℕ) → k < n → t k ≡ u k) → any_to t n ≡ any_to u n
 unfolding any_to
 any_same t u zero h = refl
 any_same t u (suc n) h = let a = any_same t u n (λ k l. h k (omega arith)) in let b = h n (omega arith) in rw (a, b)
 
+-- the first of them first
+first_of : (t : ℕ → Bool) (n : ℕ) → any_to t (suc n) ≡ t 0 || any_to (λ k. t (suc k)) n
+unfolding any_to
+first_of t zero = sym (or-false (t 0))
+first_of t (suc n) = ap (λ (b : Bool). b || t (suc n)) (first_of t n) ∙ or_assoc (t 0) (any_to (λ k. t (suc k)) n) (t (suc n))
+
+-- an element of a list
+pub any_listed : {X : Type 0} (t : X → Bool) (d : X) (xs : List X) → list_any t xs ≡ any_to (λ k. t (get_or xs k d)) (length xs)
+unfolding any_to
+any_listed t d [] = refl
+any_listed t d (x ∷ xs) = ap (λ (b : Bool). t x || b) (any_listed t d xs) ∙ sym (first_of (λ k. t (get_or (x ∷ xs) k d)) (length xs))
+
+-- the test of a round hangs on the parts of the first n jobs alone
+pub refused_by_parts : (p r : ℕ → Parts) (n files marks q : ℕ) → ((k : ℕ) → k < n → p k ≡ r k) → refused_of p n files marks q ≡ refused_of r n files marks q
+unfolding refused_of
+refused_by_parts p r n files marks q h =
+    let a : any_outside p n files marks ≡ any_outside r n files marks = any_same _ _ n (λ k l. rw (h k l)) in
+    let b : any_clash p n ≡ any_clash r n =
+    any_same _ _ n (λ k l. any_same (λ i. clash (p i) (p k)) (λ i. clash (r i) (r k)) k (λ i g. rw (h i (omega arith), h k l))) in
+    rw (a, b)
+
 -- ---- a round that is not refused
 module _ (p : ℕ → Parts) (n files marks q : ℕ) (runs : refused_of p n files marks q ≡ false) where
-  all : (eqb q 0 ≡ false) × (ltb 8 n ≡ false) × (any_outside p n files marks ≡ false) × (any_clash p n ≡ false)
-  unfolding refused_of
-  all =
-      let a = neither (eqb q 0) (ltb 8 n || (any_outside p n files marks || any_clash p n)) runs in
-      let b = neither (ltb 8 n) (any_outside p n files marks || any_clash p n) a.1 in
-      let c = neither (any_outside p n files marks) (any_clash p n) b.1 in
-      (a.0, b.0, c.0, c.1)
-
   pub runs_some : 0 < q
-  runs_some = let e = eqb-false q 0 all.0 in omega (arith, e)
-
-  pub runs_few : n ≤ 8
-  runs_few = ltb-false 8 n all.1
+  unfolding refused_of
+  runs_some = grind (arith, nat_tests)
 
   pub runs_inside : any_outside p n files marks ≡ false
-  runs_inside = all.2
+  unfolding refused_of
+  runs_inside = grind (arith, nat_tests)
 
   pub runs_apart : any_clash p n ≡ false
-  runs_apart = all.3
+  unfolding refused_of
+  runs_apart = grind (arith, nat_tests)

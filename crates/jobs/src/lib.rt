@@ -1,4 +1,4 @@
-// Files by turns: the parts of two areas that are a job's own, a job's turn, and a round over eight rows by value.
+// Files by turns: the parts of two areas that are a job's own, a job's turn, and a round over a list of rows.
 #![tactic(auto)]
 
 pub mod parts;

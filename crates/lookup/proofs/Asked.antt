@@ -1,22 +1,18 @@
 -- Kinds as they are asked for. Assumes nothing.
-use mathlib.Core.Path.{◌≡◌, refl, sym, ap, ◌∙◌}
+use mathlib.Core.Path.{◌≡◌, refl, sym, ◌∙◌}
 use mathlib.Core.Bool.{Bool, true, false, cond, ◌||◌}
 use mathlib.Core.List.{List}
 use Prim.Native.Nat.{ℕ}
-use native.Mathlib.Omega.{arith}
 use borrow.Author.Tests.{eq-eqb, ne_eqb}
 use lib.IntN.{ℤ, pos}
 use mir.Syntax.{w64}
 use mir.Val.{SFits, of_z}
 use Rattle.format.specs.Fields.{eq_z}
 use Rattle.format.proofs.SignedTests.{equal_is}
-use Rattle.lookup.specs.Lists.{opened, of_kinds, kind_among, kind_asked}
+use Rattle.lookup.specs.Lists.{Way, opened, of_kinds, kind_among, kind_asked}
 use Rattle.lookup.specs.declared.refusals.Refusal.{Refusal}
 use Rattle.lookup.specs.declared.refusals.Refusal.TheVariants.{Breach, NoSuch}
-use Rattle.lookup.specs.declared.lists.Asked.{Asked}
-use Rattle.lookup.specs.declared.lists.Asked.TheVariants.{Kind, Refused}
-use Rattle.lookup.specs.declared.lists.Way.{Way}
-use Rattle.lookup.specs.declared.lists.Way.TheVariants.{Stopped}
+use Rattle.std.specs.Prelude.{Result, Ok, Err}
 
 -- a number asked for is n, or is not
 module _ (x : ℤ) (n : ℕ) (f : SFits w64 x) (g : SFits w64 (pos n)) where
@@ -34,29 +30,26 @@ among_is a b k = go (eq_z k (pos a)) refl
     go true e = sym e
     go false e = refl
 
-no_kind_refused : (r : Refusal) (t : ℕ) → Refused r ≡ Kind t → ⊥
-no_kind_refused r t e = let z : ◌≡◌ {A = ℕ} 0 1 = cc in absurd (omega arith)
-
 -- a question for a record of one of two kinds, by what is asked for
 module _ (f : List ℕ) (a b : ℕ) (k : ℤ) (s : Way) where
   abbrev asked : Bool → Bool → Way
-  asked o c = cond o (cond c s (Stopped NoSuch)) (Stopped Breach)
+  asked o c = cond o (cond c s (Err NoSuch)) (Err Breach)
 
-  abbrev kind : Bool → Bool → Asked
-  kind o c = cond o (cond c (Kind (kind_among a b k)) (Refused NoSuch)) (Refused Breach)
+  abbrev kind : Bool → Bool → Result ℕ Refusal
+  kind o c = cond o (cond c (Ok (kind_among a b k)) (Err NoSuch)) (Err Breach)
 
-  pub asked_wrong : (r : Refusal) → Refused r ≡ kind_asked f a b k → Stopped r ≡ asked (opened f) (of_kinds a b k)
+  pub asked_wrong : (r : Refusal) → Err r ≡ kind_asked f a b k → Err r ≡ asked (opened f) (of_kinds a b k)
   asked_wrong r e = go (opened f) (of_kinds a b k) e
     where
-      go : (o c : Bool) → Refused r ≡ kind o c → Stopped r ≡ asked o c
-      go true true h = absurd (no_kind_refused _ _ h)
-      go true false h = let e : r ≡ NoSuch = cc in ap Stopped e
-      go false c h = let e : r ≡ Breach = cc in ap Stopped e
+      go : (o c : Bool) → Err r ≡ kind o c → Err r ≡ asked o c
+      go true true h = cc
+      go true false h = cc
+      go false c h = cc
 
-  pub asked_right : (t : ℕ) → Kind t ≡ kind_asked f a b k → (t ≡ kind_among a b k) × (s ≡ asked (opened f) (of_kinds a b k))
+  pub asked_right : (t : ℕ) → Ok t ≡ kind_asked f a b k → (t ≡ kind_among a b k) × (s ≡ asked (opened f) (of_kinds a b k))
   asked_right t e = go (opened f) (of_kinds a b k) e
     where
-      go : (o c : Bool) → Kind t ≡ kind o c → (t ≡ kind_among a b k) × (s ≡ asked o c)
+      go : (o c : Bool) → Ok t ≡ kind o c → (t ≡ kind_among a b k) × (s ≡ asked o c)
       go true true h = (cc, refl)
-      go true false h = absurd (no_kind_refused _ _ (sym h))
-      go false c h = absurd (no_kind_refused _ _ (sym h))
+      go true false h = cc
+      go false c h = cc

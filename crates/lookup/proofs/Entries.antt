@@ -9,18 +9,18 @@ use borrow.Author.Tests.{leb-true, le-leb, eqb-true}
 use Rattle.format.specs.Fields.{link_at}
 use Rattle.format.proofs.Tests.{both}
 use Rattle.records.specs.Layout.{next_at, head_of_index}
-use Rattle.records.specs.Index.{used_at, no_limit, entry_of, entry_covers}
+use Rattle.records.specs.Index.{used_at, no_limit, entry_of}
 use Rattle.records.specs.Tree.{Slot, slots_of, first_at, last_at, first_of, last_of, named_by, levels_below, names_index, lower_slots}
-use Rattle.records.specs.declared.index.Entry.{Entry}
+use Rattle.records.specs.declared.index.Range.{Range}
 use Rattle.records.proofs.Ranges.{order_natural, entry_reads}
-use Rattle.lookup.specs.Indexes.{scanned, index_met, after_scan, last_index, indexed, lower_met, lower_scan, after_lower, lowered, lowest_of}
+use Rattle.lookup.specs.Indexes.{range_covers, covered_by, Index, scanned, index_met, after_scan, last_index, indexed, lower_met, lower_scan, after_lower, lowered, lowest_of}
 use Rattle.lookup.specs.Entries.{All, slot_entry, Upto, wholly, breach, joined, under_each, lowest_under, chain_upto, lowest_upto, FirstThatCovers, LookupIsFirst}
 use Rattle.lookup.specs.declared.refusals.Refusal.TheVariants.{Breach, Gap}
 use Rattle.lookup.specs.declared.indexes.Scan.{Scan}
-use Rattle.lookup.specs.declared.indexes.Scan.TheVariants.{Covering, Passed, Broken}
-use Rattle.lookup.specs.declared.indexes.Index.{Index}
-use Rattle.lookup.specs.declared.indexes.Index.TheVariants.{Covered, Halted}
+use Rattle.lookup.specs.declared.indexes.Scan.TheVariants.{Covering, Passed}
 use Rattle.lookup.proofs.Scans.{scan_along_lem, scan_along}
+use Rattle.std.specs.Prelude.{Result, Ok, Err}
+use Rattle.lookup.specs.declared.refusals.Refusal.{Refusal}
 
 -- ---- facts of all of a list
 module _ {X : Type 0} where
@@ -94,13 +94,13 @@ module _ (f : List ℕ) where
   module _ (r more : ℕ) where
     -- ---- what covers r, and what does not
     abbrev covers : Slot → Bool
-    covers s = entry_covers (slot_entry f s) r
+    covers s = range_covers (slot_entry f s) r
 
     abbrev Free : List Slot → Type 0
     Free = All (λ s. covers s ≡ false)
 
     abbrev ComesTo : Index → Slot → Type 0
-    ComesTo i s = covers s ≡ true → (rest : ℕ) × (more ≤ rest) × (i ≡ Covered (slot_entry f s) rest)
+    ComesTo i s = covers s ≡ true → (rest : ℕ) × (more ≤ rest) × (i ≡ covered_by (slot_entry f s) rest)
 
     range : (s : Slot) → covers s ≡ true → (first_of f s ≤ r) × (r ≤ last_of f s)
     range s e = let p = both (leb (first_of f s) r) (leb r (last_of f s)) e in (leb-true (first_of f s) r p.0, leb-true r (last_of f s) p.1)
@@ -129,7 +129,7 @@ module _ (f : List ℕ) where
     breach_first : (i : Index) → FirstThatCovers f r more breach i
     breach_first i = record { covered = tt; gap = λ w. absurd (true≢false (sym w)) }
 
-    free_first : (u : Upto) (i : Index) → Free u.slots → (u.whole ≡ true → i ≡ Halted Gap) → FirstThatCovers f r more u i
+    free_first : (u : Upto) (i : Index) → Free u.slots → (u.whole ≡ true → i ≡ Err Gap) → FirstThatCovers f r more u i
     free_first u i h g = record { covered = free_nowhere i u.slots h; gap = λ w n. g w }
 
     module _ (a b : Upto) where
@@ -156,16 +156,16 @@ module _ (f : List ℕ) where
       }
 
     -- one entry that covers r, and is the lowest
-    alone_first : (s : Slot) (left : ℕ) → more ≤ left → covers s ≡ true → FirstThatCovers f r more (wholly (s ∷ [])) (Covered (slot_entry f s) left)
+    alone_first : (s : Slot) (left : ℕ) → more ≤ left → covers s ≡ true → FirstThatCovers f r more (wholly (s ∷ [])) (covered_by (slot_entry f s) left)
     alone_first s left h c = record { covered = (λ _. (left, h, refl), tt); gap = λ w n. absurd (true≢false (sym c ∙ n.0)) }
 
     -- ---- a row of entries: next is the lookup from the one that covers r
-    abbrev RowIs : (Entry → Index) → Upto → Scan → Type 0
-    RowIs next u (Covering e) = FirstThatCovers f r more u (next e)
-    RowIs next u (Passed upper) = Free u.slots
-    RowIs next u Broken = Free u.slots × (u.whole ≡ false)
+    abbrev RowIs : (Range → Index) → Upto → Result Scan Refusal → Type 0
+    RowIs next u (Ok (Covering e)) = FirstThatCovers f r more u (next e)
+    RowIs next u (Ok (Passed upper)) = Free u.slots
+    RowIs next u (Err v) = Free u.slots × (u.whole ≡ false)
 
-    row_first : (under : Slot → Upto) → ((s : Slot) → Within (first_of f s) (last_of f s) (under s).slots) → (next : Entry → Index)
+    row_first : (under : Slot → Upto) → ((s : Slot) → Within (first_of f s) (last_of f s) (under s).slots) → (next : Range → Index)
         → ((s : Slot) → covers s ≡ true → FirstThatCovers f r more (under s) (next (slot_entry f s)))
         → (most : ℕ) (ss : List Slot) (floor : ℕ) → RowIs next (under_each f under most floor ss) (scan_along_lem f r most floor ss)
     unfolding under_each
@@ -177,13 +177,13 @@ module _ (f : List ℕ) where
         rest : Upto
         rest = under_each f under most (suc (last_of f s)) ss
 
-        further : Free (under s).slots → (q : Scan) → RowIs next rest q → RowIs next (joined (under s) rest) q
-        further e (Covering d) h = first_behind (under s) rest (next d) e h
-        further e (Passed upper) h = joined_free (under s) rest e h
-        further e Broken h = (joined_free (under s) rest e h.0, rw h.1 (and-false (under s).whole))
+        further : Free (under s).slots → (q : Result Scan Refusal) → RowIs next rest q → RowIs next (joined (under s) rest) q
+        further e (Ok (Covering d)) h = first_behind (under s) rest (next d) e h
+        further e (Ok (Passed upper)) h = joined_free (under s) rest e h
+        further e (Err v) h = (joined_free (under s) rest e h.0, rw h.1 (and-false (under s).whole))
 
-        go : (b c : Bool) → covers s ≡ c → (q : Scan) → RowIs next rest q
-            → RowIs next (cond b (joined (under s) rest) breach) (cond b (cond c (Covering (slot_entry f s)) q) Broken)
+        go : (b c : Bool) → covers s ≡ c → (q : Result Scan Refusal) → RowIs next rest q
+            → RowIs next (cond b (joined (under s) rest) breach) (cond b (cond c (Ok (Covering (slot_entry f s))) q) (Err Breach))
         go true true e q h =
             first_before (under s) rest (next (slot_entry f s)) (below s e)
             (out_of_range (suc (last_of f s)) most (λ a b. omega (arith, a, (range s e).1)) rest.slots (each_within under within most ss (suc (last_of f s))))
@@ -191,18 +191,18 @@ module _ (f : List ℕ) where
         go false c e q h = (tt, refl)
 
     -- ---- down from an entry that covers r
-    after_row : (next : Entry → Index) (u : Upto) (q : Scan) → RowIs next u q → FirstThatCovers f r more u (after_lower q next)
-    after_row next u (Covering d) h = h
-    after_row next u (Passed upper) h = free_first u (Halted Gap) h (λ w. refl)
-    after_row next u Broken h = free_first u (Halted Breach) h.0 (λ w. absurd (true≢false (sym w ∙ h.1)))
+    after_row : (next : Range → Index) (u : Upto) (q : Result Scan Refusal) → RowIs next u q → FirstThatCovers f r more u (after_lower q next)
+    after_row next u (Ok (Covering d)) h = h
+    after_row next u (Ok (Passed upper)) h = free_first u (Err Gap) h (λ w. refl)
+    after_row next u (Err v) h = free_first u (Err v) h.0 (λ w. absurd (true≢false (sym w ∙ h.1)))
 
     lowered_first : (n : ℕ) (s : Slot) (left : ℕ) → n + more ≤ left → covers s ≡ true
         → FirstThatCovers f r more (lowest_under f n s) (lowered n f r (slot_entry f s) left)
     unfolding lowest_under lowered
     lowered_first zero s left h c = go (names_index f s)
       where
-        go : (b : Bool) → FirstThatCovers f r more (cond b breach (wholly (s ∷ []))) (cond b (Halted Breach) (Covered (slot_entry f s) left))
-        go true = breach_first (Halted Breach)
+        go : (b : Bool) → FirstThatCovers f r more (cond b breach (wholly (s ∷ []))) (cond b (Err Breach) (covered_by (slot_entry f s) left))
+        go true = breach_first (Err Breach)
         go false = alone_first s left (omega (arith, h)) c
     lowered_first (suc n) s left h c =
         rw (le-leb 1 left (omega (arith, h)))
@@ -211,7 +211,7 @@ module _ (f : List ℕ) where
         (rw (scan_along f (named_by f s) r (last_of f s) (used_at f (named_by f s)) 0 (first_of f s))
         (row_first (lowest_under f n) (under_within n) next (λ t. lowered_first n t (left - 1) (omega (arith, h))) (last_of f s) (lower_slots f s) (first_of f s)))))
       where
-        next : Entry → Index
+        next : Range → Index
         next d = lowered n f r d (left - 1)
 
         row : Upto
@@ -219,21 +219,21 @@ module _ (f : List ℕ) where
 
         go : (b m : Bool) → FirstThatCovers f r more row (after_lower (lower_scan f r (slot_entry f s)) next)
             → FirstThatCovers f r more (cond b (cond m row breach) (wholly (s ∷ [])))
-            (cond b (cond m (after_lower (lower_scan f r (slot_entry f s)) next) (Halted Breach)) (Covered (slot_entry f s) left))
+            (cond b (cond m (after_lower (lower_scan f r (slot_entry f s)) next) (Err Breach)) (covered_by (slot_entry f s) left))
         go true true q = q
-        go true false q = breach_first (Halted Breach)
+        go true false q = breach_first (Err Breach)
         go false m q = alone_first s left (omega (arith, h)) c
 
     -- ---- along the chain: what its used entries come to, and at least n records that may still be met
-    abbrev ChainIs : ℕ → Bool → Scan → Index → Type 0
-    ChainIs n whole (Covering e) i = (rest : ℕ) × (n ≤ rest) × (i ≡ Covered e rest)
-    ChainIs n whole (Passed upper) i = whole ≡ true → i ≡ Halted Gap
-    ChainIs n whole Broken i = Unit {0}
+    abbrev ChainIs : ℕ → Bool → Result Scan Refusal → Index → Type 0
+    ChainIs n whole (Ok (Covering e)) i = (rest : ℕ) × (n ≤ rest) × (i ≡ covered_by e rest)
+    ChainIs n whole (Ok (Passed upper)) i = whole ≡ true → i ≡ Err Gap
+    ChainIs n whole (Err v) i = Unit {0}
 
-    abbrev scan_on : Scan → (ℕ → Scan) → Scan
-    scan_on (Covering e) next = Covering e
-    scan_on (Passed upper) next = next upper
-    scan_on Broken next = Broken
+    abbrev scan_on : Result Scan Refusal → (ℕ → Result Scan Refusal) → Result Scan Refusal
+    scan_on (Ok (Covering e)) next = Ok (Covering e)
+    scan_on (Ok (Passed upper)) next = next upper
+    scan_on (Err v) next = Err v
 
     scan_join : (most : ℕ) (ss ts : List Slot) (floor : ℕ)
         → scan_along_lem f r most floor (ss ++ ts) ≡ scan_on (scan_along_lem f r most floor ss) (λ upper. scan_along_lem f r most upper ts)
@@ -241,27 +241,27 @@ module _ (f : List ℕ) where
     scan_join most (s ∷ ss) ts floor =
         go (eqb (entry_of f s.vxr s.entry floor most).fault 0) (covers s) (scan_join most ss ts (suc (last_of f s)))
       where
-        later : List Slot → Scan
+        later : List Slot → Result Scan Refusal
         later l = scan_along_lem f r most (suc (last_of f s)) l
 
         go : (b c : Bool) → later (ss ++ ts) ≡ scan_on (later ss) (λ upper. scan_along_lem f r most upper ts)
-            → cond b (cond c (Covering (slot_entry f s)) (later (ss ++ ts))) Broken
-            ≡ scan_on (cond b (cond c (Covering (slot_entry f s)) (later ss)) Broken) (λ upper. scan_along_lem f r most upper ts)
+            → cond b (cond c (Ok (Covering (slot_entry f s))) (later (ss ++ ts))) (Err Breach)
+            ≡ scan_on (cond b (cond c (Ok (Covering (slot_entry f s))) (later ss)) (Err Breach)) (λ upper. scan_along_lem f r most upper ts)
         go true true e = refl
         go true false e = e
         go false c e = refl
 
     -- the link at p, where no VXR of the chain may be met
-    none_more : (n floor : ℕ) (b : Bool) (i : Index)
-        → ChainIs n (cond b (wholly []) breach).whole (scan_along_lem f r no_limit floor (cond b (wholly []) breach).slots) (cond b (Halted Gap) i)
-    none_more n floor true i = λ w. refl
-    none_more n floor false i = λ w. absurd (true≢false (sym w))
+    none_more : (n floor : ℕ) (b : Bool) (i : Index) → (b ≡ true → i ≡ Err Gap)
+        → ChainIs n (cond b (wholly []) breach).whole (scan_along_lem f r no_limit floor (cond b (wholly []) breach).slots) i
+    none_more n floor true i g = λ w. g refl
+    none_more n floor false i g = λ w. absurd (true≢false (sym w))
 
     chain_scan : (n left p floor allowed : ℕ) → left + n ≤ allowed
         → ChainIs n (chain_upto f p left).whole (scan_along_lem f r no_limit floor (chain_upto f p left).slots) (indexed f r p floor allowed)
     unfolding chain_upto indexed last_index
-    chain_scan n zero p floor zero h = none_more n floor (eqb (link_at f p) 0) (Halted Breach)
-    chain_scan n zero p floor (suc allowed) h = none_more n floor (eqb (link_at f p) 0) _
+    chain_scan n zero p floor zero h = none_more n floor (eqb (link_at f p) 0) _ (λ g. rw g)
+    chain_scan n zero p floor (suc allowed) h = none_more n floor (eqb (link_at f p) 0) _ (λ g. rw g)
     chain_scan n (suc left) p floor zero h = absurd (omega arith)
     chain_scan n (suc left) p floor (suc allowed) h =
         go (eqb x 0) (index_met f x) (scanned f x r no_limit (used_at f x) 0 floor) (sym (scan_along f x r no_limit (used_at f x) 0 floor))
@@ -273,17 +273,17 @@ module _ (f : List ℕ) where
         rest : Upto
         rest = chain_upto f (next_at x) left
 
-        on : (q : Scan) → ((upper : ℕ) → ChainIs n rest.whole (scan_along_lem f r no_limit upper rest.slots) (indexed f r (next_at x) upper allowed))
+        on : (q : Result Scan Refusal) → ((upper : ℕ) → ChainIs n rest.whole (scan_along_lem f r no_limit upper rest.slots) (indexed f r (next_at x) upper allowed))
             → ChainIs n rest.whole (scan_on q (λ upper. scan_along_lem f r no_limit upper rest.slots)) (after_scan q allowed (λ upper. indexed f r (next_at x) upper allowed))
-        on (Covering e) ih = (allowed, omega (arith, h), refl)
-        on (Passed upper) ih = ih upper
-        on Broken ih = tt
+        on (Ok (Covering e)) ih = (allowed, omega (arith, h), refl)
+        on (Ok (Passed upper)) ih = ih upper
+        on (Err v) ih = tt
 
-        go : (b m : Bool) (q : Scan) → scan_along_lem f r no_limit floor (slots_of f x) ≡ q
+        go : (b m : Bool) (q : Result Scan Refusal) → scan_along_lem f r no_limit floor (slots_of f x) ≡ q
             → ((upper : ℕ) → ChainIs n rest.whole (scan_along_lem f r no_limit upper rest.slots) (indexed f r (next_at x) upper allowed))
             → ChainIs n (cond b (wholly []) (cond m (joined (wholly (slots_of f x)) rest) breach)).whole
             (scan_along_lem f r no_limit floor (cond b (wholly []) (cond m (joined (wholly (slots_of f x)) rest) breach)).slots)
-            (cond b (Halted Gap) (cond m (after_scan q allowed (λ upper. indexed f r (next_at x) upper allowed)) (Halted Breach)))
+            (cond b (Err Gap) (cond m (after_scan q allowed (λ upper. indexed f r (next_at x) upper allowed)) (Err Breach)))
         go true m q e ih = λ w. refl
         go false false q e ih = λ w. absurd (true≢false (sym w))
         go false true q e ih = rw (scan_join no_limit (slots_of f x) rest.slots floor, e) (on q ih)
@@ -307,15 +307,15 @@ module _ (f : List ℕ) where
         u : Upto
         u = record { slots = row.slots; whole = row.whole && chain.whole }
 
-        go : (q : Scan) (i : Index) → ChainIs (levels_below + more) chain.whole q i
+        go : (q : Result Scan Refusal) (i : Index) → ChainIs (levels_below + more) chain.whole q i
             → ((rest : ℕ) → levels_below + more ≤ rest → RowIs (λ e. lowered levels_below f r e rest) row q)
             → FirstThatCovers f r more u (lowest_of f r i)
-        go (Covering e) i (rest, h, is) g =
+        go (Ok (Covering e)) i (rest, h, is) g =
             let k = g rest h in
             rw is (record { covered = k.covered; gap = λ w n. k.gap (both row.whole chain.whole w).0 n })
-        go (Passed upper) i is g =
+        go (Ok (Passed upper)) i is g =
             free_first u (lowest_of f r i) (g (levels_below + more) (omega arith)) (λ w. ap (lowest_of f r) (is (both row.whole chain.whole w).1))
-        go Broken i is g =
+        go (Err v) i is g =
             let k = g (levels_below + more) (omega arith) in
             free_first u (lowest_of f r i) k.0 (λ w. absurd (true≢false (sym (both row.whole chain.whole w).0 ∙ k.1)))
 

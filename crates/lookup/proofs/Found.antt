@@ -12,19 +12,19 @@ use Rattle.records.specs.Opening.{body_of}
 use Rattle.records.proofs.Fielded.{adr_law, aedr_law}
 use Rattle.variables.specs.Vdr.{variable_of}
 use Rattle.variables.proofs.Rule.{vdr_inside}
-use Rattle.lookup.specs.Lists.{meets, place_way, kind_among, variable_way, attribute_way, head_of_entries, entry_way}
+use Rattle.lookup.specs.Lists.{Way, meets, place_way, kind_among, variable_way, attribute_way, head_of_entries, entry_way}
 use Rattle.lookup.specs.Bounds.{Opened}
+use Rattle.lookup.specs.declared.lists.Met.{Met as MetRecord}
 use Rattle.lookup.specs.declared.lists.Wanted.{Wanted}
-use Rattle.lookup.specs.declared.lists.Way.{Way}
-use Rattle.lookup.specs.declared.lists.Way.TheVariants.{Found, Stopped}
 use Rattle.lookup.proofs.Opening.{opened_inside}
 use Rattle.lookup.proofs.Kept.{meets_parts, attribute_kept, entry_kept, variable_kept}
 use Rattle.lookup.proofs.Sought.{Finds, first_met, Listed, listed_met, place_listed, InOpened, ToVariable, variable_found, attribute_found, ToEntry, entry_found}
+use Rattle.std.specs.Prelude.{Ok, Err}
 
 -- from one fact of what a way finds to another
 so : (P Q : ℕ → Type 0) → ((o : ℕ) → P o → Q o) → (way : Way) → Finds P way → Finds Q way
-so P Q h (Found o left) p = h o p
-so P Q h (Stopped v) p = tt
+so P Q h (Ok m) p = h m.at p
+so P Q h (Err v) p = tt
 
 -- a record of type t, met before the end of a file that opens
 pub record Met (f : List ℕ) (t o : ℕ) : Type 0 where
@@ -69,5 +69,5 @@ module _ (f : List ℕ) (o : ℕ) where
   variable_inside k e = vdr_inside f (kind_among 3 8 k) o (variable_right k e)
 
 -- a variable that was found keeps its rule
-pub found_right : (f b : List ℕ) → b ≡ body_of f → (k n : ℤ) (o left : ℕ) → variable_way f k n ≡ Found o left → (variable_of b (kind_among 3 8 k) o).fault ≡ 0
-found_right f b part k n o left e = rw part (variable_right (body_of f) o k (subst (Finds (Met f (kind_among 3 8 k))) e (variable_finds f k n)).met)
+pub found_right : (f b : List ℕ) → b ≡ body_of f → (k n : ℤ) (m : MetRecord) → variable_way f k n ≡ Ok m → (variable_of b (kind_among 3 8 k) m.at).fault ≡ 0
+found_right f b part k n m e = rw part (variable_right (body_of f) m.at k (subst (Finds (Met f (kind_among 3 8 k))) e (variable_finds f k n)).met)

@@ -1,15 +1,13 @@
 -- The lowest entries of an index in order, in any file, and what a lookup is among them. Sections 8 and 13 of docs/RULES.md. Assumes
 -- nothing.
-use Rattle.std.specs.Prelude.{◌≡◌, ℕ, zero, suc, ◌+◌, ◌≤◌, Bool, true, false, cond, ◌&&◌, List, [], ◌∷◌, ◌++◌, eqb}
+use Rattle.std.specs.Prelude.{◌≡◌, ℕ, zero, suc, ◌+◌, ◌≤◌, Bool, true, false, cond, ◌&&◌, List, [], ◌∷◌, ◌++◌, eqb, Err}
 use Rattle.format.specs.Fields.{link_at}
 use Rattle.records.specs.Layout.{next_at, head_of_index}
-use Rattle.records.specs.Index.{no_limit, entry_of, entry_covers}
+use Rattle.records.specs.Index.{no_limit, entry_of}
 use Rattle.records.specs.Tree.{Slot, slots_of, first_of, last_of, named_by, levels_below, names_index, lower_slots}
-use Rattle.records.specs.declared.index.Entry.{Entry}
-use Rattle.lookup.specs.Indexes.{index_met, indexed, lower_met, lowest_of}
+use Rattle.records.specs.declared.index.Range.{Range}
+use Rattle.lookup.specs.Indexes.{Index, covered_by, range_covers, index_met, indexed, lower_met, lowest_of}
 use Rattle.lookup.specs.declared.refusals.Refusal.TheVariants.{Gap}
-use Rattle.lookup.specs.declared.indexes.Index.{Index}
-use Rattle.lookup.specs.declared.indexes.Index.TheVariants.{Covered, Halted}
 
 -- each of a list has Q
 abbrev pub All : {X : Type 0} → (X → Type 0) → List X → Type 0
@@ -22,8 +20,8 @@ records f p zero = []
 records f p (suc n) = link_at f p ∷ records f (next_at (link_at f p)) n
 
 -- 4.10: "the ranges First to Last of record numbers, each with the Offset of what has their values": what an entry that keeps its rule says
-abbrev pub slot_entry : List ℕ → Slot → Entry
-slot_entry f s = record { fault = 0; first = first_of f s; last = last_of f s; link = named_by f s }
+abbrev pub slot_entry : List ℕ → Slot → Range
+slot_entry f s = record { first = first_of f s; last = last_of f s; link = named_by f s }
 
 -- ---- THE LOWEST ENTRIES, up to a breach
 
@@ -79,9 +77,9 @@ lowest_upto f v left =
 -- records that may still be met; to 17 where none covers r and u has no breach
 pub record FirstThatCovers (f : List ℕ) (r more : ℕ) (u : Upto) (lookup : Index) : Type 0 where
   -- 13.7: "The index entry whose First..Last covers it is used"
-  pub covered : All (λ s. entry_covers (slot_entry f s) r ≡ true → (rest : ℕ) × (more ≤ rest) × (lookup ≡ Covered (slot_entry f s) rest)) u.slots
+  pub covered : All (λ s. range_covers (slot_entry f s) r ≡ true → (rest : ℕ) × (more ≤ rest) × (lookup ≡ covered_by (slot_entry f s) rest)) u.slots
   -- 13.7: "17 exactly if no used entry does"; 13.9: "A lower record that ends without covering is 17"
-  pub gap : u.whole ≡ true → All (λ s. entry_covers (slot_entry f s) r ≡ false) u.slots → lookup ≡ Halted Gap
+  pub gap : u.whole ≡ true → All (λ s. range_covers (slot_entry f s) r ≡ false) u.slots → lookup ≡ Err Gap
 
 -- in every file: where left VXRs of the chain may be met, and seven records more, one for each lower level
 abbrev pub LookupIsFirst : Type 0

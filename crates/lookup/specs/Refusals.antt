@@ -1,5 +1,7 @@
 -- The reader's refusals, and the number of each. Section 2 of docs/RULES.md. Assumes nothing.
 use Rattle.std.specs.Prelude.{◌≡◌, Bool, true, false, cond, ◌||◌, List, [], ◌∷◌, ℕ, suc, eqb}
+use Rattle.values.specs.declared.value.Undecoded.{Undecoded}
+use Rattle.values.specs.declared.value.Undecoded.TheVariants.{Reserved, Nothing}
 use Rattle.lookup.specs.declared.refusals.Refusal.{Refusal}
 use Rattle.lookup.specs.declared.refusals.Refusal.TheVariants.{Breach, NoSuch, NoNumber, Gap, OutOfRange, Operand}
 
@@ -11,6 +13,11 @@ refusal_number NoNumber = 16
 refusal_number Gap = 17
 refusal_number OutOfRange = 18
 refusal_number Operand = 22
+
+-- why nothing was decoded; 15.4: "it is the reserved operand, refused with 22"; an element that is not before the file's end would be 20
+abbrev pub refusal_of : Undecoded → Refusal
+refusal_of Reserved = Operand
+refusal_of Nothing = Breach
 
 -- x is one of these numbers
 abbrev pub among : List ℕ → ℕ → Bool

@@ -1,10 +1,11 @@
--- Marks that are cleared: none, one more, two parts that adjoin, stores one after the other. Assumes nothing.
+-- Marks that are cleared: none, one more, two parts that adjoin, stores one after the other, a part that was filled. Assumes nothing.
 use mathlib.Core.Path.{◌≡◌, refl, sym, ap, ◌∙◌}
 use mathlib.Core.List.{List, ◌++◌, append_assoc}
-use Prim.Native.Nat.{ℕ, zero, suc, ◌+◌, ◌≤◌, ◌<◌}
+use Prim.Native.Nat.{ℕ, zero, suc, ◌+◌, ◌-◌, ◌≤◌, ◌<◌}
 use native.Mathlib.Omega.{arith}
 use lib.ListN.{length, take, drop, set, replicate, length-append, length-take, length-drop, length-replicate, length-set, take-append-drop, replicate-append-replicate}
 use lib.Seq.{length-take-le, take_at, drop-append-add, drop-drop, set_split}
+use borrow.Rule.Slice.PartMut.{put_mid}
 use Rattle.marks.specs.Marks.{cleared}
 
 pub cleared_length : (m : List ℕ) (at n : ℕ) → at + n ≤ length m → length (cleared m at n) ≡ length m
@@ -61,3 +62,12 @@ stored m at zero h = cleared_one m at (omega arith)
 stored m at (suc k) h =
     let up : suc k + 1 ≡ suc (suc k) = omega arith in
     rw (stored m at k (omega arith)) (cleared_more m at (suc k) (omega arith) ∙ rw up)
+
+-- a part that was filled with zeros
+pub filled : (m : List ℕ) (at n : ℕ) (part : List ℕ) → at + n ≤ length m → part ≡ replicate (length (take (at + n - at) (drop at m))) 0
+    → put_mid at (at + n - at) m part ≡ cleared m at n
+unfolding cleared
+filled m at n part h e =
+    let k : at + n - at ≡ n = omega arith in
+    let long : length (take n (drop at m)) ≡ n = length-take-le n (drop at m) (omega (arith, length-drop at m)) in
+    rw (e, k, long) (ap (λ (rest : List ℕ). take at m ++ (replicate n 0 ++ rest)) (drop-drop n at m))

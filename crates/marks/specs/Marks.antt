@@ -2,7 +2,8 @@
 use Rattle.std.specs.Prelude.{ℕ, zero, suc, ◌+◌, Bool, cond, not, ◌&&◌, ◌||◌, List, ◌++◌, length, get_or, take, drop, set, replicate, ltb, leb, eqb, negsuc}
 use Rattle.format.specs.Fields.{end_of}
 use Rattle.records.specs.Rules.{size_at, typed_at}
-use Rattle.marks.specs.declared.Found.{Found}
+use Rattle.records.specs.Breaches.{told}
+use Rattle.marks.specs.declared.Ending.{Ending}
 
 -- zeros in place of the n marks from an offset on
 unfoldable pub cleared : List ℕ → ℕ → ℕ → List ℕ
@@ -23,6 +24,14 @@ unclaimed_at f m o = not (eqb o 8) && not (typed_at f o (negsuc 0)) && not (eqb 
 -- a record that another or the end follows: 8 bytes or more, and not past the end
 unfoldable pub followed_at : List ℕ → ℕ → Bool
 followed_at f o = leb 8 (size_at f o) && leb (o + size_at f o) (end_of f)
+
+-- what the walk's last step finds, a number, and the record that it finds it at
+pub record Found : Type 0 where
+  pub number : ℕ
+  pub at : ℕ
+
+abbrev pub found_told : Ending → Found
+found_told e = record { number = told e.verdict; at = e.at }
 
 abbrev pub found : ℕ → ℕ → Found
 found v o = record { number = v; at = o }

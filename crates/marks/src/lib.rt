@@ -1,33 +1,23 @@
 // Marks: what the sweep writes, and what the walk's last step looks at.
 #![tactic(auto)]
 
-ghost use Rattle.std.specs.Prelude.{◌≡◌, ◌+◌, ◌*◌, ◌≤◌, ◌<◌, length, true};
-ghost use Rattle.marks.specs.Marks.{cleared, marked, start_at, unclaimed_at, followed_at, found, left_of};
+ghost use Rattle.std.specs.Prelude.{◌≡◌, ◌+◌, ◌*◌, ◌≤◌, ◌<◌, ◌||◌, length, eqb, true};
+ghost use Rattle.marks.specs.Marks.{cleared, marked, start_at, unclaimed_at, followed_at, found, found_told, left_of};
+ghost use Rattle.records.specs.Breaches.{told};
 ghost use Rattle.records.specs.Rules.{size_at};
 
 use format::fields;
+use records::breaches::Breach;
 use records::layout;
 
-// The four marks from an offset on become 0.
-fn clear_four(m: &mut [u8], at: usize)
-    requires { at + 4 ≤ length m.old }
-    ensures { m.new ≡ cleared m.old at 4 }
-{
-    m[at] = 0;
-    m[at + 1] = 0;
-    m[at + 2] = 0;
-    m[at + 3] = 0;
-}
-
-// A run: the sixteen marks from an offset on become 0, and no other mark changes.
+// A run: the sixteen marks from an offset on become 0, and no other mark changes. Marks and offset are apart here and below: a part of the marks would
+// state the same bound where it is cut out. Runs stand beside the loop of `clear_singly` for what the rules say of them, and the must-fail edits
+// run_of_fifteen, rest_left_out and run_past_end.
 fn clear_run(m: &mut [u8], at: usize)
     requires { at + 16 ≤ length m.old }
     ensures { m.new ≡ cleared m.old at 16 }
 {
-    clear_four(m, at);
-    clear_four(m, at + 4);
-    clear_four(m, at + 8);
-    clear_four(m, at + 12);
+    m[at..at + 16].fill(0);
 }
 
 // So many runs from an offset on, one after the other.
@@ -35,22 +25,19 @@ fn clear_runs(m: &mut [u8], at: usize, runs: usize)
     requires { at + 16 * runs ≤ length m.old }
     ensures { m.new ≡ cleared m.old at (16 * runs) }
 {
-    let mut i = 0;
-    while i < runs {
+    for i in 0..runs {
         clear_run(m, at + 16 * i);
-        i += 1;
     }
 }
 
-// The n marks from an offset on become 0, singly.
+// The n marks from an offset on become 0, singly. A loop and no fill of the part: a fill stores the last mark apart, by which a short record's
+// clearing takes a quarter longer.
 pub fn clear_singly(m: &mut [u8], at: usize, n: usize)
     requires { at + n ≤ length m.old }
     ensures { m.new ≡ cleared m.old at n }
 {
-    let mut i = 0;
-    while i < n {
+    for i in 0..n {
         m[at + i] = 0;
-        i += 1;
     }
 }
 
@@ -58,10 +45,7 @@ pub fn clear_singly(m: &mut [u8], at: usize, n: usize)
 fn runs_of(n: usize) -> usize
     ensures { (16 * result ≤ n) × (256 ≤ n → n < 16 * result + 16) }
 {
-    if 256 <= n {
-        return n / 16;
-    }
-    0
+    if 256 <= n { n / 16 } else { 0 }
 }
 
 // The n marks from an offset on become 0: in runs of sixteen, the rest singly.
@@ -83,7 +67,14 @@ pub fn mark(m: &mut [u8], at: usize, n: usize)
     m[at] = 1;
 }
 
-// A record starts at an offset.
+// A mark of a record's start, claimed or not.
+fn marks_start(b: u8) -> bool
+    ensures { result ≡ (eqb b 1 || eqb b 2) }
+{
+    matches!(b, 1 | 2)
+}
+
+// A record starts at an offset. File and marks are apart, here and in `left`: between two calls the marks are written.
 pub fn is_start(f: &[u8], m: &[u8], t: u32) -> bool
     requires { length f.now ≤ length m.now }
     ensures { (result ≡ start_at f.now m.now t) × (result ≡ true → t < length f.now) }
@@ -95,11 +86,11 @@ pub fn is_start(f: &[u8], m: &[u8], t: u32) -> bool
     if fields::end(f) <= o {
         return false;
     }
-    let b = m[o];
-    (b == 1) | (b == 2)
+    marks_start(m[o])
 }
 
-// The record at an offset is in use, and no link claimed it.
+// The record at an offset is in use, and no link claimed it. File and offset are apart here and in `is_followed`: each record is asked once, and a
+// struct of the two would be built for each.
 fn is_unclaimed(f: &[u8], m: &[u8], o: usize) -> bool
     requires { (length f.now ≤ length m.now) × (o + 8 ≤ length f.now) }
     ensures { result ≡ unclaimed_at f.now m.now o }
@@ -119,47 +110,46 @@ fn is_followed(f: &[u8], o: usize) -> bool
     o + size <= fields::end(f)
 }
 
-// What the walk's last step finds, a number, and the record that it finds it at.
-#[derive(Clone, Copy)]
-pub struct Found {
-    pub number: u32,
+// How the walk's last step ends, and at which record.
+#[derive(Clone, Copy, Debug, PartialEq, Eq)]
+pub struct Ending {
+    pub verdict: Result<(), Breach>,
     pub at: u32,
 }
 
-// 13 at a record in use that no link claimed, 20 where size and type pass the end or no record follows, or 0 at the end.
-pub fn left(f: &[u8], m: &[u8]) -> Found
+// From record to record: a record in use that no link claimed is refused, and one whose size and type pass the end, or that no record
+// follows.
+pub fn left(f: &[u8], m: &[u8]) -> Ending
     requires { (length f.now ≤ length m.now) × (length f.now ≤ 2147483647) }
-    ensures { result ≡ left_of f.now m.now }
+    ensures { found_told result ≡ left_of f.now m.now }
 {
     let end = fields::end(f);
     let mut o = 8;
-    let mut n = f.len();
-    while 0 < n {
+    for _ in 0..f.len() {
         if o == end {
-            return found_at(0, o);
+            return found_at(Ok(()), o);
         }
         if end < o + 8 {
-            return found_at(20, o);
+            return found_at(Err(Breach::PastEnd), o);
         }
         if is_unclaimed(f, m, o) {
-            return found_at(13, o);
+            return found_at(Err(Breach::Unclaimed), o);
         }
         if !is_followed(f, o) {
-            return found_at(20, o);
+            return found_at(Err(Breach::PastEnd), o);
         }
         o += fields::nat_at(f, o) as usize;
-        n -= 1;
     }
-    found_at(20, o)
+    found_at(Err(Breach::PastEnd), o)
 }
 
-// A number found at an offset.
-fn found_at(number: u32, o: usize) -> Found
+// An ending at a record.
+fn found_at(verdict: Result<(), Breach>, o: usize) -> Ending
     requires { o ≤ 2147483655 }
-    ensures { result ≡ found number o }
+    ensures { found_told result ≡ found (told verdict) o }
 {
-    Found {
-        number,
+    Ending {
+        verdict,
         at: o as u32,
     }
 }

@@ -15,12 +15,10 @@ use Rattle.format.proofs.SignedTests.{eq_z_true}
 use Rattle.records.specs.Layout.{head_of_r_variables, head_of_z_variables, head_of_attributes, nr_vars_at, num_attr_at, nz_vars_at, head_of_gr_entries, head_of_z_entries}
 use Rattle.records.specs.Opening.{too_long, gdr_at, body_of}
 use Rattle.records.proofs.Bodies.{body_le}
-use Rattle.lookup.specs.Lists.{opened, allowance, over_of, sought, head_of_list, place_way, file_way, of_kinds, kind_among, variable_way, attribute_way, entries_of, entry_way}
+use Rattle.lookup.specs.Lists.{met_at, Way, opened, allowance, over_of, sought, head_of_list, place_way, file_way, of_kinds, kind_among, variable_way, attribute_way, entries_of, entry_way}
 use Rattle.lookup.specs.declared.refusals.Refusal.TheVariants.{NoSuch}
 use Rattle.lookup.specs.declared.lists.Wanted.{Wanted}
 use Rattle.lookup.specs.declared.lists.Wanted.TheVariants.{Place}
-use Rattle.lookup.specs.declared.lists.Way.{Way}
-use Rattle.lookup.specs.declared.lists.Way.TheVariants.{Found, Stopped}
 use Rattle.demands.specs.Acceptance.{◌∈◌, Each, ListedVdr, ListedAdr, variable_offsets, attribute_offsets}
 use Rattle.demands.proofs.Opened.{opening_makes}
 use Rattle.demands.proofs.Records.{Stands}
@@ -34,6 +32,7 @@ use Rattle.demands.proofs.Demand2.{tiled_stands}
 use Rattle.read_theorems.proofs.Room.{room}
 use Rattle.read_theorems.proofs.Lists.{OnList}
 use Rattle.read_theorems.proofs.Ways.{VariableIn, OnVariables, variables_way, AttributeIn, OnAttributes, attributes_way, entries_way}
+use Rattle.std.specs.Prelude.{Ok, Err}
 
 -- a place that none of a list has is not below its length
 pub none_placed : {X : Type 0} (xs : List X) (i n : ℕ) → i ≤ n → Each xs (λ earlier x. eqb (i + length earlier) n ≡ false) → i + length xs ≤ n
@@ -109,8 +108,8 @@ module _ (f : List ℕ) (n : NestedAccepted f) where
   vars_kept false = (n.valid.obeys.z_variables, z_standing, omega (arith, enough))
 
   abbrev VarsOn : Bool → ℤ → Way → Type 0
-  VarsOn b j (Found v rest) = (le_z (pos 0) j ≡ true) × VariableIn body (cond b 3 8) (Place (nat_or 0 j)) (allowance f) (vars_of b) v rest
-  VarsOn b j (Stopped m) = (m ≡ NoSuch) × NoPlace (vars_of b) j
+  VarsOn b j (Ok v) = (le_z (pos 0) j ≡ true) × VariableIn body (cond b 3 8) (Place (nat_or 0 j)) (allowance f) (vars_of b) v.at v.left
+  VarsOn b j (Err m) = (m ≡ NoSuch) × NoPlace (vars_of b) j
 
   vars_on : (b : Bool) (j : ℤ) → VarsOn b j (file_way f (cond b 3 8) j)
   unfolding place_way
@@ -121,8 +120,8 @@ module _ (f : List ℕ) (n : NestedAccepted f) where
       (variables_way body b (Place j) (head_of_list body (cond b 3 8)) (allowance f) (vars_of b) k.0 k.1 k.2)
     where
       go : (s : Way) → OnVariables body (cond b 3 8) (Place j) (allowance f) (vars_of b) s → VarsOn b (pos j) s
-      go (Found v rest) a = (le-leb 0 j (omega arith), a)
-      go (Stopped m) a = (a.number ∙ over b, inr (omega (arith, none_placed (vars_of b) 0 j (omega arith) a.none)))
+      go (Ok v) a = (le-leb 0 j (omega arith), a)
+      go (Err m) a = (a.number ∙ over b, inr (omega (arith, none_placed (vars_of b) 0 j (omega arith) a.none)))
 
   -- ---- "counts equal lengths"
   abbrev count_at : Bool → ℕ
@@ -140,23 +139,23 @@ module _ (f : List ℕ) (n : NestedAccepted f) where
 
   -- THE WAY TO A VARIABLE comes to it, or to 15
   abbrev pub VariableOn : ℤ → ℤ → Way → Type 0
-  VariableOn k j (Found v rest) =
-      (of_kinds 3 8 k ≡ true) × (le_z (pos 0) j ≡ true) × VariableIn body (kind_among 3 8 k) (Place (nat_or 0 j)) (allowance f) (vars_of (eq_z k (pos 3))) v rest
-  VariableOn k j (Stopped m) = (m ≡ NoSuch) × ((of_kinds 3 8 k ≡ false) ⊎ ((of_kinds 3 8 k ≡ true) × NoPlace (vars_of (eq_z k (pos 3))) j))
+  VariableOn k j (Ok v) =
+      (of_kinds 3 8 k ≡ true) × (le_z (pos 0) j ≡ true) × VariableIn body (kind_among 3 8 k) (Place (nat_or 0 j)) (allowance f) (vars_of (eq_z k (pos 3))) v.at v.left
+  VariableOn k j (Err m) = (m ≡ NoSuch) × ((of_kinds 3 8 k ≡ false) ⊎ ((of_kinds 3 8 k ≡ true) × NoPlace (vars_of (eq_z k (pos 3))) j))
 
   pub variable_on : (k j : ℤ) → VariableOn k j (variable_way f k j)
   unfolding variable_way
   variable_on k j = rw opens (go (of_kinds 3 8 k) refl (file_way f (kind_among 3 8 k) j) (vars_on (eq_z k (pos 3)) j))
     where
-      go : (c : Bool) → of_kinds 3 8 k ≡ c → (s : Way) → VarsOn (eq_z k (pos 3)) j s → VariableOn k j (cond c s (Stopped NoSuch))
-      go true e (Found v rest) a = (e, a.0, a.1)
-      go true e (Stopped m) a = (a.0, inr (e, a.1))
+      go : (c : Bool) → of_kinds 3 8 k ≡ c → (s : Way) → VarsOn (eq_z k (pos 3)) j s → VariableOn k j (cond c s (Err NoSuch))
+      go true e (Ok v) a = (e, a.0, a.1)
+      go true e (Err m) a = (a.0, inr (e, a.1))
       go false e s a = (refl, inl e)
 
   -- ---- attributes
   abbrev pub AttributeOn : ℤ → Way → Type 0
-  AttributeOn j (Found a rest) = (le_z (pos 0) j ≡ true) × AttributeIn body (Place (nat_or 0 j)) (allowance f) lay.attributes a rest
-  AttributeOn j (Stopped m) = (m ≡ NoSuch) × NoPlace lay.attributes j
+  AttributeOn j (Ok a) = (le_z (pos 0) j ≡ true) × AttributeIn body (Place (nat_or 0 j)) (allowance f) lay.attributes a.at a.left
+  AttributeOn j (Err m) = (m ≡ NoSuch) × NoPlace lay.attributes j
 
   attrs_on : (j : ℤ) → AttributeOn j (file_way f 4 j)
   unfolding place_way
@@ -166,8 +165,8 @@ module _ (f : List ℕ) (n : NestedAccepted f) where
       (attributes_way body (Place j) (head_of_attributes (gdr_at body)) (allowance f) lay.attributes n.valid.obeys.attributes ads_standing (omega (arith, enough)))
     where
       go : (s : Way) → OnAttributes body (Place j) (allowance f) lay.attributes s → AttributeOn (pos j) s
-      go (Found a rest) w = (le-leb 0 j (omega arith), w)
-      go (Stopped m) w = (w.number, inr (omega (arith, none_placed lay.attributes 0 j (omega arith) w.none)))
+      go (Ok a) w = (le-leb 0 j (omega arith), w)
+      go (Err m) w = (w.number, inr (omega (arith, none_placed lay.attributes 0 j (omega arith) w.none)))
 
   -- THE WAY TO AN ATTRIBUTE comes to it, or to 15
   pub attribute_on : (j : ℤ) → AttributeOn j (attribute_way f j)
@@ -182,47 +181,47 @@ module _ (f : List ℕ) (n : NestedAccepted f) where
   pub record EntriesOn (b : Bool) (j : ℤ) (w : Wanted) (s : Way) : Type 0 where
     pub adr : ℕ
     pub left : ℕ
-    pub attribute : AttributeOn j (Found adr left)
+    pub attribute : AttributeOn j (met_at adr left)
     pub entry : OnList body (cond b 5 9) w (λ e. e) 0 left (entries_in b attribute.1.found.here) s
 
   entries_on : (b : Bool) (j : ℤ) (w : Wanted)
-      → let s = entries_of body (cond b 5 9) w (file_way f 4 j) in ((s ≡ Stopped NoSuch) × NoPlace lay.attributes j) ⊎ EntriesOn b j w s
+      → let s = entries_of body (cond b 5 9) w (file_way f 4 j) in ((s ≡ Err NoSuch) × NoPlace lay.attributes j) ⊎ EntriesOn b j w s
   entries_on b j w = go b (file_way f 4 j) (attrs_on j)
     where
       go : (b : Bool) (s : Way) → AttributeOn j s
-          → let e = entries_of body (cond b 5 9) w s in ((e ≡ Stopped NoSuch) × NoPlace lay.attributes j) ⊎ EntriesOn b j w e
-      go b (Stopped m) a = inl (ap Stopped a.0, a.1)
-      go true (Found d left) a =
+          → let e = entries_of body (cond b 5 9) w s in ((e ≡ Err NoSuch) × NoPlace lay.attributes j) ⊎ EntriesOn b j w e
+      go b (Err m) a = inl (ap Err a.0, a.1)
+      go true (Ok d) a =
           let gr = a.1.found.here.gr_entries in
           let z = a.1.found.here.z_entries in
           inr (record {
-            adr = d;
-            left = left;
+            adr = d.at;
+            left = d.left;
             attribute = a;
-            entry = entries_way body true w d (head_of_gr_entries d) left gr a.1.gr (λ o i. a.1.stands o (in_left gr z o i)) (omega (arith, a.1.room, length-append gr z));
+            entry = entries_way body true w d.at (head_of_gr_entries d.at) d.left gr a.1.gr (λ o i. a.1.stands o (in_left gr z o i)) (omega (arith, a.1.room, length-append gr z));
           })
-      go false (Found d left) a =
+      go false (Ok d) a =
           let gr = a.1.found.here.gr_entries in
           let z = a.1.found.here.z_entries in
           inr (record {
-            adr = d;
-            left = left;
+            adr = d.at;
+            left = d.left;
             attribute = a;
-            entry = entries_way body false w d (head_of_z_entries d) left z a.1.z (λ o i. a.1.stands o (in_right gr z o i)) (omega (arith, a.1.room, length-append gr z));
+            entry = entries_way body false w d.at (head_of_z_entries d.at) d.left z a.1.z (λ o i. a.1.stands o (in_right gr z o i)) (omega (arith, a.1.room, length-append gr z));
           })
 
   -- THE WAY TO AN ENTRY comes to 15, or along the entries
   abbrev pub EntryOn : ℤ → ℤ → Wanted → Way → Type 0
   EntryOn j k w s =
-      ((s ≡ Stopped NoSuch) × ((of_kinds 5 9 k ≡ false) ⊎ ((of_kinds 5 9 k ≡ true) × NoPlace lay.attributes j)))
+      ((s ≡ Err NoSuch) × ((of_kinds 5 9 k ≡ false) ⊎ ((of_kinds 5 9 k ≡ true) × NoPlace lay.attributes j)))
       ⊎ ((of_kinds 5 9 k ≡ true) × EntriesOn (eq_z k (pos 5)) j w s)
 
   pub entry_on : (j k : ℤ) (w : Wanted) → EntryOn j k w (entry_way f j k w)
   unfolding entry_way
   entry_on j k w = rw opens (go (of_kinds 5 9 k) refl (entries_of body (kind_among 5 9 k) w (file_way f 4 j)) (entries_on (eq_z k (pos 5)) j w))
     where
-      go : (c : Bool) → of_kinds 5 9 k ≡ c → (s : Way) → ((s ≡ Stopped NoSuch) × NoPlace lay.attributes j) ⊎ EntriesOn (eq_z k (pos 5)) j w s
-          → EntryOn j k w (cond c s (Stopped NoSuch))
+      go : (c : Bool) → of_kinds 5 9 k ≡ c → (s : Way) → ((s ≡ Err NoSuch) × NoPlace lay.attributes j) ⊎ EntriesOn (eq_z k (pos 5)) j w s
+          → EntryOn j k w (cond c s (Err NoSuch))
       go true e s (inl (q, a)) = inl (q, inr (e, a))
       go true e s (inr a) = inr (e, a)
       go false e s a = inl (refl, inl e)

@@ -8,12 +8,12 @@ use Prim.Native.Nat.{ℕ, zero, suc}
 use lib.Dec.{eqb}
 use lib.IntN.{ℤ, pos, negsuc}
 use lib.ListN.{length}
+use Rattle.std.specs.Prelude.{Option, Some, None}
 use Rattle.format.specs.Fields.{eq_z, is_at, nat_at}
-use Rattle.format.specs.Types.{type_of}
-use Rattle.format.specs.Encodings.{encoding_of}
+use Rattle.format.specs.Types.{type_of, kind_in}
+use Rattle.format.specs.Encodings.{encoding_of, float_in}
 use Rattle.format.proofs.Tests.{cond_keeps}
 use Rattle.vax.specs.Rounding.{vax_at}
-use Rattle.vax.specs.declared.Vax.{Vax}
 use Rattle.values.specs.Values.{is_vax, vax_kind}
 use Rattle.records.specs.Layout.{r_dim_sizes_at, attr_name_at, entry_type_at, entry_num_at, entry_elements_at, data_type_at, var_name_at}
 use Rattle.records.specs.Opening.{gdr_at, r_num_dims, body_of}
@@ -103,13 +103,13 @@ entry_gives f l j k w of g =
 
 element_gives : (f : List ℕ) (right : Bool) (at t : ℕ) → Gives (element_in f right at t)
 element_gives f right at t =
-    let kind = (type_of (nat_at f t)).kind in
-    let float = (encoding_of (file_encoding f)).float in
+    let kind = kind_in (type_of (nat_at f t)) in
+    let float = float_in (encoding_of (file_encoding f)) in
     cond_keeps Gives right (cond_keeps Gives (is_vax kind float) (vax (vax_at (vax_kind kind float) f at)) tt) tt
   where
-    vax : (v : Vax) → Gives (vax_told v at)
-    vax (Vax.Given r) = tt
-    vax Vax.Reserved = tt
+    vax : (v : Option ℕ) → Gives (vax_told v at)
+    vax (Some r) = tt
+    vax None = tt
 
 field_gives : (f : List ℕ) (t o p : ℕ) → Gives (field_told f t o p)
 field_gives f t o p = cond_keeps Gives (is_shown t p) tt tt

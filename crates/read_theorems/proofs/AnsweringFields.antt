@@ -11,7 +11,7 @@ use Rattle.records.specs.Layout.{r_dim_sizes_at, attr_name_at, var_name_at}
 use Rattle.records.specs.Opening.{gdr_at, r_num_dims, file_end, body_of}
 use Rattle.records.proofs.Bodies.{body_length}
 use Rattle.variables.specs.Vdr.{layout_of, variable_of}
-use Rattle.variables.specs.declared.vdr.Variable.{Variable as VariableIs}
+use Rattle.variables.specs.Vdr.{Variable as VariableIs}
 use Rattle.variables.proofs.Rule.{vdr_makes}
 use Rattle.lookup.specs.Lists.{kind_among}
 use Rattle.lookup.specs.declared.lists.Wanted.{Wanted}

@@ -13,7 +13,7 @@ use borrow.Author.Tests.{le-leb, lt-leb}
 use Rattle.format.specs.Fields.{link_at}
 use Rattle.records.specs.Layout.{next_at, head_of_index}
 use Rattle.records.specs.Tree.{Slot, slots_of, used_entries, first_of, last_of, levels_below, flat, names_index, lower_slots, lowest, lowest_entries}
-use Rattle.records.specs.declared.index.Entry.{Entry}
+use Rattle.records.specs.declared.index.Range.{Range}
 use Rattle.lookup.specs.Entries.{records}
 use Rattle.reader.specs.Questions.{Reply}
 use Rattle.demands.specs.Acceptance.{◌∈◌, Linked}
@@ -119,7 +119,7 @@ module _ (f : List ℕ) where
         let i = out_flat (slots_of f) vxrs w.top (split_in (used_entries f vxrs) c.earlier c.later w.top c.split) in
         in_flat (slots_of f) xs i.0 w.top (records_in xs (head_of_index v) w.many linked (λ x m z. omega (arith, (w.rules x m).lands.start)) i.0 i.1) i.2
 
-    pub reached_in : (r : ℕ) (d : Entry) (m : ℕ) (w : Reached f v r d m) → w.slot ∈ lowest_entries f xs
+    pub reached_in : (r : ℕ) (d : Range) (m : ℕ) (w : Reached f v r d m) → w.slot ∈ lowest_entries f xs
     reached_in r d m w = in_flat (lowest f levels_below) (used_entries f xs) w.way.top w.slot (top_in r w.way) w.is_lowest
 
     pub levelled_in : (r : ℕ) (w : IndexWay f v r)

@@ -8,34 +8,30 @@ use native.Mathlib.Omega.{arith}
 use lib.Dec.{eqb}
 use lib.IntN.{ℤ, pos}
 use lib.ListN.{length}
+use Rattle.std.specs.Prelude.{Option, Some, None, Result, Ok, Err, IfOk, IfErr}
 use Rattle.format.specs.Fields.{nat_at}
-use Rattle.format.specs.Types.{type_of}
-use Rattle.format.specs.Encodings.{encoding_of}
+use Rattle.format.specs.Types.{type_of, size_in, kind_in}
+use Rattle.format.specs.Encodings.{encoding_of, order_in, float_in}
 use Rattle.format.specs.declared.types.DataType.{DataType}
 use Rattle.format.specs.declared.encodings.Encoding.{Encoding}
 use Rattle.format.proofs.Tests.{both}
-use Rattle.vax.specs.declared.Vax.{Vax}
 use Rattle.vax.specs.Vax.{sign_at, exponent_at, reserved_at}
 use Rattle.vax.specs.Rounding.{vax_of, vax_at}
 use Rattle.values.specs.Values.{raw_at, answer_of, is_vax, vax_kind, vax_given, vax_answer, reserved_float, is_nothing, decoded_of}
 use Rattle.values.specs.declared.value.Answer.{Answer}
-use Rattle.values.specs.declared.value.Decoded.TheVariants.{Given, Nothing}
+use Rattle.values.specs.declared.value.Undecoded.{Undecoded}
+use Rattle.values.specs.declared.value.Undecoded.TheVariants.{Nothing}
 use Rattle.records.specs.Layout.{data_type_at, entry_value_at, entry_type_at, entry_elements_at}
 use Rattle.records.specs.Opening.{body_of}
 use Rattle.records.specs.Tree.{Slot, lowest_entries}
-use Rattle.variables.specs.Vdr.{variable_of}
-use Rattle.lookup.specs.Lists.{opened, kind_among, variable_way}
+use Rattle.variables.specs.Vdr.{variable_of, shape_of}
+use Rattle.lookup.specs.Lists.{met_at, opened, kind_among, variable_way}
 use Rattle.lookup.specs.Indexes.{record_read, record_way, levels_way}
+use Rattle.lookup.specs.declared.refusals.Refusal.{Refusal}
 use Rattle.lookup.specs.declared.refusals.Refusal.TheVariants.{Breach, NoSuch, NoNumber, Gap, OutOfRange, Operand}
 use Rattle.lookup.specs.declared.lists.Wanted.{Wanted}
-use Rattle.lookup.specs.declared.lists.Way.TheVariants.{Found}
-use Rattle.lookup.specs.declared.indexes.Values.{Values}
-use Rattle.lookup.specs.declared.indexes.Values.TheVariants.{Record, Refused as NoRecord}
-use Rattle.lookup.specs.declared.indexes.Levels.{Levels}
-use Rattle.lookup.specs.declared.indexes.Levels.TheVariants.{Are, Unknown}
 use Rattle.lookup.proofs.Sought.{Finds, InOpened, ToVariable, variable_found, ToEntry, entry_found}
-use Rattle.lookup.proofs.Chains.{ToRecord, Leads, record_found, ToLevels, Counts, levels_found}
-use Rattle.lookup.proofs.Stops.{Refuses, Lacks}
+use Rattle.lookup.proofs.Chains.{ToRecord, record_found, ToLevels, levels_found}
 use Rattle.answers.specs.Offsets.{value_at}
 use Rattle.answers.specs.Answers.{file_encoding, element_read, in_record, in_values, in_variable, value_on, value_read, entry_on, entry_value, pad_in, pad_on, pad_read}
 use Rattle.descriptors.specs.Descriptors.{levels_field, levels_on, variable_levels}
@@ -53,27 +49,27 @@ use Rattle.read_theorems.proofs.AnsweringWays.{laid, Variable, variable_asked, e
 use Rattle.read_theorems.proofs.AnsweringIndexes.{first_covers, none_covers, own_slots, levelled_slots, reached_in, levelled_in}
 
 -- ---- what is said of an element, as an equation
-operand_is : (f : List ℕ) (at : ℕ) (d : DataType) (c : Encoding) → reserved_float f at d.kind c.float ≡ true → element_told f at d c ≡ Refused Operand
+operand_is : (f : List ℕ) (at : ℕ) (d : Option DataType) (c : Option Encoding) → reserved_float f at (kind_in d) (float_in c) ≡ true → element_told f at d c ≡ Refused Operand
 unfolding reserved_float reserved_at vax_at vax_of
 operand_is f at d c e =
-    let k = vax_kind d.kind c.float in
-    let a = both (is_vax d.kind c.float) (reserved_at k f at) e in
+    let k = vax_kind (kind_in d) (float_in c) in
+    let a = both (is_vax (kind_in d) (float_in c)) (reserved_at k f at) e in
     let q = both (eqb (exponent_at k f at) 0) (sign_at k f at) a.1 in
     rw (a.0, q.0, q.1)
 
-given_is : (f : List ℕ) (at t e : ℕ) (a : Answer) → decoded_of f at t e ≡ Given a → element_told f at (type_of t) (encoding_of e) ≡ Value a
+given_is : (f : List ℕ) (at t e : ℕ) (a : Answer) → decoded_of f at t e ≡ Ok a → element_told f at (type_of t) (encoding_of e) ≡ Value a
 unfolding decoded_of
 given_is f at t e a =
-    go (is_nothing f at (type_of t).size (encoding_of e).order) (is_vax (type_of t).kind (encoding_of e).float) (vax_at (vax_kind (type_of t).kind (encoding_of e).float) f at)
-    (answer_of (type_of t).kind (type_of t).size (raw_at f at (type_of t).size (encoding_of e).order) at)
+    go (is_nothing f at (size_in (type_of t)) (order_in (encoding_of e))) (is_vax (kind_in (type_of t)) (float_in (encoding_of e))) (vax_at (vax_kind (kind_in (type_of t)) (float_in (encoding_of e))) f at)
+    (answer_of (kind_in (type_of t)) (size_in (type_of t)) (raw_at f at (size_in (type_of t)) (order_in (encoding_of e))) at)
   where
-    same : (c : Answer) → Given c ≡ Given a → Value c ≡ Value a
+    same : (c : Answer) → ◌≡◌ {A = Result Answer Undecoded} (Ok c) (Ok a) → Value c ≡ Value a
     same c q = let e : c ≡ a = cc in ap Value e
 
-    go : (b v : Bool) (r : Vax) (c : Answer) → cond b Nothing (cond v (vax_answer r at) (Given c)) ≡ Given a → cond v (vax_told r at) (Value c) ≡ Value a
+    go : (b v : Bool) (r : Option ℕ) (c : Answer) → cond b (Err Nothing) (cond v (vax_answer r at) (Ok c)) ≡ Ok a → cond v (vax_told r at) (Value c) ≡ Value a
     go true v r c q = absurd (let z : ◌≡◌ {A = ℕ} 0 1 = cc in omega arith)
-    go false true (Vax.Given r) c q = same (vax_given r at) q
-    go false true Vax.Reserved c q = absurd (let z : ◌≡◌ {A = ℕ} 0 1 = cc in omega arith)
+    go false true (Some r) c q = same (vax_given r at) q
+    go false true None c q = absurd (let z : ◌≡◌ {A = ℕ} 0 1 = cc in omega arith)
     go false false r c q = same c q
 
 said_is : (f : List ℕ) (q : Asked) (reply : Reply) → ElementSaid f q reply → reply ≡ element_in f q.right q.at q.type
@@ -105,7 +101,7 @@ module _ (f : List ℕ) (n : NestedAccepted f) (starts : List ℕ) where
     abbrev t : ℕ
     t = kind_among 3 8 k
 
-    found_in : (v rest : ℕ) → variable_way f k j ≡ Found v rest → (opened f ≡ true) × ToVariable k j b v
+    found_in : (v rest : ℕ) → variable_way f k j ≡ met_at v rest → (opened f ≡ true) × ToVariable k j b v
     found_in v rest e = subst (Finds (InOpened f (ToVariable k j))) e (variable_found f k j)
 
     pub pad_answer : (x : ℤ) → answer_to f (ask_pad k j x) ≡ answer_in f (laid f n starts) (ask_pad k j x)
@@ -114,10 +110,10 @@ module _ (f : List ℕ) (n : NestedAccepted f) (starts : List ℕ) where
         variable_asked f n starts k j (λ s. of_read (pad_on b t x s)) (λ t d. element_in b (pad_asked b d.vdr x).right (pad_asked b d.vdr x).at (data_type_at d.vdr)) refl
         (λ v rest e a.
         let w = found_in v rest e in
-        said_is b (pad_asked b v x) (of_read (pad_in b v (variable_of b t v) x)) (in_pad b k j x (ordered f w.0) v w.1))
+        said_is b (pad_asked b v x) (of_read (pad_in b v (shape_of (variable_of b t v)) x)) (in_pad b k j x (ordered f w.0) v w.1))
 
     -- ---- a record of it
-    module _ (r : ℤ) (v rest : ℕ) (way : variable_way f k j ≡ Found v rest) (a : Variable f n starts k j v rest) where
+    module _ (r : ℤ) (v rest : ℕ) (way : variable_way f k j ≡ met_at v rest) (a : Variable f n starts k j v rest) where
       abbrev vxrs : List ℕ
       vxrs = a.found.here.vxrs
 
@@ -127,7 +123,7 @@ module _ (f : List ℕ) (n : NestedAccepted f) (starts : List ℕ) where
       rises : Rises b 0 (lowest_entries b vxrs)
       rises = lowest_rise b t v vxrs index
 
-      value_found : (is : List ℤ) (x : ℤ) → of_read (in_variable b v rest (variable_of b t v) r is x) ≡ value_in b t (record { vdr = v; vxrs = vxrs }) r is x
+      value_found : (is : List ℤ) (x : ℤ) → of_read (in_variable b v rest (shape_of (variable_of b t v)) r is x) ≡ value_in b t (record { vdr = v; vxrs = vxrs }) r is x
       unfolding in_variable
       value_found is x =
           go (record_way b v (variable_of b t v).bytes r rest) (record_found b v r (variable_of b t v).bytes rest)
@@ -136,20 +132,20 @@ module _ (f : List ℕ) (n : NestedAccepted f) (starts : List ℕ) where
           of : Slot → Reply
           of s = element_in b (question_right b t v is x) (value_at b t v s (record_read b v r) is x) (data_type_at v)
 
-          go : (s : Values) → Leads (ToRecord b v r (variable_of b t v).bytes) s → Refuses (Lost b v vxrs r) s
-              → of_read (in_values b v (variable_of b t v) is x s) ≡ value_in b t (record { vdr = v; vxrs = vxrs }) r is x
-          go (Record at) w h =
+          go : (s : Result ℕ Refusal) → IfOk s (ToRecord b v r (variable_of b t v).bytes) → IfErr s (Lost b v vxrs r)
+              → of_read (in_values b v (shape_of (variable_of b t v)) is x s) ≡ value_in b t (record { vdr = v; vxrs = vxrs }) r is x
+          go (Ok at) w h =
               let m = found_in v rest way in
               let loc = subst (λ (bytes : ℕ). Located b v bytes (record_read b v r) at) (bytes_are b t v (found_fault b k j v m.1)) (locate b v (variable_of b t v).bytes r at w) in
               let s = loc.reached.slot in
               let first =
               first_covers b (λ s. s) (record_read b v r) (Refused Gap) of (lowest_entries b vxrs) 0 s (rw (own_slots b (lowest_entries b vxrs)) rises)
               (reached_in b v vxrs index.linked (record_read b v r) loc.entry loc.depth loc.reached) loc.reached.covered in
-              said_is b (value_asked b t v s (record_read b v r) is x) (of_read (in_record b v (variable_of b t v) at is x))
+              said_is b (value_asked b t v s (record_read b v r) is x) (of_read (in_record b v (shape_of (variable_of b t v)) at is x))
               (in_record_lem b k j r is x (ordered f m.0) v m.1 at w.way.there loc)
               ∙ sym (rw w.way.there first)
-          go (NoRecord m) w (inl h) = rw (h.0, h.1)
-          go (NoRecord m) w (inr h) =
+          go (Err m) w (inl h) = rw (h.0, h.1)
+          go (Err m) w (inr h) =
               rw (h.0, h.1) (sym (none_covers b (λ s. s) (record_read b v r) (Refused Gap) of (lowest_entries b vxrs) (rw (own_slots b (lowest_entries b vxrs)) h.2)))
 
       levels_found_in : of_field (levels_field (levels_way b v r rest)) ≡ levels_in b (record { vdr = v; vxrs = vxrs }) r
@@ -158,8 +154,8 @@ module _ (f : List ℕ) (n : NestedAccepted f) (starts : List ℕ) where
           of : Levelled → Reply
           of l = Field (pos l.level)
 
-          go : (s : Levels) → Counts (ToLevels b v r) s → Lacks (Lost b v vxrs r) s → of_field (levels_field s) ≡ levels_in b (record { vdr = v; vxrs = vxrs }) r
-          go (Are m) c h =
+          go : (s : Result ℕ Refusal) → IfOk s (ToLevels b v r) → IfErr s (Lost b v vxrs r) → of_field (levels_field s) ≡ levels_in b (record { vdr = v; vxrs = vxrs }) r
+          go (Ok m) c h =
               let w = reached b v r c.entry c.way in
               let y = w.way in
               let many : m ≡ 1 + length y.below = omega (arith, c.is, w.deep) in
@@ -168,8 +164,8 @@ module _ (f : List ℕ) (n : NestedAccepted f) (starts : List ℕ) where
               (rw (levelled_slots b vxrs) rises) (levelled_in b v vxrs index.linked (record_read b v r) y)
               (subst (CoveredBy b (record_read b v r)) (sym w.last) w.covered) in
               ap (λ (m : ℕ). Field (pos m)) many ∙ sym (rw c.way.there first)
-          go (Unknown m) c (inl h) = rw (h.0, h.1)
-          go (Unknown m) c (inr h) =
+          go (Err m) c (inl h) = rw (h.0, h.1)
+          go (Err m) c (inr h) =
               rw (h.0, h.1) (sym (none_covers b (λ l. l.slot) (record_read b v r) (Refused Gap) of (levelled_entries b vxrs) (rw (levelled_slots b vxrs) h.2)))
 
     pub value_answer : (r : ℤ) (is : List ℤ) (x : ℤ) → answer_to f (ask_value k j r is x) ≡ answer_in f (laid f n starts) (ask_value k j r is x)

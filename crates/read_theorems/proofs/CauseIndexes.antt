@@ -13,9 +13,10 @@ use Rattle.format.specs.Fields.{end_of, link_at}
 use Rattle.format.proofs.Tests.{both}
 use Rattle.records.specs.Layout.{next_at, head_of_index}
 use Rattle.records.specs.Rules.{size_at}
-use Rattle.records.specs.Index.{entries_at, used_at, offset_field_at, vxr_rule, no_limit, entry_of, entry_covers}
+use Rattle.records.specs.Index.{entries_at, used_at, offset_field_at, vxr_rule, no_limit, entry_of}
 use Rattle.records.specs.Tree.{Slot, slots_of, used_entries, first_of, last_of, named_by, levels_below, names_index, lower_slots}
-use Rattle.records.specs.declared.index.Entry.{Entry}
+use Rattle.records.specs.Index.{Entry}
+use Rattle.records.specs.declared.index.Range.{Range}
 use Rattle.records.proofs.Ranges.{entry_reads, entry_is_lem}
 use Rattle.records.proofs.Fielded.{vxr_law, vxr_size}
 use Rattle.demands.specs.Acceptance.{◌∈◌, RangeRight}
@@ -23,20 +24,19 @@ use Rattle.demands.proofs.Splits.{in_left}
 use Rattle.demands.proofs.IndexFacts.{in_used}
 use Rattle.lookup.specs.Entries.{records, slot_entry}
 use Rattle.lookup.specs.Lists.{lands_on}
-use Rattle.lookup.specs.Indexes.{scanned, index_met, lower_met, lower_scan, after_lower, lowered, lowest_of, after_scan, last_index, indexed}
+use Rattle.lookup.specs.Indexes.{range_covers, covered_by, Index, scanned, index_met, lower_met, lower_scan, after_lower, lowered, lowest_of, after_scan, last_index, indexed}
 use Rattle.lookup.specs.Limit.{chain_on, chain_met, lower_on, lower_records}
 use Rattle.lookup.specs.declared.refusals.Refusal.{Refusal}
 use Rattle.lookup.specs.declared.refusals.Refusal.TheVariants.{Breach, Gap}
 use Rattle.lookup.specs.declared.indexes.Scan.{Scan}
-use Rattle.lookup.specs.declared.indexes.Scan.TheVariants.{Covering, Passed, Broken}
-use Rattle.lookup.specs.declared.indexes.Index.{Index}
-use Rattle.lookup.specs.declared.indexes.Index.TheVariants.{Covered, Halted}
+use Rattle.lookup.specs.declared.indexes.Scan.TheVariants.{Covering, Passed}
 use Rattle.lookup.proofs.Kept.{lands_lies}
 use Rattle.lookup.proofs.Scans.{scan_along_lem, scan_along}
 use Rattle.read_theorems.specs.Reading.{nth_record, CoveredBy, Rise, FirstCovering}
 use Rattle.read_theorems.specs.Causes.{VxrMet, NoneCovering, FirstWrong, ChainOver, ChainCovers, ChainBroken, DownTo, IndexTo, LowerOver, LowerBroken}
 use Rattle.read_theorems.proofs.Down.{only, covers_is, covers_not}
 use Rattle.read_theorems.proofs.CauseLists.{StopsFor, stops_more}
+use Rattle.std.specs.Prelude.{Result, Ok, Err}
 
 -- ---- the entries of a VXR that is met lie in the file
 abbrev EntryLies : List ℕ → Slot → Type 0
@@ -126,15 +126,15 @@ module _ (f : List ℕ) (r most : ℕ) where
     wrong = h.wrong;
   }
 
-  abbrev ScanEnds : ℕ → List Slot → Scan → Type 0
-  ScanEnds floor ss (Covering e) = (s : Slot) × FirstCovering f r floor most ss s × (e ≡ slot_entry f s)
-  ScanEnds floor ss (Passed upper) = NoneCovering f r floor most ss × (upper ≡ after floor ss)
-  ScanEnds floor ss Broken = FirstWrong f r floor most ss
+  abbrev ScanEnds : ℕ → List Slot → Result Scan Refusal → Type 0
+  ScanEnds floor ss (Ok (Covering e)) = (s : Slot) × FirstCovering f r floor most ss s × (e ≡ slot_entry f s)
+  ScanEnds floor ss (Ok (Passed upper)) = NoneCovering f r floor most ss × (upper ≡ after floor ss)
+  ScanEnds floor ss (Err v) = (v ≡ Breach) × FirstWrong f r floor most ss
 
   along_ends : (ss : List Slot) (floor : ℕ) → ((s : Slot) → s ∈ ss → EntryLies f s) → ScanEnds floor ss (scan_along_lem f r most floor ss)
   along_ends [] floor lie = (record { rise = tt; none = λ s m c. absurd m }, refl)
   along_ends (s ∷ ss) floor lie =
-      go (eqb fault 0) refl (entry_covers (slot_entry f s) r) refl (scan_along_lem f r most (suc (last_of f s)) ss) (along_ends ss (suc (last_of f s)) (λ t m. lie t (inr m)))
+      go (eqb fault 0) refl (range_covers (slot_entry f s) r) refl (scan_along_lem f r most (suc (last_of f s)) ss) (along_ends ss (suc (last_of f s)) (λ t m. lie t (inr m)))
     where
       fault : ℕ
       fault = (entry_of f s.vxr s.entry floor most).fault
@@ -149,22 +149,25 @@ module _ (f : List ℕ) (r most : ℕ) where
           (entry_is_lem f s.vxr s.entry floor most
           (record { least = h.0.first; above = h.1; last_lies = omega (arith, lies); order = h.0.last; under = h.2; offset_lies = lies })))
 
-      go : (b : Bool) → eqb fault 0 ≡ b → (c : Bool) → entry_covers (slot_entry f s) r ≡ c → (q : Scan) → ScanEnds (suc (last_of f s)) ss q
-          → ScanEnds floor (s ∷ ss) (cond b (cond c (Covering (slot_entry f s)) q) Broken)
+      go : (b : Bool) → eqb fault 0 ≡ b → (c : Bool) → range_covers (slot_entry f s) r ≡ c → (q : Result Scan Refusal) → ScanEnds (suc (last_of f s)) ss q
+          → ScanEnds floor (s ∷ ss) (cond b (cond c (Ok (Covering (slot_entry f s))) q) (Err Breach))
       go true h true d q w =
           let right = ranged (eqb-true fault 0 h) in
           (s, record { earlier = []; later = ss; split = refl; rise = (right.0, right.1, right.2, tt); none = λ t m c. absurd m; covered = covers_is f r s d }, refl)
-      go true h false d (Covering e) w = (w.0, covering_behind floor s ss (ranged (eqb-true fault 0 h)) (covers_not f r s d) w.0 w.1, w.2)
-      go true h false d (Passed upper) w = (none_behind floor s ss (ranged (eqb-true fault 0 h)) (covers_not f r s d) w.0, w.1)
-      go true h false d Broken w = wrong_behind floor s ss (ranged (eqb-true fault 0 h)) (covers_not f r s d) w
-      go false h c d q w = record {
-        earlier = [];
-        slot = s;
-        later = ss;
-        split = refl;
-        passed = record { rise = tt; none = λ t m c. absurd m };
-        wrong = rises_not (eqb-false fault 0 h);
-      }
+      go true h false d (Ok (Covering e)) w = (w.0, covering_behind floor s ss (ranged (eqb-true fault 0 h)) (covers_not f r s d) w.0 w.1, w.2)
+      go true h false d (Ok (Passed upper)) w = (none_behind floor s ss (ranged (eqb-true fault 0 h)) (covers_not f r s d) w.0, w.1)
+      go true h false d (Err v) w = (w.0, wrong_behind floor s ss (ranged (eqb-true fault 0 h)) (covers_not f r s d) w.1)
+      go false h c d q w = (
+        refl,
+        record {
+          earlier = [];
+          slot = s;
+          later = ss;
+          split = refl;
+          passed = record { rise = tt; none = λ t m c. absurd m };
+          wrong = rises_not (eqb-false fault 0 h);
+        },
+      )
 
   -- the used entries of a VXR that is met
   scan_ends : (x floor : ℕ) → index_met f x ≡ true → ScanEnds floor (slots_of f x) (scanned f x r most (used_at f x) 0 floor)
@@ -238,17 +241,17 @@ module _ (f : List ℕ) (r p floor : ℕ) where
           go (inl w) = inl (behind_all f r no_limit (λ l ss. FirstWrong f r l no_limit ss) (wrong_behind f r no_limit) here (used_entries f rest) floor none w)
           go (inr (n, z, e)) = inr (none_more (used_entries f rest) n, z, e)
 
-module _ (f : List ℕ) (r : ℕ) (behind : Entry → List ℕ) where
+module _ (f : List ℕ) (r : ℕ) (behind : Range → List ℕ) where
   abbrev pub ChainEnds : ℕ → ℕ → List ℕ → ℕ → Index → Type 0
-  ChainEnds p floor met left (Covered e rest) =
-      (s : Slot) × ChainCovers f r p floor s × (e ≡ slot_entry f s) × (length met + rest ≡ length (behind e) + left)
-  ChainEnds p floor met left (Halted m) = StopsFor Gap (ChainOver f r p floor) (ChainBroken f r p floor) met left m
+  ChainEnds p floor met left (Ok e) =
+      (s : Slot) × ChainCovers f r p floor s × (e.range ≡ slot_entry f s) × (length met + e.left ≡ length (behind e.range) + left)
+  ChainEnds p floor met left (Err m) = StopsFor Gap (ChainOver f r p floor) (ChainBroken f r p floor) met left m
 
   pub indexed_ends : (left p floor : ℕ) → ChainEnds p floor (chain_met f r behind p floor left) left (indexed f r p floor left)
   unfolding indexed last_index chain_met
   indexed_ends zero p floor = go (eqb (link_at f p) 0) refl
     where
-      go : (b : Bool) → eqb (link_at f p) 0 ≡ b → ChainEnds p floor (cond b [] (link_at f p ∷ [])) 0 (cond b (Halted Gap) (Halted Breach))
+      go : (b : Bool) → eqb (link_at f p) 0 ≡ b → ChainEnds p floor (cond b [] (link_at f p ∷ [])) 0 (Err (cond b Gap Breach))
       go true e = inl (refl, over_at f r p floor (eqb-true (link_at f p) 0 e))
       go false e = inr (refl, inl (omega arith))
   indexed_ends (suc left) p floor =
@@ -260,33 +263,33 @@ module _ (f : List ℕ) (r : ℕ) (behind : Entry → List ℕ) where
 
       further : index_met f x ≡ true → (none : NoneCovering f r floor no_limit (slots_of f x)) → (s : Index) (l : List ℕ)
           → ChainEnds (next_at x) (after f r no_limit floor (slots_of f x)) l left s → ChainEnds p floor (x ∷ l) (suc left) s
-      further m none (Covered e rest) l (s, c, is, many) = (s, covers_more f r p floor m none s c, is, omega (arith, many))
-      further m none (Halted v) l h = stops_more Gap _ _ _ _ x l left v (over_more f r p floor m none) (broken_more f r p floor m none) h
+      further m none (Ok e) l (s, c, is, many) = (s, covers_more f r p floor m none s c, is, omega (arith, many))
+      further m none (Err v) l h = stops_more Gap _ _ _ _ x l left v (over_more f r p floor m none) (broken_more f r p floor m none) h
 
-      go : (a : Bool) → eqb x 0 ≡ a → (b : Bool) → index_met f x ≡ b → (s : Scan) → (index_met f x ≡ true → ScanEnds f r no_limit floor (slots_of f x) s)
+      go : (a : Bool) → eqb x 0 ≡ a → (b : Bool) → index_met f x ≡ b → (s : Result Scan Refusal) → (index_met f x ≡ true → ScanEnds f r no_limit floor (slots_of f x) s)
           → ((upper : ℕ) → ChainEnds (next_at x) upper (chain_met f r behind (next_at x) upper left) left (indexed f r (next_at x) upper left))
           → ChainEnds p floor (cond a [] (x ∷ cond b (chain_on s behind (λ upper. chain_met f r behind (next_at x) upper left)) [])) (suc left)
-          (cond a (Halted Gap) (cond b (after_scan s left (λ upper. indexed f r (next_at x) upper left)) (Halted Breach)))
+          (cond a (Err Gap) (cond b (after_scan s left (λ upper. indexed f r (next_at x) upper left)) (Err Breach)))
       go true e b m s w ih = inl (refl, over_at f r p floor (eqb-true x 0 e))
       go false e false m s w ih = inr (refl, inr (broken_at f r p floor (eqb-false x 0 e) m))
-      go false e true m (Covering d) w ih = ((w m).0, covers_here f r p floor m (w m).0 (w m).1, (w m).2, omega arith)
-      go false e true m (Passed upper) w ih =
+      go false e true m (Ok (Covering d)) w ih = ((w m).0, covers_here f r p floor m (w m).0 (w m).1, (w m).2, omega arith)
+      go false e true m (Ok (Passed upper)) w ih =
           further m (w m).0 (indexed f r (next_at x) upper left) (chain_met f r behind (next_at x) upper left)
           (subst (λ (l : ℕ). ChainEnds (next_at x) l (chain_met f r behind (next_at x) upper left) left (indexed f r (next_at x) upper left)) (w m).1 (ih upper))
-      go false e true m Broken w ih = inr (refl, inr (broken_here f r p floor m (w m)))
+      go false e true m (Err v) w ih = inr ((w m).0, inr (broken_here f r p floor m (w m).1))
 
   -- ---- DOWN from an entry below which n levels may lie
   abbrev pub LowerEnds : ℕ → Slot → List ℕ → ℕ → Index → Type 0
-  LowerEnds n s met left (Covered d rest) =
-      (t : Slot) × DownTo f r (λ m u. (names_index f u ≡ false) × (u ≡ t)) n s × (d ≡ slot_entry f t) × (length met + rest ≡ length (behind d) + left)
-  LowerEnds n s met left (Halted m) = StopsFor Gap (DownTo f r (LowerOver f r) n s) (DownTo f r (LowerBroken f r) n s) met left m
+  LowerEnds n s met left (Ok d) =
+      (t : Slot) × DownTo f r (λ m u. (names_index f u ≡ false) × (u ≡ t)) n s × (d.range ≡ slot_entry f t) × (length met + d.left ≡ length (behind d.range) + left)
+  LowerEnds n s met left (Err m) = StopsFor Gap (DownTo f r (LowerOver f r) n s) (DownTo f r (LowerBroken f r) n s) met left m
 
   pub lowered_ends : (n : ℕ) (s : Slot) (left : ℕ) → LowerEnds n s (lower_records n f r behind (slot_entry f s)) left (lowered n f r (slot_entry f s) left)
   unfolding lowered lower_records
   lowered_ends zero s left = go (names_index f s) refl
     where
       go : (b : Bool) → names_index f s ≡ b
-          → LowerEnds zero s (cond b [] (behind (slot_entry f s))) left (cond b (Halted Breach) (Covered (slot_entry f s) left))
+          → LowerEnds zero s (cond b [] (behind (slot_entry f s))) left (cond b (Err Breach) (covered_by (slot_entry f s) left))
       go true e = inr (refl, inr (e, inl refl))
       go false e = (s, (e, refl), refl, refl)
   lowered_ends (suc n) s left =
@@ -300,42 +303,42 @@ module _ (f : List ℕ) (r : ℕ) (behind : Entry → List ℕ) where
 
       further : names_index f s ≡ true → 1 ≤ left → lower_met f o ≡ true → (t : Slot) → FirstCovering f r (first_of f s) (last_of f s) (lower_slots f s) t
           → (i : Index) (l : List ℕ) → LowerEnds n t l (left - 1) i → LowerEnds (suc n) s (o ∷ l) left i
-      further a b m t c (Covered d rest) l (u, down, is, many) = (u, inr (a, m, t, c, down), is, omega (arith, many, b))
-      further a b m t c (Halted v) l h =
+      further a b m t c (Ok d) l (u, down, is, many) = (u, inr (a, m, t, c, down), is, omega (arith, many, b))
+      further a b m t c (Err v) l h =
           let one : suc (left - 1) ≡ left = omega (arith, b) in
-          subst (λ (k : ℕ). LowerEnds (suc n) s (o ∷ l) k (Halted v)) one
+          subst (λ (k : ℕ). LowerEnds (suc n) s (o ∷ l) k (Err v)) one
           (stops_more Gap _ _ _ _ o l (left - 1) v (λ x. inr (a, m, t, c, x)) (λ x. inr (a, m, t, c, x)) h)
 
-      on : Bool → Bool → Scan → Index
-      on b c q = cond (b && c) (after_lower q (λ d. lowered n f r d (left - 1))) (Halted Breach)
+      on : Bool → Bool → Result Scan Refusal → Index
+      on b c q = cond (b && c) (after_lower q (λ d. lowered n f r d (left - 1))) (Err Breach)
 
-      go : (a : Bool) → names_index f s ≡ a → (b : Bool) → leb 1 left ≡ b → (c : Bool) → lower_met f o ≡ c → (q : Scan)
+      go : (a : Bool) → names_index f s ≡ a → (b : Bool) → leb 1 left ≡ b → (c : Bool) → lower_met f o ≡ c → (q : Result Scan Refusal)
           → (lower_met f o ≡ true → ScanEnds f r (last_of f s) (first_of f s) (lower_slots f s) q)
           → ((t : Slot) → LowerEnds n t (lower_records n f r behind (slot_entry f t)) (left - 1) (lowered n f r (slot_entry f t) (left - 1)))
           → LowerEnds (suc n) s (cond a (o ∷ cond c (lower_on q (lower_records n f r behind)) []) (behind (slot_entry f s))) left
-          (cond a (on b c q) (Covered (slot_entry f s) left))
+          (cond a (on b c q) (covered_by (slot_entry f s) left))
       go false a b l c m q w ih = (s, inl (a, refl), refl, refl)
       go true a false l c m q w ih = inr (refl, inl (omega (arith, leb-false 1 left l)))
       go true a true l false m q w ih = inr (refl, inr (inl (a, inr (inl (λ e. true≢false (sym e ∙ m))))))
-      go true a true l true m (Covering d) w ih =
+      go true a true l true m (Ok (Covering d)) w ih =
           let t = (w m).0 in
-          subst (λ (e : Entry). LowerEnds (suc n) s (o ∷ lower_records n f r behind e) left (lowered n f r e (left - 1))) (sym (w m).2)
+          subst (λ (e : Range). LowerEnds (suc n) s (o ∷ lower_records n f r behind e) left (lowered n f r e (left - 1))) (sym (w m).2)
           (further a (leb-true 1 left l) m t (w m).1 (lowered n f r (slot_entry f t) (left - 1)) (lower_records n f r behind (slot_entry f t)) (ih t))
-      go true a true l true m (Passed upper) w ih = inl (refl, inl (omega arith, a, m, (w m).0))
-      go true a true l true m Broken w ih = inr (refl, inr (inl (a, inr (inr (m, w m)))))
+      go true a true l true m (Ok (Passed upper)) w ih = inl (refl, inl (omega arith, a, m, (w m).0))
+      go true a true l true m (Err v) w ih = inr ((w m).0, inr (inl (a, inr (inr (m, (w m).1)))))
 
 -- ---- ALONG AND DOWN
-module _ (f : List ℕ) (v r left : ℕ) (behind : Entry → List ℕ) where
+module _ (f : List ℕ) (v r left : ℕ) (behind : Range → List ℕ) where
   abbrev pub index_records : List ℕ
   index_records = chain_met f r (lower_records levels_below f r behind) (head_of_index v) 0 left
 
   abbrev pub IndexEnds : Index → Type 0
-  IndexEnds (Covered d rest) =
-      (t : Slot) × IndexTo f v r (λ m u. (names_index f u ≡ false) × (u ≡ t)) × (d ≡ slot_entry f t) × (length index_records + rest ≡ length (behind d) + left)
-  IndexEnds (Halted m) =
+  IndexEnds (Ok d) =
+      (t : Slot) × IndexTo f v r (λ m u. (names_index f u ≡ false) × (u ≡ t)) × (d.range ≡ slot_entry f t) × (length index_records + d.left ≡ length (behind d.range) + left)
+  IndexEnds (Err m) =
       StopsFor Gap (ChainOver f r (head_of_index v) 0 ⊎ IndexTo f v r (LowerOver f r)) (ChainBroken f r (head_of_index v) 0 ⊎ IndexTo f v r (LowerBroken f r)) index_records left m
 
-  chain_halts : (m : Refusal) → StopsFor Gap (ChainOver f r (head_of_index v) 0) (ChainBroken f r (head_of_index v) 0) index_records left m → IndexEnds (Halted m)
+  chain_halts : (m : Refusal) → StopsFor Gap (ChainOver f r (head_of_index v) 0) (ChainBroken f r (head_of_index v) 0) index_records left m → IndexEnds (Err m)
   chain_halts m (inl (e, h)) = inl (e, inl h)
   chain_halts m (inr (e, inl l)) = inr (e, inl l)
   chain_halts m (inr (e, inr h)) = inr (e, inr (inl h))
@@ -346,14 +349,14 @@ module _ (f : List ℕ) (v r left : ℕ) (behind : Entry → List ℕ) where
       down : (s : Slot) (rest : ℕ) → ChainCovers f r (head_of_index v) 0 s
           → length index_records + rest ≡ length (lower_records levels_below f r behind (slot_entry f s)) + left
           → (i : Index) → LowerEnds f r behind levels_below s (lower_records levels_below f r behind (slot_entry f s)) rest i → IndexEnds i
-      down s rest c many (Covered d k) (t, to, is, few) = (t, (s, c, to), is, omega (arith, many, few))
-      down s rest c many (Halted m) (inl (e, h)) = inl (e, inr (s, c, h))
-      down s rest c many (Halted m) (inr (e, inl l)) = inr (e, inl (omega (arith, many, l)))
-      down s rest c many (Halted m) (inr (e, inr h)) = inr (e, inr (inr (s, c, h)))
+      down s rest c many (Ok d) (t, to, is, few) = (t, (s, c, to), is, omega (arith, many, few))
+      down s rest c many (Err m) (inl (e, h)) = inl (e, inr (s, c, h))
+      down s rest c many (Err m) (inr (e, inl l)) = inr (e, inl (omega (arith, many, l)))
+      down s rest c many (Err m) (inr (e, inr h)) = inr (e, inr (inr (s, c, h)))
 
       go : (i : Index) → ChainEnds f r (lower_records levels_below f r behind) (head_of_index v) 0 index_records left i → IndexEnds (lowest_of f r i)
-      go (Covered e rest) (s, c, is, many) =
-          subst (λ (d : Entry). IndexEnds (lowered levels_below f r d rest)) (sym is)
-          (down s rest c (subst (λ (d : Entry). length index_records + rest ≡ length (lower_records levels_below f r behind d) + left) is many)
-          (lowered levels_below f r (slot_entry f s) rest) (lowered_ends f r behind levels_below s rest))
-      go (Halted m) h = chain_halts m h
+      go (Ok e) (s, c, is, many) =
+          subst (λ (d : Range). IndexEnds (lowered levels_below f r d e.left)) (sym is)
+          (down s e.left c (subst (λ (d : Range). length index_records + e.left ≡ length (lower_records levels_below f r behind d) + left) is many)
+          (lowered levels_below f r (slot_entry f s) e.left) (lowered_ends f r behind levels_below s e.left))
+      go (Err m) h = chain_halts m h

@@ -13,17 +13,16 @@ use lib.ListN.{length}
 use borrow.Author.Tests.{ltb-true, ltb-false, eqb-true, eqb-false, le-leb}
 use Rattle.format.specs.Fields.{link_at}
 use Rattle.records.specs.Layout.{next_at}
-use Rattle.lookup.specs.Lists.{meets, wanted_at, over_of, last_link, sought, head_of_list, place_way}
+use Rattle.lookup.specs.Lists.{met_at, Way, meets, wanted_at, over_of, last_link, sought, head_of_list, place_way}
 use Rattle.lookup.specs.Limit.{list_met, place_met}
 use Rattle.lookup.specs.declared.refusals.Refusal.{Refusal}
 use Rattle.lookup.specs.declared.refusals.Refusal.TheVariants.{Breach, NoSuch}
 use Rattle.lookup.specs.declared.lists.Wanted.{Wanted}
 use Rattle.lookup.specs.declared.lists.Wanted.TheVariants.{Place}
-use Rattle.lookup.specs.declared.lists.Way.{Way}
-use Rattle.lookup.specs.declared.lists.Way.TheVariants.{Found, Stopped}
 use Rattle.demands.specs.Acceptance.{◌∈◌, Each, Linked}
 use Rattle.read_theorems.specs.Reading.{nth_record}
 use Rattle.read_theorems.specs.Causes.{RecordMet, ListOver, ListBroken, NotListed, NumberBroken}
+use Rattle.std.specs.Prelude.{Ok, Err}
 
 -- a way that stops does so for one of two reasons: what it goes along is over, with that refusal; or 20, by a breach or, where `left` records
 -- may be met, by more
@@ -39,15 +38,15 @@ stops_more over A B C D o met left m g h (inr (e, inr b)) = inr (e, inr (h b))
 
 -- and one that finds its record has met so many before it
 abbrev pub WayEnds : Refusal → Type 0 → Type 0 → (ℕ → ℕ → List ℕ) → List ℕ → ℕ → Way → Type 0
-WayEnds over Over Broken behind met left (Found o rest) = length met + rest ≡ length (behind o rest) + left
-WayEnds over Over Broken behind met left (Stopped m) = StopsFor over Over Broken met left m
+WayEnds over Over Broken behind met left (Ok o) = length met + o.left ≡ length (behind o.at o.left) + left
+WayEnds over Over Broken behind met left (Err m) = StopsFor over Over Broken met left m
 
 ends_so : (over : Refusal) (A B C D : Type 0) (behind : ℕ → ℕ → List ℕ) (met : List ℕ) (left : ℕ) (s : Way) → (A → C) → (B → D)
     → WayEnds over A B behind met left s → WayEnds over C D behind met left s
-ends_so over A B C D behind met left (Found o rest) g h e = e
-ends_so over A B C D behind met left (Stopped m) g h (inl (e, a)) = inl (e, g a)
-ends_so over A B C D behind met left (Stopped m) g h (inr (e, inl l)) = inr (e, inl l)
-ends_so over A B C D behind met left (Stopped m) g h (inr (e, inr b)) = inr (e, inr (h b))
+ends_so over A B C D behind met left (Ok o) g h e = e
+ends_so over A B C D behind met left (Err m) g h (inl (e, a)) = inl (e, g a)
+ends_so over A B C D behind met left (Err m) g h (inr (e, inl l)) = inr (e, inl l)
+ends_so over A B C D behind met left (Err m) g h (inr (e, inr b)) = inr (e, inr (h b))
 
 module _ (f : List ℕ) (t : ℕ) (w : Wanted) where
   -- ---- along the list from the link at p, at the place i: xs to its end, none of them wanted
@@ -119,7 +118,7 @@ module _ (f : List ℕ) (t : ℕ) (w : Wanted) where
     unfolding sought last_link list_met
     sought_ends zero p i = go (eqb (link_at f p) 0) refl
       where
-        go : (b : Bool) → eqb (link_at f p) 0 ≡ b → Ends p i (cond b [] (link_at f p ∷ [])) 0 (cond b (Stopped (over_of t)) (Stopped Breach))
+        go : (b : Bool) → eqb (link_at f p) 0 ≡ b → Ends p i (cond b [] (link_at f p ∷ [])) 0 (Err (cond b (over_of t) Breach))
         go true e = inl (refl, ([], eqb-true (link_at f p) 0 e))
         go false e = inr (refl, inl (omega arith))
     sought_ends (suc left) p i =
@@ -130,12 +129,12 @@ module _ (f : List ℕ) (t : ℕ) (w : Wanted) where
         o = link_at f p
 
         go : (a : Bool) → eqb o 0 ≡ a → (b : Bool) → meets f t o ≡ b → (c : Bool) → wanted_at f w i o ≡ c → (s : Way) (l : List ℕ) → Ends (next_at o) (suc i) l left s
-            → Ends p i (cond a [] (o ∷ cond b (cond c (behind o left) l) [])) (suc left) (cond a (Stopped (over_of t)) (cond b (cond c (Found o left) s) (Stopped Breach)))
+            → Ends p i (cond a [] (o ∷ cond b (cond c (behind o left) l) [])) (suc left) (cond a (Err (over_of t)) (cond b (cond c (met_at o left) s) (Err Breach)))
         go true e b m c d s l h = inl (refl, ([], eqb-true o 0 e))
         go false e false m c d s l h = inr (refl, inr (0, (eqb-false o 0 e, m)))
         go false e true m true d s l h = omega arith
-        go false e true m false d (Found q n) l h = omega (arith, h)
-        go false e true m false d (Stopped v) l h =
+        go false e true m false d (Ok q) l h = omega (arith, h)
+        go false e true m false d (Err v) l h =
             stops_more (over_of t) _ _ _ _ o l left v (λ x. (o ∷ x.0, (refl, m, d, x.1))) (λ x. (suc x.0, (m, d, x.1))) h
 
     -- in the words of the statement

@@ -11,17 +11,16 @@ use lib.ListN.{length}
 use borrow.Author.Tests.{leb-true, le-leb}
 use Rattle.format.specs.Fields.{link_at}
 use Rattle.records.specs.Layout.{head_of_index}
-use Rattle.records.specs.Index.{entry_covers, no_limit, entry_of}
+use Rattle.records.specs.Index.{no_limit, entry_of}
 use Rattle.records.specs.Tree.{Slot, used_entries, first_of, last_of, levels_below, flat, names_index, lower_slots, lowest, entries_under}
-use Rattle.records.specs.declared.index.Entry.{Entry}
+use Rattle.records.specs.declared.index.Range.{Range}
 use Rattle.records.proofs.Ranges.{entry_reads}
-use Rattle.lookup.specs.Indexes.{index_met, record_read}
-use Rattle.lookup.specs.Entries.{All, records}
+use Rattle.lookup.specs.Indexes.{range_covers, index_met, record_read}
+use Rattle.lookup.specs.Entries.{All, records, slot_entry}
 use Rattle.format.proofs.Tests.{both}
 use Rattle.lookup.proofs.Sought.{nth}
 use Rattle.lookup.proofs.Chains.{Passes, Scanned, Under, ToLowest}
 use Rattle.demands.specs.Acceptance.{◌∈◌}
-use Rattle.demands.proofs.Nested.{entry_is}
 use Rattle.demands.proofs.Splits.{split_in, in_left, in_right, in_either}
 use Rattle.read_theorems.specs.Reading.{nth_record, CoveredBy, Rise, FirstCovering, WayDown, last_entry, IndexWay}
 use Rattle.read_theorems.proofs.Rules.{index_kept, lower_kept}
@@ -88,12 +87,12 @@ module _ (f : List ℕ) where
       let p = entry_reads f s.vxr s.entry floor most e in
       (record { first = p.least; last = p.order }, p.above, p.under, h)
 
-  pub covers_is : (r : ℕ) (s : Slot) → entry_covers (entry_is f s) r ≡ true → CoveredBy f r s
+  pub covers_is : (r : ℕ) (s : Slot) → range_covers (slot_entry f s) r ≡ true → CoveredBy f r s
   covers_is r s e =
       let a = both (leb (first_of f s) r) (leb r (last_of f s)) e in
       record { first = leb-true (first_of f s) r a.0; last = leb-true r (last_of f s) a.1 }
 
-  pub covers_not : (r : ℕ) (s : Slot) → entry_covers (entry_is f s) r ≡ false → CoveredBy f r s → ⊥
+  pub covers_not : (r : ℕ) (s : Slot) → range_covers (slot_entry f s) r ≡ false → CoveredBy f r s → ⊥
   covers_not r s e c = true≢false (sym (rw (le-leb (first_of f s) r c.first, le-leb r (last_of f s) c.last)) ∙ e)
 
   module _ (r most : ℕ) where
@@ -110,7 +109,7 @@ module _ (f : List ℕ) where
     passed_none (s ∷ ss) floor upper a t (inr m) c = passed_none ss (suc (last_of f s)) upper a.2 t m c
 
     -- so what is found is the first that covers r
-    first_covering : (floor : ℕ) (ss : List Slot) (e : Entry) (w : Scanned f r most floor ss e) → FirstCovering f r floor most ss w.slot
+    first_covering : (floor : ℕ) (ss : List Slot) (e : Range) (w : Scanned f r most floor ss e) → FirstCovering f r floor most ss w.slot
     first_covering floor ss e w = record {
       earlier = w.earlier;
       later = w.later;
@@ -121,17 +120,17 @@ module _ (f : List ℕ) where
     }
 
   -- ---- down from a slot by m levels, to the entry d
-  pub record Below (r m : ℕ) (s : Slot) (d : Entry) : Type 0 where
+  pub record Below (r m : ℕ) (s : Slot) (d : Range) : Type 0 where
     pub slots : List Slot
     pub down : WayDown f r s slots
     pub many : length slots ≡ m
-    pub is : d ≡ entry_is f (last_entry s slots)
+    pub is : d ≡ slot_entry f (last_entry s slots)
 
-  below : (r m : ℕ) (s : Slot) (d : Entry) → Under f r m (entry_is f s) d → Below r m s d
+  below : (r m : ℕ) (s : Slot) (d : Range) → Under f r m (slot_entry f s) d → Below r m s d
   below r zero s d u = record { slots = []; down = u.1; many = refl; is = u.0 }
   below r (suc m) s d u =
       let w = u.3 in
-      let b = below r m w.slot d (subst (λ (e : Entry). Under f r m e d) w.is u.4) in
+      let b = below r m w.slot d (subst (λ (e : Range). Under f r m e d) w.is u.4) in
       record {
         slots = w.slot ∷ b.slots;
         down = (lower_kept f s u.0 u.1, first_covering r (last_of f s) (first_of f s) (lower_slots f s) u.2 w, b.down);
@@ -140,23 +139,23 @@ module _ (f : List ℕ) where
       }
 
   -- ---- THE WAY of a lookup, and the lowest entry that it comes to
-  pub record Reached (v r : ℕ) (d : Entry) (m : ℕ) : Type 0 where
+  pub record Reached (v r : ℕ) (d : Range) (m : ℕ) : Type 0 where
     pub way : IndexWay f v r
     pub deep : length way.below ≡ m
     pub slot : Slot
     pub last : last_entry way.top way.below ≡ slot
     pub is_lowest : slot ∈ lowest f levels_below way.top
     pub covered : CoveredBy f r slot
-    pub is : d ≡ entry_is f slot
+    pub is : d ≡ slot_entry f slot
 
-  pub reached : (v : ℕ) (r : ℤ) (d : Entry) (t : ToLowest f v r d) → Reached v (record_read f v r) d t.down.depth
+  pub reached : (v : ℕ) (r : ℤ) (d : Range) (t : ToLowest f v r d) → Reached v (record_read f v r) d t.down.depth
   reached v r d t =
       let n = record_read f v r in
       let c = t.chained in
       let w = t.down in
       let ss = used_entries f (records f (head_of_index v) c.many) in
       let first = first_covering n no_limit 0 ss t.top c.first in
-      let b = below n w.depth c.first.slot d (subst (λ (e : Entry). Under f n w.depth e d) c.first.is w.under) in
+      let b = below n w.depth c.first.slot d (subst (λ (e : Range). Under f n w.depth e d) c.first.is w.under) in
       record {
         way = record {
           many = c.many;

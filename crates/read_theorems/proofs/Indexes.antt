@@ -15,35 +15,33 @@ use Rattle.records.specs.Layout.{head_of_index, next_at}
 use Rattle.records.specs.Rules.{typed_at}
 use Rattle.records.specs.Index.{used_at, vxr_rule, no_limit, vvr_rule}
 use Rattle.records.specs.Tree.{Slot, slots_from, slots_of, used_entries, first_at, last_at, first_of, last_of, named_by, named_by_all, levels_below, flat, lower_slots, lowest, lowest_entries, entries_under}
-use Rattle.records.specs.declared.index.Entry.{Entry}
+use Rattle.records.specs.declared.index.Range.{Range}
 use Rattle.records.proofs.Ranges.{order_natural, entry_is_lem}
 use Rattle.variables.specs.Vdr.{variable_of}
 use Rattle.walk.specs.Walk.{type_number, values_number, lower_number}
 use Rattle.walk.specs.Levels.{most_of}
-use Rattle.lookup.specs.Indexes.{scanned, index_met, after_scan, last_index, indexed, lower_met, lower_scan, after_lower, lowered, lowest_of, values_met, values_of, values_by, record_there, record_read, record_number, record_way, levels_told, levels_of, levels_by, levels_way}
+use Rattle.lookup.specs.Indexes.{Index, scanned, index_met, after_scan, last_index, indexed, lower_met, lower_scan, after_lower, lowered, lowest_of, values_met, values_of, values_by, record_there, record_read, record_number, record_way, levels_told, levels_of, levels_by, levels_way}
 use Rattle.lookup.specs.declared.refusals.Refusal.{Refusal}
 use Rattle.lookup.specs.declared.refusals.Refusal.TheVariants.{NoNumber, Gap}
-use Rattle.lookup.specs.declared.indexes.RecordNumber.TheVariants.{There, Missing}
 use Rattle.lookup.specs.declared.indexes.Scan.{Scan}
-use Rattle.lookup.specs.declared.indexes.Scan.TheVariants.{Covering, Passed, Broken}
-use Rattle.lookup.specs.declared.indexes.Index.{Index}
-use Rattle.lookup.specs.declared.indexes.Index.TheVariants.{Covered, Halted}
+use Rattle.lookup.specs.declared.indexes.Scan.TheVariants.{Covering, Passed}
 use Rattle.demands.specs.Acceptance.{◌∈◌, index_offsets, EntryRight}
 use Rattle.read_theorems.specs.Reading.{CoveredBy}
 use Rattle.format.proofs.Tests.{both}
 use Rattle.format.specs.Numbers.{unless}
 use Rattle.format.proofs.Numbers.{zeros}
 use Rattle.lookup.proofs.Kept.{Lies, lies_lands}
-use Rattle.lookup.proofs.Stops.{Refuses, Lacks}
 use Rattle.variables.proofs.Rule.{VdrParts}
 use Rattle.demands.proofs.Records.{Stands, stands_begins, type_reads, values_read}
 use Rattle.demands.proofs.Lists.{Listed}
 use Rattle.demands.proofs.Levels.{levels_of as levels_above, most_named, most_top}
+use Rattle.lookup.specs.Entries.{slot_entry}
 use Rattle.demands.proofs.Nested.{entry_is, Carried, carried, EntryGood, after_entry, RowGood, after_row, chain_carried, chain_rules}
 use Rattle.demands.proofs.Splits.{in_left, in_right, in_either, each_in, each_along, listed_reads, offset_in}
 use Rattle.demands.proofs.IndexFacts.{along_rows, row_each, used_named, under_lower, other_type, after_floor, ranged_of, lower_parts, entry_right}
 use Rattle.demands.proofs.Lowest.{Rises, covered_once}
 use Rattle.read_theorems.proofs.Down.{in_flat, out_flat, only, lowest_under, covers_is, covers_not}
+use Rattle.std.specs.Prelude.{Some, None, Result, Ok, Err, IfErr}
 
 pub stands_lies : (f : List ℕ) (t o : ℕ) → Stands f o → typed_at f o (pos t) ≡ true → Lies f t o
 stands_lies f t o s e = record { placed = s.placed; begins = stands_begins f o s; typed = e; inside = s.inside }
@@ -60,10 +58,10 @@ flat_join_length of (x ∷ xs) ys =
 
 module _ (f : List ℕ) (r : ℕ) where
   -- the entry e is that of one of the slots, and covers r
-  pub record CoveringIn (ss : List Slot) (e : Entry) : Type 0 where
+  pub record CoveringIn (ss : List Slot) (e : Range) : Type 0 where
     pub slot : Slot
     pub member : slot ∈ ss
-    pub is : e ≡ entry_is f slot
+    pub is : e ≡ slot_entry f slot
     pub covered : CoveredBy f r slot
 
   -- no slot covers r
@@ -83,10 +81,10 @@ module _ (f : List ℕ) (r : ℕ) where
 
   module _ (k v : ℕ) where
     -- ---- the entries of a VXR below which n levels may lie
-    abbrev ScanOn : ℕ → Carried → List Slot → Scan → Type 0
-    ScanOn n c ss (Covering e) = CoveringIn ss e
-    ScanOn n c ss (Passed l) = (l ≡ (after_row f k v n c ss).floor) × Free ss
-    ScanOn n c ss Broken = ⊥
+    abbrev ScanOn : ℕ → Carried → List Slot → Result Scan Refusal → Type 0
+    ScanOn n c ss (Ok (Covering e)) = CoveringIn ss e
+    ScanOn n c ss (Ok (Passed l)) = (l ≡ (after_row f k v n c ss).floor) × Free ss
+    ScanOn n c ss (Err m) = ⊥
 
     module _ (n : ℕ) (above : List Slot) where
       abbrev most : ℕ
@@ -108,12 +106,12 @@ module _ (f : List ℕ) (r : ℕ) where
           next : Carried
           next = after_entry f k v n c (record { vxr = x; entry = i })
 
-          go : (b : Bool) → (leb (first_of f here) r && leb r (last_of f here)) ≡ b → (s : Scan) → ScanOn n next (slots_from x (i + 1) m) s
-              → ScanOn n c (here ∷ slots_from x (i + 1) m) (cond b (Covering (entry_is f here)) s)
+          go : (b : Bool) → (leb (first_of f here) r && leb r (last_of f here)) ≡ b → (s : Result Scan Refusal) → ScanOn n next (slots_from x (i + 1) m) s
+              → ScanOn n c (here ∷ slots_from x (i + 1) m) (cond b (Ok (Covering (slot_entry f here))) s)
           go true e s a = record { slot = here; member = inl refl; is = refl; covered = covers_is f r here e }
-          go false e (Covering y) a = record { slot = a.slot; member = inr a.member; is = a.is; covered = a.covered }
-          go false e (Passed l) a = (a.0, none_first here (slots_from x (i + 1) m) (covers_not f r here e) a.1)
-          go false e Broken a = a
+          go false e (Ok (Covering y)) a = record { slot = a.slot; member = inr a.member; is = a.is; covered = a.covered }
+          go false e (Ok (Passed l)) a = (a.0, none_first here (slots_from x (i + 1) m) (covers_not f r here e) a.1)
+          go false e (Err m) a = a
 
       -- their ranges rise, so no two cover r
       row_rises : (ss : List Slot) (c : Carried) → RowGood f k v n above c ss → Rises f c.floor ss
@@ -128,8 +126,8 @@ module _ (f : List ℕ) (r : ℕ) where
 
     -- ---- down from an entry: where it ends
     abbrev LowestOn : List Slot → Index → Type 0
-    LowestOn ls (Covered e rest) = CoveringIn ls e × (1 ≤ rest)
-    LowestOn ls (Halted m) = (m ≡ Gap) × Free ls
+    LowestOn ls (Ok e) = CoveringIn ls e.range × (1 ≤ e.left)
+    LowestOn ls (Err m) = (m ≡ Gap) × Free ls
 
     -- where one under an entry that keeps its rule covers r, so does the entry
     in_range_lem : (n : ℕ) (s t : Slot) → EntryRight f k v n s → t ∈ entries_under f n s → CoveredBy f r t → CoveredBy f r s
@@ -174,11 +172,11 @@ module _ (f : List ℕ) (r : ℕ) where
               h t (subst (λ (s : Slot). t ∈ lowest f n s) (row_once n above ss c g w.0 u w.1 here w.3 covers) w.2) d
 
           on_row : (i : Index) → LowestOn (lowest f n u) i → LowestOn Under i
-          on_row (Covered e rest) a = (
+          on_row (Ok e) a = (
             record { slot = a.0.slot; member = in_flat (lowest f n) ss u a.0.slot here a.0.member; is = a.0.is; covered = a.0.covered },
             a.1,
           )
-          on_row (Halted x) a = (a.0, free_one a.1)
+          on_row (Err x) a = (a.0, free_one a.1)
 
       abbrev inner : Slot → Carried → Carried
       inner s c = carried (first_of f s) c.covered
@@ -186,7 +184,7 @@ module _ (f : List ℕ) (r : ℕ) where
       -- ---- down from an entry that covers r
       lower_way : (n : ℕ) (above : List Slot) (c : Carried) (s : Slot) (left : ℕ) → EntryGood f k v n above c s
           → ((t : Slot) → t ∈ entries_under f n s → Stands f (named_by f t)) → CoveredBy f r s → length (entries_under f n s) ≤ left
-          → LowestOn (lowest f n s) (lowered n f r (entry_is f s) left)
+          → LowestOn (lowest f n s) (lowered n f r (slot_entry f s) left)
       unfolding lowered
       lower_way zero above c s left g ok w h = rw g.0 (record { slot = s; member = inl refl; is = refl; covered = w }, omega arith)
       lower_way (suc n) above c s left (inl g) ok w h = rw g.0 (record { slot = s; member = inl refl; is = refl; covered = w }, omega arith)
@@ -194,7 +192,7 @@ module _ (f : List ℕ) (r : ℕ) where
           let under : suc (length (flat (entries_under f n) (lower_slots f s))) ≤ left = rw g.0 at h in
           let typed = (both (leb (named_by f s + 8) (end_of f)) (typed_at f (named_by f s) (pos 6)) g.0).1 in
           rw (g.0, le-leb 1 left (omega (arith, under)), lower_met_lem (named_by f s) (ok s (inl refl)) typed g.1.lower)
-          (go (lower_scan f r (entry_is f s))
+          (go (lower_scan f r (slot_entry f s))
           (subst (λ (m : ℕ). ScanOn n (inner s c) (lower_slots f s) (scanned f (named_by f s) r m (used_at f (named_by f s)) 0 (first_of f s))) (most_named f s)
           (scan_row n (s ∷ above) (named_by f s) (used_at f (named_by f s)) 0 (inner s c) g.2))
           (λ u m a.
@@ -202,20 +200,20 @@ module _ (f : List ℕ) (r : ℕ) where
           lower_way n (s ∷ above) e.0 u (left - 1) e.1 (λ t i. ok t (under_lower f n s u t g.0 m i)) a
           (omega (arith, under, length_flat (entries_under f n) (lower_slots f s) u m))))
         where
-          go : (q : Scan) → ScanOn n (inner s c) (lower_slots f s) q
-              → ((u : Slot) → u ∈ lower_slots f s → CoveredBy f r u → LowestOn (lowest f n u) (lowered n f r (entry_is f u) (left - 1)))
+          go : (q : Result Scan Refusal) → ScanOn n (inner s c) (lower_slots f s) q
+              → ((u : Slot) → u ∈ lower_slots f s → CoveredBy f r u → LowestOn (lowest f n u) (lowered n f r (slot_entry f u) (left - 1)))
               → LowestOn (flat (lowest f n) (lower_slots f s)) (after_lower q (λ d. lowered n f r d (left - 1)))
-          go (Covering e) a ih =
+          go (Ok (Covering e)) a ih =
               rw a.is
               (on_row n (s ∷ above) (lower_slots f s) (inner s c) g.2 a.slot a.member a.covered
-              (lowered n f r (entry_is f a.slot) (left - 1)) (ih a.slot a.member a.covered))
-          go (Passed l) a ih = (refl, free_row n (s ∷ above) (lower_slots f s) (inner s c) g.2 a.1)
-          go Broken a ih = absurd a
+              (lowered n f r (slot_entry f a.slot) (left - 1)) (ih a.slot a.member a.covered))
+          go (Ok (Passed l)) a ih = (refl, free_row n (s ∷ above) (lower_slots f s) (inner s c) g.2 a.1)
+          go (Err m) a ih = absurd a
 
     -- ---- the top chain
     abbrev IndexOn : ℕ → List ℕ → Index → Type 0
-    IndexOn left xs (Covered e rest) = CoveringIn (used_entries f xs) e × (left ≤ rest + length xs)
-    IndexOn left xs (Halted m) = (m ≡ Gap) × Free (used_entries f xs)
+    IndexOn left xs (Ok e) = CoveringIn (used_entries f xs) e.range × (left ≤ e.left + length xs)
+    IndexOn left xs (Err m) = (m ≡ Gap) × Free (used_entries f xs)
 
     index_way : (xs bs : List ℕ) (p left : ℕ) → Listed f (chain_rules f k v) bs p xs → ((o : ℕ) → o ∈ xs → Stands f o) → length xs ≤ left
         → IndexOn left xs (indexed f r p (chain_carried f k v bs).floor left)
@@ -239,7 +237,7 @@ module _ (f : List ℕ) (r : ℕ) where
         before = chain_carried f k v bs
 
         further : (s : Index) → Free (slots_of f x) → IndexOn left xs s → IndexOn (suc left) (x ∷ xs) s
-        further (Covered e rest) a i = (
+        further (Ok e) a i = (
           record {
             slot = i.0.slot;
             member = in_right (slots_of f x) (used_entries f xs) i.0.slot i.0.member;
@@ -248,17 +246,17 @@ module _ (f : List ℕ) (r : ℕ) where
           },
           omega (arith, i.1),
         )
-        further (Halted m) a i = (i.0, none_join (slots_of f x) (used_entries f xs) a i.1)
+        further (Err m) a i = (i.0, none_join (slots_of f x) (used_entries f xs) a i.1)
 
-        go : (s : Scan) → ScanOn levels_below before (slots_of f x) s → IndexOn left xs (indexed f r (next_at x) (chain_carried f k v (x ∷ bs)).floor left)
+        go : (s : Result Scan Refusal) → ScanOn levels_below before (slots_of f x) s → IndexOn left xs (indexed f r (next_at x) (chain_carried f k v (x ∷ bs)).floor left)
             → IndexOn (suc left) (x ∷ xs) (after_scan s left (λ upper. indexed f r (next_at x) upper left))
-        go (Covering e) a ih = (
+        go (Ok (Covering e)) a ih = (
           record { slot = a.slot; member = in_left (slots_of f x) (used_entries f xs) a.slot a.member; is = a.is; covered = a.covered },
           omega arith,
         )
-        go (Passed l) a ih =
+        go (Ok (Passed l)) a ih =
             further (indexed f r (next_at x) l left) a.1 (subst (λ (l : ℕ). IndexOn left xs (indexed f r (next_at x) l left)) (sym a.0) ih)
-        go Broken a ih = absurd a
+        go (Err m) a ih = absurd a
 
 -- ---- the offsets of an index: its VXRs, and what the entries of all levels name
 module _ (f : List ℕ) where
@@ -308,14 +306,14 @@ module _ (f : List ℕ) (k v : ℕ) (xs : List ℕ) (vdr : VdrParts f k v) (list
         (omega (arith, h, index_length f xs)))
       where
         go : (i : Index) → IndexOn f (record_read f v r) k v left xs i → On (lowest_of f (record_read f v r) i)
-        go (Halted m) a = (a.0, free_row f (record_read f v r) k v vdr levels_below [] (used_entries f xs) (carried 0 false) rows a.1)
-        go (Covered e rest) (a, n) =
+        go (Err m) a = (a.0, free_row f (record_read f v r) k v vdr levels_below [] (used_entries f xs) (carried 0 false) rows a.1)
+        go (Ok e) (a, n) =
             let s = a.slot in
             let g = good s a.member in
             rw a.is
             (on_row f (record_read f v r) k v vdr levels_below [] (used_entries f xs) (carried 0 false) rows s a.member a.covered
-            (lowered levels_below f (record_read f v r) (entry_is f s) rest)
-            (lower_way f (record_read f v r) k v vdr levels_below [] g.0 s rest g.1 (λ t i. stands (named_by f t) (used_named f xs s t a.member i)) a.covered
+            (lowered levels_below f (record_read f v r) (slot_entry f s) e.left)
+            (lower_way f (record_read f v r) k v vdr levels_below [] g.0 s e.left g.1 (λ t i. stands (named_by f t) (used_named f xs s t a.member i)) a.covered
             (omega (arith, n, h, index_length f xs, length_flat (entries_under f levels_below) (used_entries f xs) s a.member))))
 
     -- ---- the values that a lowest entry names can be met
@@ -328,7 +326,7 @@ module _ (f : List ℕ) (k v : ℕ) (xs : List ℕ) (vdr : VdrParts f k v) (list
         let e = row_each f k v n (s ∷ above) (lower_slots f s) (carried (first_of f s) c.covered) g.2 w.0 w.1 in
         lowest_good n (s ∷ above) e.0 w.0 t e.1 w.2
 
-    values_met_lem : (t : Slot) (rest : ℕ) → t ∈ lowest_entries f xs → 1 ≤ rest → values_met f (entry_is f t) (variable_of f k v).bytes rest ≡ true
+    values_met_lem : (t : Slot) (rest : ℕ) → t ∈ lowest_entries f xs → 1 ≤ rest → values_met f (slot_entry f t) (variable_of f k v).bytes rest ≡ true
     unfolding values_met
     values_met_lem t rest m h =
         let w = out_flat (lowest f levels_below) (used_entries f xs) t m in
@@ -341,32 +339,32 @@ module _ (f : List ℕ) (k v : ℕ) (xs : List ℕ) (vdr : VdrParts f k v) (list
           eq-eqb (vvr_rule f (named_by f t) (last_of f t - first_of f t + 1) (variable_of f k v).bytes) 0 (values_read f k v (entry_is f t) q.1),
         )
 
-    pub record_on : (left : ℕ) → length (index_offsets f xs) ≤ left → Refuses (Lost f v xs r) (record_way f v (variable_of f k v).bytes r left)
+    pub record_on : (left : ℕ) → length (index_offsets f xs) ≤ left → IfErr (record_way f v (variable_of f k v).bytes r left) (Lost f v xs r)
     unfolding record_way record_number
     record_on left h = go (record_there f v r) refl
       where
-        on : record_there f v r ≡ true → (i : Index) → On i → Refuses (Lost f v xs r) (values_of f (record_read f v r) (variable_of f k v).bytes i)
-        on e (Halted m) a = inr (a.0, e, a.1)
-        on e (Covered y rest) (a, n) =
-            rw (subst (λ (y : Entry). values_met f y (variable_of f k v).bytes rest ≡ true) (sym a.is) (values_met_lem a.slot rest a.member n)) tt
+        on : record_there f v r ≡ true → (i : Index) → On i → IfErr (values_of f (record_read f v r) (variable_of f k v).bytes i) (Lost f v xs r)
+        on e (Err m) a = inr (a.0, e, a.1)
+        on e (Ok y) (a, n) =
+            rw (subst (λ (d : Range). values_met f d (variable_of f k v).bytes y.left ≡ true) (sym a.is) (values_met_lem a.slot y.left a.member n)) tt
 
         go : (b : Bool) → record_there f v r ≡ b
-            → Refuses (Lost f v xs r) (values_by f v (variable_of f k v).bytes left (cond b (There (record_read f v r)) Missing))
+            → IfErr (values_by f v (variable_of f k v).bytes left (cond b (Some (record_read f v r)) None)) (Lost f v xs r)
         go true e = on e (lowest_of f (record_read f v r) (indexed f (record_read f v r) (head_of_index v) 0 left)) (lowest_way left h)
         go false e = inl (refl, e)
 
-    pub levels_on_lem : (left : ℕ) → length (index_offsets f xs) ≤ left → Lacks (Lost f v xs r) (levels_way f v r left)
+    pub levels_on_lem : (left : ℕ) → length (index_offsets f xs) ≤ left → IfErr (levels_way f v r left) (Lost f v xs r)
     unfolding levels_way record_number
     levels_on_lem left h = go (record_there f v r) refl
       where
-        told : record_there f v r ≡ true → (top : Entry) (i : Index) → On i → Lacks (Lost f v xs r) (levels_told f (record_read f v r) top i)
-        told e top (Covered y rest) a = tt
-        told e top (Halted m) a = inr (a.0, e, a.1)
+        told : record_there f v r ≡ true → (top : Range) (i : Index) → On i → IfErr (levels_told f (record_read f v r) top i) (Lost f v xs r)
+        told e top (Ok y) a = tt
+        told e top (Err m) a = inr (a.0, e, a.1)
 
-        on : record_there f v r ≡ true → (i : Index) → On (lowest_of f (record_read f v r) i) → Lacks (Lost f v xs r) (levels_of f (record_read f v r) i)
-        on e (Covered y rest) a = told e y (lowered levels_below f (record_read f v r) y rest) a
-        on e (Halted m) a = inr (a.0, e, a.1)
+        on : record_there f v r ≡ true → (i : Index) → On (lowest_of f (record_read f v r) i) → IfErr (levels_of f (record_read f v r) i) (Lost f v xs r)
+        on e (Ok y) a = told e y.range (lowered levels_below f (record_read f v r) y.range y.left) a
+        on e (Err m) a = inr (a.0, e, a.1)
 
-        go : (b : Bool) → record_there f v r ≡ b → Lacks (Lost f v xs r) (levels_by f v left (cond b (There (record_read f v r)) Missing))
+        go : (b : Bool) → record_there f v r ≡ b → IfErr (levels_by f v left (cond b (Some (record_read f v r)) None)) (Lost f v xs r)
         go true e = on e (indexed f (record_read f v r) (head_of_index v) 0 left) (lowest_way left h)
         go false e = inl (refl, e)

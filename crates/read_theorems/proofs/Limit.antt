@@ -9,24 +9,20 @@ use lib.Dec.{eqb}
 use lib.IntN.{ℤ}
 use lib.ListN.{length}
 use Rattle.records.specs.Opening.{gdr_at, body_of}
-use Rattle.variables.specs.Vdr.{variable_of}
-use Rattle.lookup.specs.Lists.{opened, allowance, kind_among, variable_way, attribute_way, entry_way}
+use Rattle.variables.specs.Vdr.{variable_of, shape_of}
+use Rattle.lookup.specs.Lists.{met_at, Way, opened, allowance, kind_among, variable_way, attribute_way, entry_way}
 use Rattle.lookup.specs.Indexes.{record_way, levels_way}
 use Rattle.lookup.specs.Limit.{variable_met, place_met, record_way_met, levels_way_met, variable_within, attribute_within}
 use Rattle.lookup.specs.declared.refusals.Refusal.{Refusal}
 use Rattle.lookup.specs.declared.refusals.Refusal.TheVariants.{Breach}
-use Rattle.lookup.specs.declared.lists.Way.{Way}
-use Rattle.lookup.specs.declared.lists.Way.TheVariants.{Found, Stopped}
-use Rattle.lookup.specs.declared.indexes.Values.TheVariants.{Refused as NoRecord}
-use Rattle.lookup.specs.declared.indexes.Levels.TheVariants.{Unknown}
 use Rattle.lookup.proofs.Opening.{opened_inside}
 use Rattle.lookup.proofs.Limit.{Limited, limited_map, none_limited, record_limited, levels_limited, variable_limited, attribute_limited, entry_limited}
 use Rattle.answers.specs.Answers.{in_values, in_variable, value_read, entry_value, pad_read}
 use Rattle.descriptors.specs.Descriptors.{gdr_size, padding, file_field_in, file_field, dimension_size, variable_field, attribute_field, entry_field, variable_dimensions, variable_size, variable_variance, levels_field, variable_levels, variable_name, attribute_name}
-use Rattle.descriptors.specs.declared.Field.TheVariants.{Is, Refused as NoField}
 use Rattle.reader.specs.Questions.{Question, ask_value, ask_entry, ask_pad, ask_file, ask_dimension, ask_variable, ask_attribute, ask_entry_field, ask_size, ask_variance, ask_levels, ask_variable_name, ask_attribute_name, Refused, of_read, of_field, answer_to}
 use Rattle.read_theorems.specs.Refusing.{Subject, TheFile, AVariable, AnAttribute, AnEntry, ARecord, about}
 use Rattle.read_theorems.specs.Limit.{way_within, file_on, answer_on, answer_within, none_met, met_behind, LimitKept, LimitExact}
+use Rattle.std.specs.Prelude.{Ok, Err}
 
 -- ---- THE WAY OF A FILE is the one that its length allows
 abbrev pub way_of : List ℕ → Question → Way
@@ -41,15 +37,15 @@ module _ (f : List ℕ) where
   answer_within_lem (ask_file what) = go (opened f)
     where
       go : (b : Bool)
-          → let x = cond b (cond (eqb what 6) (Is (padding f)) (file_field_in (body_of f) what)) (NoField Breach) in
-          of_field x ≡ file_on (cond b (Found (gdr_at (body_of f)) (allowance f)) (Stopped Breach)) x
+          → let x = cond b (cond (eqb what 6) (Ok (padding f)) (file_field_in (body_of f) what)) (Err Breach) in
+          of_field x ≡ file_on (cond b (met_at (gdr_at (body_of f)) (allowance f)) (Err Breach)) x
       go true = refl
       go false = refl
   answer_within_lem (ask_dimension d) = go (opened f)
     where
       go : (b : Bool)
-          → let x = cond b (gdr_size (body_of f) d) (NoField Breach) in
-          of_field x ≡ file_on (cond b (Found (gdr_at (body_of f)) (allowance f)) (Stopped Breach)) x
+          → let x = cond b (gdr_size (body_of f) d) (Err Breach) in
+          of_field x ≡ file_on (cond b (met_at (gdr_at (body_of f)) (allowance f)) (Err Breach)) x
       go true = refl
       go false = refl
   answer_within_lem (ask_variable k n p) = refl
@@ -62,7 +58,7 @@ module _ (f : List ℕ) where
   answer_within_lem (ask_attribute_name n) = refl
 
   -- a way that stopped is the answer
-  pub answer_stopped : (q : Question) (v : Refusal) → answer_on f q (Stopped v) ≡ Refused v
+  pub answer_stopped : (q : Question) (v : Refusal) → answer_on f q (Err v) ≡ Refused v
   answer_stopped (ask_value k n r is x) v = refl
   answer_stopped (ask_entry a k w x) v = refl
   answer_stopped (ask_pad k n x) v = refl
@@ -78,7 +74,7 @@ module _ (f : List ℕ) where
   answer_stopped (ask_attribute_name n) v = refl
 
   -- ---- a file that does not open is 20
-  way_closed : opened f ≡ false → (left : ℕ) (s : Subject) → way_within left f s ≡ Stopped Breach
+  way_closed : opened f ≡ false → (left : ℕ) (s : Subject) → way_within left f s ≡ Err Breach
   way_closed shut left TheFile = rw shut
   way_closed shut left (AVariable k n) = rw shut
   way_closed shut left (AnAttribute n) = rw shut
@@ -95,18 +91,18 @@ module _ (f : List ℕ) where
 
     -- where nothing more is met behind the VDR, ADR or AEDR
     abbrev Ends : Question → Type 0
-    Ends q = (o left most : ℕ) → answer_on f q (Found o left) ≡ answer_on f q (Found o most)
+    Ends q = (o left most : ℕ) → answer_on f q (met_at o left) ≡ answer_on f q (met_at o most)
 
     last : (q : Question) → Ends q → (o left most : ℕ) → left ≤ most
-        → Limited (answer_on f q (Stopped Breach)) (none_met o most) left (answer_on f q (Found o left)) (answer_on f q (Found o most))
+        → Limited (answer_on f q (Err Breach)) (none_met o most) left (answer_on f q (met_at o left)) (answer_on f q (met_at o most))
     last q same o left most h = inr (omega arith, same o most left)
 
     variable_same : (q : Question) → Ends q → (k n : ℤ)
-        → Limited (answer_on f q (Stopped Breach)) (variable_met (body_of f) k n none_met most) left (answer_on f q (variable_within left f k n)) (answer_on f q (variable_within most f k n))
+        → Limited (answer_on f q (Err Breach)) (variable_met (body_of f) k n none_met most) left (answer_on f q (variable_within left f k n)) (answer_on f q (variable_within most f k n))
     variable_same q same k n = variable_limited (answer_on f q) f opens left most h none_met (last q same) k n
 
     attribute_same : (q : Question) → Ends q → (n : ℤ)
-        → Limited (answer_on f q (Stopped Breach)) (place_met (body_of f) 4 n none_met most) left (answer_on f q (attribute_within left f n)) (answer_on f q (attribute_within most f n))
+        → Limited (answer_on f q (Err Breach)) (place_met (body_of f) 4 n none_met most) left (answer_on f q (attribute_within left f n)) (answer_on f q (attribute_within most f n))
     attribute_same q same n = attribute_limited (answer_on f q) f opens left most h none_met (last q same) n
 
     limited : (q : Question) → Same q
@@ -116,7 +112,7 @@ module _ (f : List ℕ) where
         let t = kind_among 3 8 k in
         variable_limited (answer_on f (ask_value k n r is x)) f opens left most h (λ v left. record_way_met b v r left)
         (λ v left most h.
-        limited_map (λ s. of_read (in_values b v (variable_of b t v) is x s)) (NoRecord Breach) (record_way_met b v r most) left
+        limited_map (λ s. of_read (in_values b v (shape_of (variable_of b t v)) is x s)) (Err Breach) (record_way_met b v r most) left
         (record_way b v (variable_of b t v).bytes r left) (record_way b v (variable_of b t v).bytes r most)
         (record_limited b v r left most h (variable_of b t v).bytes)) k n
     limited (ask_entry a k w x) = entry_limited (answer_on f (ask_entry a k w x)) f opens left most h (λ o l m. refl) a k w
@@ -132,7 +128,7 @@ module _ (f : List ℕ) where
         let b = body_of f in
         variable_limited (answer_on f (ask_levels k n r)) f opens left most h (λ v left. levels_way_met b v r left)
         (λ v left most h.
-        limited_map (λ s. of_field (levels_field s)) (Unknown Breach) (levels_way_met b v r most) left (levels_way b v r left) (levels_way b v r most)
+        limited_map (λ s. of_field (levels_field s)) (Err Breach) (levels_way_met b v r most) left (levels_way b v r left) (levels_way b v r most)
         (levels_limited b v r left most h)) k n
     limited (ask_variable_name k n) = variable_same (ask_variable_name k n) (λ o l m. refl) k n
     limited (ask_attribute_name n) = attribute_same (ask_attribute_name n) (λ o l m. refl) n

@@ -10,12 +10,11 @@ use native.Mathlib.Omega.{arith}
 use lib.ListN.{length}
 use borrow.Author.Tests.{ne_eqb}
 use Rattle.records.specs.Layout.{next_at}
-use Rattle.lookup.specs.Lists.{meets, wanted_at, over_of, last_link, sought}
+use Rattle.lookup.specs.Lists.{met_at, Way, meets, wanted_at, over_of, last_link, sought}
 use Rattle.lookup.specs.declared.refusals.Refusal.{Refusal}
 use Rattle.lookup.specs.declared.lists.Wanted.{Wanted}
-use Rattle.lookup.specs.declared.lists.Way.{Way}
-use Rattle.lookup.specs.declared.lists.Way.TheVariants.{Found, Stopped}
 use Rattle.demands.specs.Acceptance.{◌∈◌, Each, Linked}
+use Rattle.std.specs.Prelude.{Ok, Err}
 
 module _ {X : Type 0} (f : List ℕ) (t : ℕ) (w : Wanted) (at : X → ℕ) where
   -- the record found at o is one of xs, the wanted one and the first; rest more may be met
@@ -35,8 +34,8 @@ module _ {X : Type 0} (f : List ℕ) (t : ℕ) (w : Wanted) (at : X → ℕ) whe
     pub none : Each xs (λ earlier x. wanted_at f w (i + length earlier) (at x) ≡ false)
 
   abbrev pub OnList : ℕ → ℕ → List X → Way → Type 0
-  OnList i left xs (Found o rest) = FoundIn i left xs o rest
-  OnList i left xs (Stopped v) = NoneIn i xs v
+  OnList i left xs (Ok o) = FoundIn i left xs o.at o.left
+  OnList i left xs (Err v) = NoneIn i xs v
 
   no_split : (earlier later : List X) (x : X) → [] ≡ earlier ++ (x ∷ later) → ⊥
   no_split [] later x e = let z : ◌≡◌ {A = ℕ} 0 1 = cc in absurd (omega arith)
@@ -61,9 +60,9 @@ module _ {X : Type 0} (f : List ℕ) (t : ℕ) (w : Wanted) (at : X → ℕ) whe
       rw (l.0, ne_eqb (at x) 0 m.0, m.1)
       (go (wanted_at f w i (at x)) refl (sought f t w (next_at (at x)) (suc i) left) (list_way xs (next_at (at x)) (suc i) left l.1 (λ y j. h y (inr j)) (omega arith)))
     where
-      go : (b : Bool) → wanted_at f w i (at x) ≡ b → (s : Way) → OnList (suc i) left xs s → OnList i (suc left) (x ∷ xs) (cond b (Found (at x) left) s)
+      go : (b : Bool) → wanted_at f w i (at x) ≡ b → (s : Way) → OnList (suc i) left xs s → OnList i (suc left) (x ∷ xs) (cond b (met_at (at x) left) s)
       go true e s a = record { earlier = []; here = x; later = xs; split = refl; is = refl; wanted = rw (add-zero i) e; first = λ earlier later y q. absurd (no_split earlier later y q); spent = omega arith }
-      go false e (Found o rest) a = record {
+      go false e (Ok o) a = record {
         earlier = x ∷ a.earlier;
         here = a.here;
         later = a.later;
@@ -73,4 +72,4 @@ module _ {X : Type 0} (f : List ℕ) (t : ℕ) (w : Wanted) (at : X → ℕ) whe
         first = none_more i x a.earlier e a.first;
         spent = omega (arith, a.spent);
       }
-      go false e (Stopped v) a = record { number = a.number; none = none_more i x xs e a.none }
+      go false e (Err v) a = record { number = a.number; none = none_more i x xs e a.none }

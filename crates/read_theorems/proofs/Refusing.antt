@@ -10,37 +10,28 @@ use lib.IntN.{ℤ}
 use lib.ListN.{length}
 use borrow.Author.Tests.{ltb-true, ltb-false, leb-false, ne_eqb}
 use Rattle.format.specs.Fields.{field_at, nat_or, bit_at}
-use Rattle.values.specs.declared.value.Decoded.{Decoded}
-use Rattle.values.specs.declared.value.Decoded.TheVariants.{Given as Decodes, Reserved, Nothing}
+use Rattle.std.specs.Prelude.{Option, Some, None, Result, Ok, Err, IfOk, IfErr, IsErrAnd}
+use Rattle.values.specs.declared.value.Answer.{Answer}
+use Rattle.values.specs.declared.value.Undecoded.{Undecoded}
+use Rattle.values.specs.declared.value.Undecoded.TheVariants.{Reserved, Nothing}
 use Rattle.records.specs.Layout.{entry_elements_at, entry_type_at, entry_value_at, data_type_at, elements_at, var_flags_at}
 use Rattle.records.specs.Opening.{body_of}
-use Rattle.variables.specs.Vdr.{layout_of, variable_of}
+use Rattle.variables.specs.Vdr.{Variable, layout_of, variable_of, shape_of}
 use Rattle.variables.specs.Place.{index_right, place_of}
-use Rattle.variables.specs.declared.vdr.Variable.{Variable}
-use Rattle.variables.specs.declared.place.Place.{Place}
-use Rattle.variables.specs.declared.place.Place.TheVariants.{At, Wrong}
-use Rattle.lookup.specs.Lists.{opened, allowance, wanted_at, head_of_entries, kind_among, variable_way}
+use Rattle.variables.specs.declared.vdr.Shape.{Shape}
+use Rattle.lookup.specs.Lists.{Way, met_at, opened, allowance, wanted_at, head_of_entries, kind_among, variable_way}
 use Rattle.lookup.specs.Indexes.{record_there, record_read, record_number, record_way, levels_way}
 use Rattle.lookup.specs.Refusals.{order_of}
 use Rattle.lookup.specs.declared.refusals.Refusal.{Refusal}
 use Rattle.lookup.specs.declared.refusals.Refusal.TheVariants.{Breach, NoSuch, NoNumber, Gap, OutOfRange, Operand}
 use Rattle.lookup.specs.declared.lists.Wanted.{Wanted}
-use Rattle.lookup.specs.declared.lists.Way.{Way}
-use Rattle.lookup.specs.declared.lists.Way.TheVariants.{Found, Stopped}
-use Rattle.lookup.specs.declared.indexes.Values.{Values}
-use Rattle.lookup.specs.declared.indexes.Values.TheVariants.{Record, Refused as NoRecord}
-use Rattle.lookup.specs.declared.indexes.Levels.{Levels}
-use Rattle.lookup.specs.declared.indexes.Levels.TheVariants.{Are as LevelsAre, Unknown as NoLevels}
 use Rattle.lookup.proofs.Sought.{Finds, ToVariable}
 use Rattle.lookup.proofs.Table.{in_table}
-use Rattle.lookup.proofs.Stops.{Stops, Refuses, Lacks, record_refuses, levels_lack, variable_stops}
-use Rattle.lookup.proofs.Chains.{ToRecord, Leads, record_found, ToLevels, Counts, levels_found}
+use Rattle.lookup.proofs.Stops.{record_refuses, levels_lack, variable_stops}
+use Rattle.lookup.proofs.Chains.{ToRecord, record_found, ToLevels, levels_found}
 use Rattle.answers.specs.Offsets.{row_majority, element_at}
 use Rattle.answers.specs.Answers.{answered, element_there, element_of, element_read, at_place, in_record, in_values, in_variable, pad_value_at, pad_in}
-use Rattle.answers.specs.declared.Read.TheVariants.{Refused as NoValue}
 use Rattle.descriptors.specs.Descriptors.{is_shown, row_field, gdr_size, padding, file_field_at, majority, file_field, dimension_size, levels_field}
-use Rattle.descriptors.specs.declared.Field.{Field as FieldRead}
-use Rattle.descriptors.specs.declared.Field.TheVariants.{Is, Refused as NoField}
 use Rattle.reader.specs.Questions.{call_of, Question, ask_value, ask_entry, ask_pad, ask_file, ask_dimension, ask_variable, ask_attribute, ask_entry_field, ask_size, ask_variance, ask_levels, ask_variable_name, ask_attribute_name, Reply, Value, Field, Name, Refused, of_read, of_field, answer_to}
 use Rattle.demands.specs.Acceptance.{◌∈◌}
 use Rattle.demands.proofs.Splits.{in_left, in_right}
@@ -67,22 +58,22 @@ module _ (P : Refusal → Type 0) (f : List ℕ) (broken : P Breach) where
   unfolding element_read
   element_late late at t c x = go (element_there (body_of f) c x) (element_of (body_of f) (element_at (body_of f) at t x) t)
     where
-      go : (b : Bool) (d : Decoded) → OfRefusal P (of_read (cond b (answered d) (NoValue OutOfRange)))
+      go : (b : Bool) (d : Result Answer Undecoded) → OfRefusal P (of_read (cond b (answered d) (Err OutOfRange)))
       go false d = late OutOfRange (inl refl)
-      go true (Decodes a) = tt
-      go true Reserved = late Operand (inr (inl refl))
-      go true Nothing = broken
+      go true (Ok a) = tt
+      go true (Err Reserved) = late Operand (inr (inl refl))
+      go true (Err Nothing) = broken
 
-  values_late : Late element_refusals → (v : ℕ) (u : Variable) (is : List ℤ) (x : ℤ) (s : Values) → Refuses P s → OfRefusal P (of_read (in_values (body_of f) v u is x s))
+  values_late : Late element_refusals → (v : ℕ) (u : Shape) (is : List ℤ) (x : ℤ) (s : Result ℕ Refusal) → IfErr s P → OfRefusal P (of_read (in_values (body_of f) v u is x s))
   unfolding in_record
-  values_late late v u is x (NoRecord m) h = h
-  values_late late v u is x (Record at) h = go (place_of (body_of f) u (row_majority (body_of f)) is)
+  values_late late v u is x (Err m) h = h
+  values_late late v u is x (Ok at) h = go (place_of (body_of f) u.dimensions (row_majority (body_of f)) is)
     where
-      go : (p : Place) → OfRefusal P (of_read (at_place (body_of f) v u.value at x p))
-      go (At p) = element_late late (at + p * u.value) (data_type_at v) (elements_at v) x
-      go Wrong = late OutOfRange (inl refl)
+      go : (p : Option ℕ) → OfRefusal P (of_read (at_place (body_of f) v u.value at x p))
+      go (Some p) = element_late late (at + p * u.value) (data_type_at v) (elements_at v) x
+      go None = late OutOfRange (inl refl)
 
-  field_late : Late field_refusals → (b : Bool) (x : ℤ) → OfRefusal P (of_field (cond b (Is x) (NoField OutOfRange)))
+  field_late : Late field_refusals → (b : Bool) (x : ℤ) → OfRefusal P (of_field (cond b (Ok x) (Err OutOfRange)))
   field_late late true x = tt
   field_late late false x = late OutOfRange (inl refl)
 
@@ -90,9 +81,9 @@ module _ (P : Refusal → Type 0) (f : List ℕ) (broken : P Breach) where
   unfolding row_field
   row_late late p n d = field_late late (index_right d n) (field_at (body_of f) (p + 4 * nat_or 0 d))
 
-  levels_late : (s : Levels) → Lacks P s → OfRefusal P (of_field (levels_field s))
-  levels_late (LevelsAre n) h = tt
-  levels_late (NoLevels m) h = h
+  levels_late : (s : Result ℕ Refusal) → IfErr s P → OfRefusal P (of_field (levels_field s))
+  levels_late (Ok n) h = tt
+  levels_late (Err m) h = h
 
   -- and, of a record, of those on the way through the index
   abbrev Through : Subject → ℕ → Type 0
@@ -102,18 +93,18 @@ module _ (P : Refusal → Type 0) (f : List ℕ) (broken : P Breach) where
   Through (AnEntry a k w) o = Unit {0}
   Through (ARecord k n r) o = P Gap × (record_there (body_of f) o r ≡ false → P NoNumber)
 
-  found_late : (q : Question) → Late (end_refusals q) → (o left : ℕ) → Through (about q) o → OfRefusal P (answer_on f q (Found o left))
+  found_late : (q : Question) → Late (end_refusals q) → (o left : ℕ) → Through (about q) o → OfRefusal P (answer_on f q (met_at o left))
   unfolding in_variable pad_in file_field dimension_size
   found_late (ask_value k n r is x) late v left h =
-      let u = variable_of (body_of f) (kind_among 3 8 k) v in
+      let u = shape_of (variable_of (body_of f) (kind_among 3 8 k) v) in
       values_late late v u is x (record_way (body_of f) v u.bytes r left) (record_refuses P broken (body_of f) h.0 v r h.1 u.bytes left)
   found_late (ask_entry a k w x) late e left h = element_late late (entry_value_at e) (entry_type_at e) (entry_elements_at e) x
   found_late (ask_pad k n x) late v left h = go (bit_at (body_of f) (var_flags_at v) 2)
     where
       at : ℕ
-      at = pad_value_at (variable_of (body_of f) (kind_among 3 8 k) v)
+      at = pad_value_at (shape_of (variable_of (body_of f) (kind_among 3 8 k) v))
 
-      go : (b : Bool) → OfRefusal P (of_read (cond b (element_read (body_of f) at (data_type_at v) (elements_at v) x) (NoValue OutOfRange)))
+      go : (b : Bool) → OfRefusal P (of_read (cond b (element_read (body_of f) at (data_type_at v) (elements_at v) x) (Err OutOfRange)))
       go true = element_late late at (data_type_at v) (elements_at v) x
       go false = late OutOfRange (inl refl)
   found_late (ask_file what) late o left h = go (opened f) (eqb what 6) (eqb what 0) (leb what 5)
@@ -122,14 +113,14 @@ module _ (P : Refusal → Type 0) (f : List ℕ) (broken : P Breach) where
       b = body_of f
 
       go : (a c d e : Bool)
-          → OfRefusal P (of_field (cond a (cond c (Is (padding f)) (cond d (Is (majority (row_majority b))) (cond e (Is (field_at b (file_field_at b what))) (NoField OutOfRange)))) (NoField Breach)))
+          → OfRefusal P (of_field (cond a (cond c (Ok (padding f)) (cond d (Ok (majority (row_majority b))) (cond e (Ok (field_at b (file_field_at b what))) (Err OutOfRange)))) (Err Breach)))
       go false c d e = broken
       go true true d e = tt
       go true false true e = tt
       go true false false e = field_late late e (field_at b (file_field_at b what))
   found_late (ask_dimension d) late o left h = go (opened f) (gdr_size (body_of f) d) (row_late late _ _ d)
     where
-      go : (a : Bool) (x : FieldRead) → OfRefusal P (of_field x) → OfRefusal P (of_field (cond a x (NoField Breach)))
+      go : (a : Bool) (x : Result ℤ Refusal) → OfRefusal P (of_field x) → OfRefusal P (of_field (cond a x (Err Breach)))
       go true x h = h
       go false x h = broken
   found_late (ask_variable k n p) late v left h = field_late late (is_shown (kind_among 3 8 k) p) (field_at (body_of f) (v + p))
@@ -140,7 +131,7 @@ module _ (P : Refusal → Type 0) (f : List ℕ) (broken : P Breach) where
       u : Variable
       u = variable_of (body_of f) (kind_among 3 8 k) v
 
-      go : (b : Bool) → OfRefusal P (of_field (cond b (row_field (body_of f) u.dimensions.sizes u.dimensions.count d) (NoField OutOfRange)))
+      go : (b : Bool) → OfRefusal P (of_field (cond b (row_field (body_of f) u.dimensions.sizes u.dimensions.count d) (Err OutOfRange)))
       go true = row_late late u.dimensions.sizes u.dimensions.count d
       go false = late OutOfRange (inl refl)
   found_late (ask_variance k n d) late v left h =
@@ -151,12 +142,12 @@ module _ (P : Refusal → Type 0) (f : List ℕ) (broken : P Breach) where
   found_late (ask_attribute_name n) late a left h = tt
 
   -- of the answer, if it holds where the way stops
-  answer_refuses : (q : Question) → Late (end_refusals q) → Stops P (way f (about q)) → ((o : ℕ) → Through (about q) o) → OfRefusal P (answer_to f q)
+  answer_refuses : (q : Question) → Late (end_refusals q) → IfErr (way f (about q)) P → ((o : ℕ) → Through (about q) o) → OfRefusal P (answer_to f q)
   answer_refuses q late stops through = subst (OfRefusal P) (sym (answer_within_lem f q)) (go (way f (about q)) stops)
     where
-      go : (w : Way) → Stops P w → OfRefusal P (answer_on f q w)
-      go (Found o left) s = found_late q late o left (through o)
-      go (Stopped m) s = subst (OfRefusal P) (sym (answer_stopped f q m)) s
+      go : (w : Way) → IfErr w P → OfRefusal P (answer_on f q w)
+      go (Ok m) s = found_late q late m.at m.left (through m.at)
+      go (Err m) s = subst (OfRefusal P) (sym (answer_stopped f q m)) s
 
 -- ---- EVERY REFUSAL is one of those that are named for the question
 module _ (f : List ℕ) (q : Question) where
@@ -199,30 +190,25 @@ module _ (f : List ℕ) where
   stopped_ends n q h = subst (EndsBy n) (sym (answer_within_lem f q)) (go (way f (about q)) h)
     where
       go : (w : Way) → StopsBy n w → EndsBy n (answer_on f q w)
-      go (Found o left) h = absurd h
-      go (Stopped m) h = (m, answer_stopped f q m, h)
+      go (Ok m) h = absurd h
+      go (Err m) h = (m, answer_stopped f q m, h)
 
   -- and, of a record, where the way through the index does
-  abbrev RefusesBy : ℕ → Values → Type 0
-  RefusesBy n (Record at) = ⊥
-  RefusesBy n (NoRecord m) = order_of m ≤ n
-
-  abbrev LacksBy : ℕ → Levels → Type 0
-  LacksBy n (LevelsAre m) = ⊥
-  LacksBy n (NoLevels m) = order_of m ≤ n
+  abbrev RefusesBy : ℕ → Result ℕ Refusal → Type 0
+  RefusesBy n s = IsErrAnd s (λ m. order_of m ≤ n)
 
   module _ (k n r : ℤ) (m : ℕ) (late : 1 ≤ m) where
     -- the answer of a way to the VDR, if what comes behind it ends so
     on_variable : (q : Question) → about q ≡ ARecord k n r
-        → ((v left : ℕ) → numbered_at (body_of f) (kind_among 3 8 k) n ≡ v → EndsBy m (answer_on f q (Found v left))) → EndsBy m (answer_to f q)
+        → ((v left : ℕ) → numbered_at (body_of f) (kind_among 3 8 k) n ≡ v → EndsBy m (answer_on f q (met_at v left))) → EndsBy m (answer_to f q)
     unfolding variable_way
     on_variable q is behind =
         subst (EndsBy m) (sym (answer_within_lem f q ∙ ap (λ (s : Subject). answer_on f q (way f s)) is))
         (go (way f (ARecord k n r)) (variable_stops (λ m. order_of m ≤ 1) (omega arith) (omega arith) f k n) (way_found f (ARecord k n r)))
       where
-        go : (w : Way) → Stops (λ m. order_of m ≤ 1) w → Finds (ToVariable k n (body_of f)) w → EndsBy m (answer_on f q w)
-        go (Found v left) s h = behind v left (numbered_is (body_of f) (kind_among 3 8 k) n v h.listed)
-        go (Stopped v) s h = (v, answer_stopped f q v, omega (arith, s, late))
+        go : (w : Way) → IfErr w (λ m. order_of m ≤ 1) → Finds (ToVariable k n (body_of f)) w → EndsBy m (answer_on f q w)
+        go (Ok v) s h = behind v.at v.left (numbered_is (body_of f) (kind_among 3 8 k) n v.at h.listed)
+        go (Err v) s h = (v, answer_stopped f q v, omega (arith, s, late))
 
     value_ends : (is : List ℤ) (x : ℤ)
         → ((v bytes left : ℕ) → numbered_at (body_of f) (kind_among 3 8 k) n ≡ v → RefusesBy m (record_way (body_of f) v bytes r left))
@@ -231,19 +217,19 @@ module _ (f : List ℕ) where
     value_ends is x h =
         on_variable (ask_value k n r is x) refl
         (λ v left e.
-        let u = variable_of (body_of f) (kind_among 3 8 k) v in
+        let u = shape_of (variable_of (body_of f) (kind_among 3 8 k) v) in
         go v u (record_way (body_of f) v u.bytes r left) (h v u.bytes left e))
       where
-        go : (v : ℕ) (u : Variable) (s : Values) → RefusesBy m s → EndsBy m (of_read (in_values (body_of f) v u is x s))
-        go v u (Record at) h = absurd h
-        go v u (NoRecord w) h = (w, refl, h)
+        go : (v : ℕ) (u : Shape) (s : Result ℕ Refusal) → RefusesBy m s → EndsBy m (of_read (in_values (body_of f) v u is x s))
+        go v u (Ok at) h = absurd h
+        go v u (Err w) h = (w, refl, h)
 
-    levels_end : ((v left : ℕ) → numbered_at (body_of f) (kind_among 3 8 k) n ≡ v → LacksBy m (levels_way (body_of f) v r left)) → EndsBy m (answer_to f (ask_levels k n r))
+    levels_end : ((v left : ℕ) → numbered_at (body_of f) (kind_among 3 8 k) n ≡ v → RefusesBy m (levels_way (body_of f) v r left)) → EndsBy m (answer_to f (ask_levels k n r))
     levels_end h = on_variable (ask_levels k n r) refl (λ v left e. go (levels_way (body_of f) v r left) (h v left e))
       where
-        go : (s : Levels) → LacksBy m s → EndsBy m (of_field (levels_field s))
-        go (LevelsAre w) h = absurd h
-        go (NoLevels w) h = (w, refl, h)
+        go : (s : Result ℕ Refusal) → RefusesBy m s → EndsBy m (of_field (levels_field s))
+        go (Ok w) h = absurd h
+        go (Err w) h = (w, refl, h)
 
   -- 16: the record number is not looked up
   module _ (v : ℕ) (r : ℤ) (e : record_there (body_of f) v r ≡ false) (left : ℕ) where
@@ -251,7 +237,7 @@ module _ (f : List ℕ) where
     unfolding record_way record_number
     record_out bytes = rw e (omega arith)
 
-    levels_out : LacksBy 2 (levels_way (body_of f) v r left)
+    levels_out : RefusesBy 2 (levels_way (body_of f) v r left)
     unfolding levels_way record_number
     levels_out = rw e (omega arith)
 
@@ -262,18 +248,18 @@ module _ (f : List ℕ) where
         go (record_way (body_of f) v bytes r left) (record_refuses (λ m. order_of m ≤ 3) (omega arith) (body_of f) (omega arith) v r (λ e. omega arith) bytes left)
         (record_found (body_of f) v r bytes left)
       where
-        go : (s : Values) → Refuses (λ m. order_of m ≤ 3) s → Leads (ToRecord (body_of f) v r bytes) s → RefusesBy 3 s
-        go (Record at) h t = covers_none (body_of f) v r t.entry t.way none
-        go (NoRecord m) h t = h
+        go : (s : Result ℕ Refusal) → IfErr s (λ m. order_of m ≤ 3) → IfOk s (ToRecord (body_of f) v r bytes) → RefusesBy 3 s
+        go (Ok at) h t = covers_none (body_of f) v r t.entry t.way none
+        go (Err m) h t = h
 
-    levels_gap : LacksBy 3 (levels_way (body_of f) v r left)
+    levels_gap : RefusesBy 3 (levels_way (body_of f) v r left)
     levels_gap =
         go (levels_way (body_of f) v r left) (levels_lack (λ m. order_of m ≤ 3) (omega arith) (body_of f) (omega arith) v r (λ e. omega arith) left)
         (levels_found (body_of f) v r left)
       where
-        go : (s : Levels) → Lacks (λ m. order_of m ≤ 3) s → Counts (ToLevels (body_of f) v r) s → LacksBy 3 s
-        go (LevelsAre n) h t = covers_none (body_of f) v r t.entry t.way none
-        go (NoLevels m) h t = h
+        go : (s : Result ℕ Refusal) → IfErr s (λ m. order_of m ≤ 3) → IfOk s (ToLevels (body_of f) v r) → RefusesBy 3 s
+        go (Ok n) h t = covers_none (body_of f) v r t.entry t.way none
+        go (Err m) h t = h
 
   number_kept : (q : Question) → NoSuchNumber (body_of f) (about q) → EndsBy 2 (answer_to f q)
   number_kept (ask_value k n r is x) h =

@@ -12,17 +12,15 @@ use borrow.Author.Tests.{ltb-true, ltb-false}
 use Rattle.format.specs.Fields.{nat_or}
 use Rattle.records.specs.Layout.{next_at}
 use Rattle.records.specs.Opening.{gdr_at, body_of}
-use Rattle.records.specs.declared.index.Entry.{Entry}
+use Rattle.records.specs.declared.index.Range.{Range}
 use Rattle.lookup.specs.Refusals.{order_of}
-use Rattle.lookup.specs.Lists.{opened, allowance, meets, wanted_at, head_of_list, file_way, of_kinds, kind_among, variable_way, attribute_way, head_of_entries, entries_of, entry_way}
+use Rattle.lookup.specs.Lists.{met_at, Way, opened, allowance, meets, wanted_at, head_of_list, file_way, of_kinds, kind_among, variable_way, attribute_way, head_of_entries, entries_of, entry_way}
 use Rattle.lookup.specs.declared.refusals.Refusal.{Refusal}
 use Rattle.lookup.specs.declared.refusals.Refusal.TheVariants.{Breach, NoSuch, NoNumber}
 use Rattle.lookup.specs.declared.lists.Wanted.{Wanted}
-use Rattle.lookup.specs.declared.lists.Way.{Way}
-use Rattle.lookup.specs.declared.lists.Way.TheVariants.{Found, Stopped}
 use Rattle.lookup.proofs.Kept.{meets_parts}
 use Rattle.lookup.proofs.Sought.{nth, First, Finds, InOpened, Listed, place_listed, ToVariable, variable_found, attribute_found, ToEntry, entry_found}
-use Rattle.lookup.proofs.Stops.{Stops, file_stops, variable_stops, attribute_stops, entry_stops}
+use Rattle.lookup.proofs.Stops.{file_stops, variable_stops, attribute_stops, entry_stops}
 use Rattle.lookup.proofs.Chains.{ToLowest}
 use Rattle.demands.specs.Acceptance.{◌∈◌, Each, Linked}
 use Rattle.read_theorems.specs.Refusing.{Subject, TheFile, AVariable, AnAttribute, AnEntry, ARecord, way_refusals, NoneListed, NoVariable, numbered_at, NoneWanted, NoneCovers, NoSubject}
@@ -30,6 +28,7 @@ use Rattle.read_theorems.specs.Limit.{way_within}
 use Rattle.read_theorems.proofs.AnsweringIndexes.{reached_in}
 use Rattle.lookup.specs.Indexes.{record_read}
 use Rattle.read_theorems.proofs.Down.{nth_same, reached}
+use Rattle.std.specs.Prelude.{Ok, Err, IfErr}
 
 -- ---- a list by its links, and its records one by one
 module _ (f : List ℕ) where
@@ -70,7 +69,7 @@ module _ (f : List ℕ) where
       go false e = over_met t p xs l (r.met (length xs) (omega (arith, ltb-false r.place (length xs) e)))
 
   -- ---- an index: what was found in it is one of its lowest entries
-  pub covers_none : (v : ℕ) (r : ℤ) (d : Entry) → ToLowest f v r d → NoneCovers f v r → ⊥
+  pub covers_none : (v : ℕ) (r : ℤ) (d : Range) → ToLowest f v r d → NoneCovers f v r → ⊥
   covers_none v r d t (there, xs, linked, none) =
       let w = reached f v r d t in
       none w.slot (reached_in f v xs linked (record_read f v r) d t.down.depth w) w.covered
@@ -84,8 +83,8 @@ FoundAt f (AnEntry a k w) o = ToEntry a k w f o
 FoundAt f (ARecord k n r) o = ToVariable k n f o
 
 in_body : (f : List ℕ) (Fact : List ℕ → ℕ → Type 0) (w : Way) → Finds (InOpened f Fact) w → Finds (Fact (body_of f)) w
-in_body f Fact (Found o left) h = h.1
-in_body f Fact (Stopped m) h = tt
+in_body f Fact (Ok o) h = h.1
+in_body f Fact (Err m) h = tt
 
 abbrev pub way : List ℕ → Subject → Way
 way f s = way_within (allowance f) f s
@@ -94,7 +93,7 @@ pub way_found : (f : List ℕ) (s : Subject) → Finds (FoundAt (body_of f) s) (
 unfolding variable_way attribute_way entry_way
 way_found f TheFile = go (opened f)
   where
-    go : (b : Bool) → Finds (λ o. Unit {0}) (cond b (Found (gdr_at (body_of f)) (allowance f)) (Stopped Breach))
+    go : (b : Bool) → Finds (λ o. Unit {0}) (cond b (met_at (gdr_at (body_of f)) (allowance f)) (Err Breach))
     go true = tt
     go false = tt
 way_found f (AVariable k n) = in_body f (ToVariable k n) (way f (AVariable k n)) (variable_found f k n)
@@ -102,11 +101,11 @@ way_found f (AnAttribute n) = in_body f (λ l. Listed l 4 n) (way f (AnAttribute
 way_found f (AnEntry a k w) = in_body f (ToEntry a k w) (way f (AnEntry a k w)) (entry_found f a k w)
 way_found f (ARecord k n r) = in_body f (ToVariable k n) (way f (ARecord k n r)) (variable_found f k n)
 
-pub way_stops : (P : Refusal → Type 0) (f : List ℕ) (s : Subject) → ((v : Refusal) → v ∈ way_refusals s → P v) → Stops P (way f s)
+pub way_stops : (P : Refusal → Type 0) (f : List ℕ) (s : Subject) → ((v : Refusal) → v ∈ way_refusals s → P v) → IfErr (way f s) P
 unfolding variable_way attribute_way entry_way
 way_stops P f TheFile h = go (opened f)
   where
-    go : (b : Bool) → Stops P (cond b (Found (gdr_at (body_of f)) (allowance f)) (Stopped Breach))
+    go : (b : Bool) → IfErr (cond b (met_at (gdr_at (body_of f)) (allowance f)) (Err Breach)) P
     go true = tt
     go false = h Breach (inl refl)
 way_stops P f (AVariable k n) h = variable_stops P (h Breach (inl refl)) (h NoSuch (inr (inl refl))) f k n
@@ -116,12 +115,12 @@ way_stops P f (ARecord k n r) h = variable_stops P (h Breach (inl refl)) (h NoSu
 
 -- ---- WHERE A CASE HOLDS the way stops, with its refusal or one that comes before it
 abbrev pub StopsBy : ℕ → Way → Type 0
-StopsBy n (Found o left) = ⊥
-StopsBy n (Stopped m) = order_of m ≤ n
+StopsBy n (Ok o) = ⊥
+StopsBy n (Err m) = order_of m ≤ n
 
-stops_by : (n : ℕ) (Fact : ℕ → Type 0) (w : Way) → Stops (λ m. order_of m ≤ n) w → Finds Fact w → ((o : ℕ) → Fact o → ⊥) → StopsBy n w
-stops_by n Fact (Found o left) s h none = none o h
-stops_by n Fact (Stopped m) s h none = s
+stops_by : (n : ℕ) (Fact : ℕ → Type 0) (w : Way) → IfErr w (λ m. order_of m ≤ n) → Finds Fact w → ((o : ℕ) → Fact o → ⊥) → StopsBy n w
+stops_by n Fact (Ok o) s h none = none o.at h
+stops_by n Fact (Err m) s h none = s
 
 pub numbered_is : (f : List ℕ) (t : ℕ) (n : ℤ) (o : ℕ) → Listed f t n o → numbered_at f t n ≡ o
 numbered_is f t n o l = sym (nth_same f (head_of_list f t) (nat_or 0 n)) ∙ l.is
@@ -147,14 +146,14 @@ module _ (f : List ℕ) where
       (way_found f (AnAttribute n)) (λ o r. listed_there (body_of f) 4 n o r h)
   no_subject (AnEntry a k w) h = go (opened f) (of_kinds 5 9 k) refl (file_way f 4 a) (file_stops (λ m. order_of m ≤ 1) (omega arith) (omega arith) f 4 refl a) (place_listed (body_of f) 4 a (allowance f)) h
     where
-      go : (b c : Bool) → of_kinds 5 9 k ≡ c → (s : Way) → Stops (λ m. order_of m ≤ 1) s → Finds (Listed (body_of f) 4 a) s
+      go : (b c : Bool) → of_kinds 5 9 k ≡ c → (s : Way) → IfErr s (λ m. order_of m ≤ 1) → Finds (Listed (body_of f) 4 a) s
           → (of_kinds 5 9 k ≡ false) ⊎ NoneListed (body_of f) 4 a
-          → StopsBy 1 (cond b (cond c (entries_of (body_of f) (kind_among 5 9 k) w s) (Stopped NoSuch)) (Stopped Breach))
+          → StopsBy 1 (cond b (cond c (entries_of (body_of f) (kind_among 5 9 k) w s) (Err NoSuch)) (Err Breach))
       go false c e s p l h = omega arith
       go true false e s p l h = omega arith
-      go true true e (Stopped m) p l h = p
-      go true true e (Found o left) p l (inl q) = absurd (true≢false (sym e ∙ q))
-      go true true e (Found o left) p l (inr q) = absurd (listed_there (body_of f) 4 a o l q)
+      go true true e (Err m) p l h = p
+      go true true e (Ok o) p l (inl q) = absurd (true≢false (sym e ∙ q))
+      go true true e (Ok o) p l (inr q) = absurd (listed_there (body_of f) 4 a o.at l q)
   no_subject (ARecord k n r) h = no_variable k n h
 
   -- 16 of an entry

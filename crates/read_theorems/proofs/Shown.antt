@@ -1,51 +1,41 @@
 -- WHAT THE READER ANSWERS of every file, accepted or not. Assumes nothing.
 use mathlib.Core.Path.{◌≡◌, refl, sym, ap, ◌∙◌, subst}
-use mathlib.Core.Logic.{◌≢◌, ◌⊎◌, inl, inr}
+use mathlib.Core.Logic.{◌≢◌}
 use mathlib.Core.Bool.{Bool, true, false, cond, ◌&&◌}
 use mathlib.Core.List.{List}
 use Prim.Native.Nat.{ℕ, zero, suc, ◌+◌, ◌-◌, ◌*◌, ◌≤◌, ◌<◌}
-use native.Mathlib.Nat.{add-zero, zero-add, mul-le-mul_right, suc-mul, mul_comm}
+use native.Mathlib.Nat.{zero-add, mul-le-mul_right, suc-mul, mul_comm}
 use native.Mathlib.Omega.{arith}
 use lib.Dec.{eqb}
 use lib.IntN.{ℤ, pos}
-use lib.ListN.{length, get_or}
-use borrow.Author.Tests.{eqb-true, eqb-false, ne_eqb, le-leb, lt-leb}
+use lib.ListN.{length}
+use borrow.Author.Tests.{eqb-true, ne_eqb, le-leb, lt-leb}
+use Rattle.std.specs.Prelude.{Some, None, Result, Ok, Err, IfOk, IfErr, MatchResult}
 use Rattle.format.specs.Fields.{end_of, field_at, eq_z, nat_at, nat_or, bit_at}
-use Rattle.format.specs.Encodings.{encoding_of}
+use Rattle.format.specs.Encodings.{encoding_of, order_in}
 use Rattle.records.specs.Layout.{attr_name_at, data_type_at, elements_at, var_flags_at, var_name_at, entry_elements_at, entry_type_at, entry_value_at, r_dim_sizes_at}
 use Rattle.records.specs.Rules.{size_at}
 use Rattle.records.specs.Opening.{gdr_at, r_num_dims, body_of}
 use Rattle.records.specs.Attributes.{element_size}
 use Rattle.records.specs.Index.{vvr_rule}
 use Rattle.records.specs.Tree.{Slot, first_of, last_of, named_by}
-use Rattle.records.specs.declared.index.Entry.{Entry}
+use Rattle.records.specs.declared.index.Range.{Range}
 use Rattle.variables.specs.Limit.{capped}
-use Rattle.variables.specs.Vdr.{layout_of, value_bytes, pad_bytes, record_bytes, values_per_record, vdr_fields, variable_of}
+use Rattle.variables.specs.Vdr.{Variable, layout_of, value_bytes, pad_bytes, record_bytes, values_per_record, vdr_fields, variable_of, shape_of}
 use Rattle.variables.specs.Place.{element_place, index_right, indices_right, row_fits, placed, place_of}
 use Rattle.variables.specs.declared.vdr.Layout.{Layout}
-use Rattle.variables.specs.declared.vdr.Variable.{Variable}
-use Rattle.variables.specs.declared.place.Place.TheVariants.{At, Wrong}
 use Rattle.values.specs.declared.value.Answer.{Answer}
-use Rattle.values.specs.declared.value.Decoded.TheVariants.{Given}
-use Rattle.lookup.specs.Lists.{opened, lands_on, meets, wanted_at, kind_among, head_of_list, head_of_entries, variable_way, attribute_way, entry_way}
+use Rattle.lookup.specs.Lists.{Way, opened, lands_on, meets, wanted_at, kind_among, head_of_list, head_of_entries, variable_way, attribute_way, entry_way}
 use Rattle.lookup.specs.Indexes.{record_at, record_there, record_read, record_way, levels_way}
 use Rattle.lookup.specs.declared.refusals.Refusal.{Refusal}
 use Rattle.lookup.specs.declared.refusals.Refusal.TheVariants.{Breach, NoSuch, NoNumber, Gap, OutOfRange, Operand}
 use Rattle.lookup.specs.declared.lists.Wanted.{Wanted}
-use Rattle.lookup.specs.declared.lists.Way.{Way}
-use Rattle.lookup.specs.declared.lists.Way.TheVariants.{Found, Stopped}
-use Rattle.lookup.specs.declared.indexes.Values.{Values}
-use Rattle.lookup.specs.declared.indexes.Values.TheVariants.{Record, Refused as NoRecord}
-use Rattle.lookup.specs.declared.indexes.Levels.{Levels}
-use Rattle.lookup.specs.declared.indexes.Levels.TheVariants.{Are, Unknown}
+use Rattle.lookup.specs.declared.lists.Met.{Met}
 use Rattle.answers.specs.Offsets.{row_majority, element_at, pad_at}
 use Rattle.answers.specs.Answers.{file_encoding, element_there, element_of, element_read, at_place, in_record, in_values, in_variable, value_on, value_read, entry_on, entry_value, pad_in, pad_on, pad_read}
-use Rattle.answers.specs.declared.Read.{Read}
-use Rattle.answers.specs.declared.Read.TheVariants.{Value as ValueIs, Refused as NoValue}
 use Rattle.descriptors.specs.Descriptors.{is_shown, field_on, variable_field, attribute_field, entry_field, row_field, gdr_size, dimension_size, dimensions_on, variable_dimensions, size_on, variable_size, variance_on, variable_variance, levels_field, levels_on, variable_levels, name_on, until_nul, variable_name, attribute_name, file_field_in, padding, file_field}
-use Rattle.descriptors.specs.declared.Field.TheVariants.{Is, Refused as NoField}
 use Rattle.reader.specs.Questions.{Question, ask_value, ask_entry, ask_pad, ask_file, ask_dimension, ask_variable, ask_attribute, ask_entry_field, ask_size, ask_variance, ask_levels, ask_variable_name, ask_attribute_name, Reply, Value, Field, Name, Refused, of_read, of_field, of_name, answer_to}
-use Rattle.read_theorems.specs.Reading.{nth_record, Met, ElementShown, LiesIn, reserved, VariableFound, AttributeFound, EntryFound, RecordFound, indices_given, Asked, ValueSaid, ElementSaid, value_asked, entry_asked, pad_asked, UnlessStopped, part_told, row_told, NameSaid, FileSaid, Says, AnswersSay}
+use Rattle.read_theorems.specs.Reading.{nth_record, Met as MetAsNth, ElementShown, LiesIn, reserved, VariableFound, AttributeFound, EntryFound, RecordFound, indices_given, Asked, ValueSaid, ElementSaid, value_asked, entry_asked, pad_asked, UnlessStopped, part_told, row_told, NameSaid, FileSaid, Says, AnswersSay}
 use Rattle.variables.proofs.Capped.{capped_small}
 use Rattle.variables.proofs.Bound.{place_below}
 use Rattle.variables.proofs.Numbering.{placed_right, values_apart}
@@ -58,9 +48,10 @@ use Rattle.records.proofs.Bodies.{opening_body, body_length}
 use Rattle.lookup.proofs.Opening.{opened_parts}
 use Rattle.lookup.proofs.Kept.{Lies, lands_lies, meets_parts, variable_kept, entry_kept}
 use Rattle.lookup.proofs.Sought.{nth, Listed, first_met, listed_met, Finds, InOpened, ToVariable, variable_found, attribute_found, ToEntry, entry_found}
-use Rattle.lookup.proofs.Stops.{Stops, Refuses, Lacks, variable_stops, attribute_stops, entry_stops, record_refuses, levels_lack}
-use Rattle.lookup.proofs.Chains.{ToRecord, Leads, record_found, ToLevels, Counts, levels_found}
-use Rattle.answers.proofs.Telling.{Tells, element_below, element_tells}
+use Rattle.lookup.proofs.Stops.{variable_stops, attribute_stops, entry_stops, record_refuses, levels_lack}
+use Rattle.lookup.proofs.Chains.{ToRecord, record_found, ToLevels, levels_found}
+use Rattle.answers.proofs.Telling.{element_below, element_tells}
+use Rattle.descriptors.proofs.Names.{name_most, name_bytes, name_ends}
 use Rattle.read_theorems.proofs.Rules.{variable_type, entry_type, lies_lands, meets_kept}
 use Rattle.read_theorems.proofs.Down.{nth_same, Reached, reached}
 
@@ -77,11 +68,11 @@ said Said (Refused OutOfRange) h = h
 said Said (Refused Operand) h = h
 
 -- the encoding of a file that opens
-pub ordered : (f : List ℕ) → opened f ≡ true → 1 ≤ (encoding_of (file_encoding (body_of f))).order
+pub ordered : (f : List ℕ) → opened f ≡ true → 1 ≤ order_in (encoding_of (file_encoding (body_of f)))
 ordered f e = let b = body_of f in ((cdr_fields b).0 (opening_passes b (opening_body f (opened_parts f e).1)).cdr).encoding
 
 -- ---- what a lookup finds
-pub list_met : (f : List ℕ) (t p n o : ℕ) → t ≢ 6 → nth f p n ≡ o → ((h : ℕ) → h ≤ n → meets f t (nth f p h) ≡ true) → Met f t p n o
+pub list_met : (f : List ℕ) (t p n o : ℕ) → t ≢ 6 → nth f p n ≡ o → ((h : ℕ) → h ≤ n → meets f t (nth f p h) ≡ true) → MetAsNth f t p n o
 list_met f t p n o other e g =
     record { place = sym (nth_same f p n) ∙ e; rules = λ h l. meets_kept f t (nth_record f p h) other (ap (meets f t) (sym (nth_same f p h)) ∙ g h l) }
 
@@ -110,7 +101,7 @@ module _ (f : List ℕ) where
   -- ---- the values of a record
   -- the record of number r of the VDR at v, of a given size, begins at an offset
   pub record Located (v bytes r at : ℕ) : Type 0 where
-    pub entry : Entry
+    pub entry : Range
     pub depth : ℕ
     pub reached : Reached f v r entry depth
     pub lies : Lies f 7 (named_by f reached.slot)
@@ -121,8 +112,8 @@ module _ (f : List ℕ) where
   locate v bytes r at t =
       let w = reached f v r t.entry t.way in
       let s = w.slot in
-      let lands = subst (λ (e : Entry). lands_on f 7 e.link ≡ true) w.is t.lands in
-      let rule = subst (λ (e : Entry). vvr_rule f e.link (e.last - e.first + 1) bytes ≡ 0) w.is t.rule in
+      let lands = subst (λ (e : Range). lands_on f 7 e.link ≡ true) w.is t.lands in
+      let rule = subst (λ (e : Range). vvr_rule f e.link (e.last - e.first + 1) bytes ≡ 0) w.is t.rule in
       let size = ((vvr_law f (named_by f s) (last_of f s - first_of f s + 1) bytes).0 rule).right in
       record {
         entry = t.entry;
@@ -130,7 +121,7 @@ module _ (f : List ℕ) where
         reached = w;
         lies = lands_lies f 7 (named_by f s) lands;
         size = eqb-true (size_at f (named_by f s)) (8 + (last_of f s - first_of f s + 1) * bytes) size;
-        is = sym (subst (λ (e : Entry). record_at e (record_read f v r) bytes ≡ at) w.is t.is);
+        is = sym (subst (λ (e : Range). record_at e (record_read f v r) bytes ≡ at) w.is t.is);
       }
 
 -- ---- AN ELEMENT: what is said of it
@@ -138,7 +129,7 @@ module _ (f : List ℕ) where
 vdr_sized : (f : List ℕ) (o : ℕ) → vdr_fields f o ≡ true → 1 ≤ element_size f (data_type_at o)
 vdr_sized f o e = ((vdr_fields_lem f o).0 e).typed
 
-element_shown : (f : List ℕ) (at t : ℕ) (a : Answer) → element_of f at t ≡ Given a → ElementShown f at t a
+element_shown : (f : List ℕ) (at t : ℕ) (a : Answer) → element_of f at t ≡ Ok a → ElementShown f at t a
 unfolding element_size
 element_shown f at t a e =
     let d = subst (Decodes f at (nat_at f t) (file_encoding f)) e (decodes f at (nat_at f t) (file_encoding f)) in
@@ -146,13 +137,13 @@ element_shown f at t a e =
 
 -- element x of those that the field at c counts, of the values at an offset, in the record of the question
 module _ (f : List ℕ) (at c : ℕ) (x : ℤ) (q : Asked) (right : element_there f c x ≡ q.right) (is : element_at f at q.type x ≡ q.at)
-    (sized : 1 ≤ element_size f q.type) (ordered : 1 ≤ (encoding_of (file_encoding f)).order)
+    (sized : 1 ≤ element_size f q.type) (ordered : 1 ≤ order_in (encoding_of (file_encoding f)))
     (inside : element_there f c x ≡ true → LiesIn f q.holder q.behind q.at (element_size f q.type))
     (ends : q.holder + size_at f q.holder ≤ end_of f)
   where
-    read_said : (s : Read) → Tells (ValueSaid f q) (λ v. ElementSaid f q (Refused v)) s → ElementSaid f q (of_read s)
-    read_said (ValueIs a) h = h
-    read_said (NoValue v) h = h
+    read_said : (s : Result Answer Refusal) → MatchResult s (ValueSaid f q) (λ v. ElementSaid f q (Refused v)) → ElementSaid f q (of_read s)
+    read_said (Ok a) h = h
+    read_said (Err v) h = h
 
     element_said : ElementSaid f q (of_read (element_read f at q.type c x))
     element_said =
@@ -162,7 +153,7 @@ module _ (f : List ℕ) (at c : ℕ) (x : ℤ) (q : Asked) (right : element_ther
         (λ h g. (sym right ∙ h, subst (λ (o : ℕ). reserved f o q.type ≡ true) is g))
         sized ordered
         (λ h. let i = inside h in omega (arith, is, i.ends, ends))
-        (λ a h d. record { right = sym right ∙ h; inside = inside h; shown = element_shown f q.at q.type a (subst (λ (o : ℕ). element_of f o q.type ≡ Given a) is d) }))
+        (λ a h d. record { right = sym right ∙ h; inside = inside h; shown = element_shown f q.at q.type a (subst (λ (o : ℕ). element_of f o q.type ≡ Ok a) is d) }))
 
 -- ---- A VALUE, in the bytes f, whose encoding has an order
 pub bytes_are : (f : List ℕ) (t v : ℕ) → (variable_of f t v).fault ≡ 0 → (variable_of f t v).bytes ≡ record_bytes f v (layout_of f t v)
@@ -176,7 +167,7 @@ record_is : (f : List ℕ) (o : ℕ) (l : Layout) → record_bytes f o l ≡ val
 unfolding record_bytes
 record_is f o l = refl
 
-module _ (f : List ℕ) (k n r : ℤ) (is : List ℤ) (x : ℤ) (order : 1 ≤ (encoding_of (file_encoding f)).order) (v : ℕ) (found : ToVariable k n f v) where
+module _ (f : List ℕ) (k n r : ℤ) (is : List ℤ) (x : ℤ) (order : 1 ≤ order_in (encoding_of (file_encoding f))) (v : ℕ) (found : ToVariable k n f v) where
   abbrev t : ℕ
   t = kind_among 3 8 k
 
@@ -232,34 +223,34 @@ module _ (f : List ℕ) (k n r : ℤ) (is : List ℤ) (x : ℤ) (order : 1 ≤ (
         let e = (values_apart f v l (row_majority f)).inside is (nat_or 0 x) p (element_below f (elements_at v) x h) in
         record { begins = omega arith; ends = omega (arith, a, e, loc.size, suc-mul (n - first_of f slot) (record_bytes f v l)) }
 
-    pub in_record_lem : ElementSaid f asked (of_read (in_record f v (variable_of f t v) at is x))
+    pub in_record_lem : ElementSaid f asked (of_read (in_record f v (shape_of (variable_of f t v)) at is x))
     unfolding in_record place_of
     in_record_lem = rw (vdr_makes f t v (vdr_reads f t v fault)) (go (placed f l is) refl)
       where
         go : (b : Bool) → placed f l is ≡ b
-            → ElementSaid f asked (of_read (at_place f v (capped (value_bytes f v)) at x (cond b (At (capped (element_place f l (row_majority f) is))) Wrong)))
+            → ElementSaid f asked (of_read (at_place f v (capped (value_bytes f v)) at x (cond b (Some (capped (element_place f l (row_majority f) is))) None)))
         go true e =
             rw (place_is f t v fault (row_majority f) is (placed_right f l is e), capped_small (value_bytes f v) (small e))
             (element_said f (at + element_place f l (row_majority f) is * value_bytes f v) (elements_at v) x asked (rw (given_placed, e)) (omega (arith, loc.is))
             (vdr_sized f v (vdr_reads f t v fault).fields) order (inside e) loc.lies.inside)
         go false e = rw (given_placed, e)
 
-  abbrev way_to : ℕ → Values
+  abbrev way_to : ℕ → Result ℕ Refusal
   way_to left = record_way f v (variable_of f t v).bytes r left
 
-  in_variable_lem : (bytes left : ℕ) → UnlessStopped (Says bytes f (ask_value k n r is x)) (of_read (in_variable f v left (variable_of f t v) r is x))
+  in_variable_lem : (bytes left : ℕ) → UnlessStopped (Says bytes f (ask_value k n r is x)) (of_read (in_variable f v left (shape_of (variable_of f t v)) r is x))
   unfolding in_variable
   in_variable_lem bytes left = go (way_to left) (record_found f v r (variable_of f t v).bytes left) (record_refuses (λ m. UnlessStopped Say (Refused m)) tt f tt v r (λ e. tt) (variable_of f t v).bytes left)
     where
       Say : Reply → Type 0
       Say = Says bytes f (ask_value k n r is x)
 
-      go : (s : Values) → Leads (ToRecord f v r (variable_of f t v).bytes) s → Refuses (λ m. UnlessStopped Say (Refused m)) s
-          → UnlessStopped Say (of_read (in_values f v (variable_of f t v) is x s))
-      go (Record at) w h =
+      go : (s : Result ℕ Refusal) → IfOk s (ToRecord f v r (variable_of f t v).bytes) → IfErr s (λ m. UnlessStopped Say (Refused m))
+          → UnlessStopped Say (of_read (in_values f v (shape_of (variable_of f t v)) is x s))
+      go (Ok at) w h =
           let loc = subst (λ (b : ℕ). Located f v b (record_read f v r) at) (bytes_are f t v fault) (locate f v (variable_of f t v).bytes r at w) in
-          said Say (of_read (in_record f v (variable_of f t v) at is x)) (v, loc.reached.slot, record_found_at at w.way.there loc, in_record_lem at w.way.there loc)
-      go (NoRecord m) w h = h
+          said Say (of_read (in_record f v (shape_of (variable_of f t v)) at is x)) (v, loc.reached.slot, record_found_at at w.way.there loc, in_record_lem at w.way.there loc)
+      go (Err m) w h = h
 
 -- ---- AN ENTRY'S VALUE
 entry_meets : (f : List ℕ) (b k : ℤ) (w : Wanted) (e : ℕ) → ToEntry b k w f e → meets f (kind_among 5 9 k) e ≡ true
@@ -282,7 +273,7 @@ module _ (f : List ℕ) (k : ℤ) (e : ℕ) (m : meets f (kind_among 5 9 k) e �
       omega (arith, a, parts.size, suc-mul (nat_or 0 x) (element_size f (entry_type_at e)))
 
 module _ (f : List ℕ) (b k : ℤ) (w : Wanted) (x : ℤ) where
-  pub in_entry : 1 ≤ (encoding_of (file_encoding f)).order → (e : ℕ) → ToEntry b k w f e
+  pub in_entry : 1 ≤ order_in (encoding_of (file_encoding f)) → (e : ℕ) → ToEntry b k w f e
       → ElementSaid f (entry_asked f e x) (of_read (element_read f (entry_value_at e) (entry_type_at e) (entry_elements_at e) x))
   in_entry order e t =
       let m = entry_meets f b k w e t in
@@ -302,7 +293,7 @@ pad_behind f k o = go (eqb k 8) refl
     go true e = omega (arith, (z_layout f k o e).2)
     go false e = omega (arith, (r_layout f k o e).2)
 
-module _ (f : List ℕ) (k n x : ℤ) (order : 1 ≤ (encoding_of (file_encoding f)).order) (v : ℕ) (found : ToVariable k n f v) where
+module _ (f : List ℕ) (k n x : ℤ) (order : 1 ≤ order_in (encoding_of (file_encoding f))) (v : ℕ) (found : ToVariable k n f v) where
   abbrev kind : ℕ
   kind = kind_among 3 8 k
 
@@ -326,12 +317,12 @@ module _ (f : List ℕ) (k n x : ℤ) (order : 1 ≤ (encoding_of (file_encoding
       let a : suc (nat_or 0 x) * size ≤ nat_at f (elements_at v) * size = mul-le-mul_right size (element_below f (elements_at v) x h) in
       record { begins = omega (arith, ends e, pad_behind f kind v); ends = omega (arith, ends e, a, suc-mul (nat_or 0 x) size) }
 
-  pub in_pad : ElementSaid f (pad_asked f v x) (of_read (pad_in f v (variable_of f kind v) x))
+  pub in_pad : ElementSaid f (pad_asked f v x) (of_read (pad_in f v (shape_of (variable_of f kind v)) x))
   unfolding pad_in
   in_pad = rw (vdr_makes f kind v (vdr_reads f kind v rule)) (go (bit_at f (var_flags_at v) 2) refl)
     where
       go : (c : Bool) → bit_at f (var_flags_at v) 2 ≡ c
-          → ElementSaid f (pad_asked f v x) (of_read (cond c (element_read f begins (data_type_at v) (elements_at v) x) (NoValue OutOfRange)))
+          → ElementSaid f (pad_asked f v x) (of_read (cond c (element_read f begins (data_type_at v) (elements_at v) x) (Err OutOfRange)))
       go true e =
           element_said f begins (elements_at v) x (pad_asked f v x) (rw e) (omega (arith, ends e))
           (vdr_sized f v (vdr_reads f kind v rule).fields) order (pad_inside e) lies.inside
@@ -342,16 +333,16 @@ module _ (f : List ℕ) (k n r : ℤ) (bytes : ℕ) where
   abbrev SayLevels : Reply → Type 0
   SayLevels = Says bytes f (ask_levels k n r)
 
-  levels_said : (v : ℕ) → ToVariable k n f v → (s : Levels) → Counts (ToLevels f v r) s → Lacks (λ m. UnlessStopped SayLevels (Refused m)) s
+  levels_said : (v : ℕ) → ToVariable k n f v → (s : Result ℕ Refusal) → IfOk s (ToLevels f v r) → IfErr s (λ m. UnlessStopped SayLevels (Refused m))
       → UnlessStopped SayLevels (of_field (levels_field s))
-  levels_said v found (Are m) c h =
+  levels_said v found (Ok m) c h =
       let w = reached f v r c.entry c.way in
       let many : m ≡ suc (length w.way.below) = omega (arith, c.is, w.deep) in
       (v, record { variable = found_variable f k n v found; there = c.way.there; way = w.way }, ap (λ (m : ℕ). Field (pos m)) many)
-  levels_said v found (Unknown m) c h = h
+  levels_said v found (Err m) c h = h
 
 -- ---- FIELDS: each is there or 18
-pub part : (b : Bool) (x : ℤ) → of_field (cond b (Is x) (NoField OutOfRange)) ≡ part_told b x
+pub part : (b : Bool) (x : ℤ) → of_field (cond b (Ok x) (Err OutOfRange)) ≡ part_told b x
 part true x = refl
 part false x = refl
 
@@ -360,36 +351,16 @@ unfolding row_field
 row_part f p n d = part (index_right d n) (field_at f (p + 4 * nat_or 0 d))
 
 pub size_part : (f : List ℕ) (b : Bool) (p n : ℕ) (d : ℤ)
-    → of_field (cond b (row_field f p n d) (NoField OutOfRange)) ≡ part_told (b && index_right d n) (field_at f (p + 4 * nat_or 0 d))
+    → of_field (cond b (row_field f p n d) (Err OutOfRange)) ≡ part_told (b && index_right d n) (field_at f (p + 4 * nat_or 0 d))
 size_part f true p n d = row_part f p n d
 size_part f false p n d = refl
 
--- names: n bytes of at most m before the first 0
-abbrev Ends : List ℕ → ℕ → ℕ → ℕ → Type 0
-Ends f m p n = (n ≤ m) × ((i : ℕ) → i < n → get_or f (p + i) 0 ≢ 0) × ((n ≡ m) ⊎ (get_or f (p + n) 0 ≡ 0))
-
-name_more : (f : List ℕ) (m p n : ℕ) (b : Bool) → eqb (get_or f p 0) 0 ≡ b → Ends f m (suc p) n → Ends f (suc m) p (cond b 0 (suc n))
-name_more f m p n true e a = (omega arith, λ i h. absurd (omega arith), inr (subst (λ (q : ℕ). get_or f q 0 ≡ 0) (sym (add-zero p)) (eqb-true (get_or f p 0) 0 e)))
-name_more f m p n false e (few, behind, end) = (omega arith, bytes, ends end)
-  where
-    bytes : (i : ℕ) → i < suc n → get_or f (p + i) 0 ≢ 0
-    bytes zero h = subst (λ (q : ℕ). get_or f q 0 ≢ 0) (sym (add-zero p)) (eqb-false (get_or f p 0) 0 e)
-    bytes (suc i) h = let q : suc p + i ≡ p + suc i = omega arith in subst (λ (q : ℕ). get_or f q 0 ≢ 0) q (behind i (omega arith))
-
-    ends : (n ≡ m) ⊎ (get_or f (suc p + n) 0 ≡ 0) → (suc n ≡ suc m) ⊎ (get_or f (p + suc n) 0 ≡ 0)
-    ends (inl q) = inl (omega arith)
-    ends (inr q) = let w : suc p + n ≡ p + suc n = omega arith in inr (subst (λ (q : ℕ). get_or f q 0 ≡ 0) w q)
-
-name_ends : (f : List ℕ) (m p : ℕ) → Ends f m p (until_nul f p m)
-unfolding until_nul
-name_ends f zero p = (omega arith, λ i h. absurd (omega arith), inl refl)
-name_ends f (suc m) p = name_more f m p (until_nul f (suc p) m) (eqb (get_or f p 0) 0) refl (name_ends f m (suc p))
-
+-- names
 name_said : (f : List ℕ) (at : ℕ) → NameSaid f at (Name at (until_nul f at 64))
-name_said f at = let a = name_ends f 64 at in (until_nul f at 64, refl, record { most = a.0; bytes = a.1; ends = a.2 })
+name_said f at = (until_nul f at 64, refl, record { most = name_most f at 64; bytes = name_bytes f at 64; ends = name_ends f at 64 })
 
 -- what the file says of itself
-file_none : (n : ℕ) (f : List ℕ) (w : ℕ) (x : ℤ) → 6 < w → FileSaid n f w (of_field (cond (eqb w 6) (Is x) (file_field_in f w)))
+file_none : (n : ℕ) (f : List ℕ) (w : ℕ) (x : ℤ) → 6 < w → FileSaid n f w (of_field (cond (eqb w 6) (Ok x) (file_field_in f w)))
 file_none n f w x h =
     rw (
       ne_eqb w 0 (λ e. omega arith),
@@ -402,7 +373,7 @@ file_none n f w x h =
       lt-leb w 5 (omega arith),
     )
 
-pub file_part : (n : ℕ) (f : List ℕ) (what : ℕ) (x : ℤ) → x ≡ pos (n - length f) → FileSaid n f what (of_field (cond (eqb what 6) (Is x) (file_field_in f what)))
+pub file_part : (n : ℕ) (f : List ℕ) (what : ℕ) (x : ℤ) → x ≡ pos (n - length f) → FileSaid n f what (of_field (cond (eqb what 6) (Ok x) (file_field_in f what)))
 file_part n f zero x e = refl
 file_part n f (suc zero) x e = refl
 file_part n f (suc (suc zero)) x e = refl
@@ -424,29 +395,29 @@ module _ (f : List ℕ) where
   Goes q = UnlessStopped (Say q)
 
   -- of the VDR, the ADR and the AEDR that a way finds
-  of_variable : (q : Question) (k n : ℤ) (of : Way → Reply) → ((m : Refusal) → of (Stopped m) ≡ Refused m)
-      → ((v left : ℕ) → opened f ≡ true → ToVariable k n body v → Goes q (of (Found v left))) → Goes q (of (variable_way f k n))
+  of_variable : (q : Question) (k n : ℤ) (of : Way → Reply) → ((m : Refusal) → of (Err m) ≡ Refused m)
+      → ((m : Met) → opened f ≡ true → ToVariable k n body m.at → Goes q (of (Ok m))) → Goes q (of (variable_way f k n))
   of_variable q k n of stops h = go (variable_way f k n) (variable_found f k n) (variable_stops (λ m. Goes q (Refused m)) tt tt f k n)
     where
-      go : (w : Way) → Finds (InOpened f (ToVariable k n)) w → Stops (λ m. Goes q (Refused m)) w → Goes q (of w)
-      go (Found v left) t s = h v left t.0 t.1
-      go (Stopped m) t s = rw (stops m) s
+      go : (w : Way) → Finds (InOpened f (ToVariable k n)) w → IfErr w (λ m. Goes q (Refused m)) → Goes q (of w)
+      go (Ok m) t s = h m t.0 t.1
+      go (Err m) t s = rw (stops m) s
 
-  of_attribute : (q : Question) (n : ℤ) (of : Way → Reply) → ((m : Refusal) → of (Stopped m) ≡ Refused m)
-      → ((a left : ℕ) → Listed body 4 n a → Goes q (of (Found a left))) → Goes q (of (attribute_way f n))
+  of_attribute : (q : Question) (n : ℤ) (of : Way → Reply) → ((m : Refusal) → of (Err m) ≡ Refused m)
+      → ((m : Met) → Listed body 4 n m.at → Goes q (of (Ok m))) → Goes q (of (attribute_way f n))
   of_attribute q n of stops h = go (attribute_way f n) (attribute_found f n) (attribute_stops (λ m. Goes q (Refused m)) tt tt f n)
     where
-      go : (w : Way) → Finds (InOpened f (λ l. Listed l 4 n)) w → Stops (λ m. Goes q (Refused m)) w → Goes q (of w)
-      go (Found a left) t s = h a left t.1
-      go (Stopped m) t s = rw (stops m) s
+      go : (w : Way) → Finds (InOpened f (λ l. Listed l 4 n)) w → IfErr w (λ m. Goes q (Refused m)) → Goes q (of w)
+      go (Ok m) t s = h m t.1
+      go (Err m) t s = rw (stops m) s
 
-  of_entry : (q : Question) (b k : ℤ) (w : Wanted) (of : Way → Reply) → ((m : Refusal) → of (Stopped m) ≡ Refused m)
-      → ((e left : ℕ) → opened f ≡ true → ToEntry b k w body e → Goes q (of (Found e left))) → Goes q (of (entry_way f b k w))
+  of_entry : (q : Question) (b k : ℤ) (w : Wanted) (of : Way → Reply) → ((m : Refusal) → of (Err m) ≡ Refused m)
+      → ((m : Met) → opened f ≡ true → ToEntry b k w body m.at → Goes q (of (Ok m))) → Goes q (of (entry_way f b k w))
   of_entry q b k w of stops h = go (entry_way f b k w) (entry_found f b k w) (entry_stops (λ m. Goes q (Refused m)) tt tt f tt b k w)
     where
-      go : (s : Way) → Finds (InOpened f (ToEntry b k w)) s → Stops (λ m. Goes q (Refused m)) s → Goes q (of s)
-      go (Found e left) t s = h e left t.0 t.1
-      go (Stopped m) t s = rw (stops m) s
+      go : (s : Way) → Finds (InOpened f (ToEntry b k w)) s → IfErr s (λ m. Goes q (Refused m)) → Goes q (of s)
+      go (Ok m) t s = h m t.0 t.1
+      go (Err m) t s = rw (stops m) s
 
   layout_is : (k n : ℤ) (v : ℕ) → ToVariable k n body v → (variable_of body (kind_among 3 8 k) v).dimensions ≡ layout_of body (kind_among 3 8 k) v
   layout_is k n v t = ap (λ (u : Variable). u.dimensions) (vdr_makes body (kind_among 3 8 k) v (vdr_reads body (kind_among 3 8 k) v (found_fault body k n v t)))
@@ -456,7 +427,7 @@ module _ (f : List ℕ) where
   unfolding file_field
   of_file what = go (opened f)
     where
-      go : (b : Bool) → Goes (ask_file what) (of_field (cond b (cond (eqb what 6) (Is (padding f)) (file_field_in body what)) (NoField Breach)))
+      go : (b : Bool) → Goes (ask_file what) (of_field (cond b (cond (eqb what 6) (Ok (padding f)) (file_field_in body what)) (Err Breach)))
       go true =
           let e : padding f ≡ pos (length f - length body) = ap (λ (n : ℕ). pos (length f - n)) (sym (body_length f)) in
           said (Say (ask_file what)) _ (file_part (length f) body what (padding f) e)
@@ -466,7 +437,7 @@ module _ (f : List ℕ) where
   unfolding dimension_size
   of_dimension d = go (opened f)
     where
-      go : (b : Bool) → Goes (ask_dimension d) (of_field (cond b (gdr_size body d) (NoField Breach)))
+      go : (b : Bool) → Goes (ask_dimension d) (of_field (cond b (gdr_size body d) (Err Breach)))
       go true = said (Say (ask_dimension d)) _ (row_part body (r_dim_sizes_at (gdr_at body)) (r_num_dims body (gdr_at body)) d)
       go false = tt
 
@@ -474,47 +445,47 @@ module _ (f : List ℕ) where
   unfolding value_read entry_value pad_read variable_field attribute_field entry_field variable_dimensions variable_size variable_variance variable_levels variable_name attribute_name
   says (ask_value k n r is x) =
       of_variable (ask_value k n r is x) k n (λ w. of_read (value_on body (kind_among 3 8 k) r is x w)) (λ m. refl)
-      (λ v left o t. in_variable_lem body k n r is x (ordered f o) v t (length f) left)
+      (λ m o t. in_variable_lem body k n r is x (ordered f o) m.at t (length f) m.left)
   says (ask_entry b k w x) =
       of_entry (ask_entry b k w x) b k w (λ s. of_read (entry_on body x s)) (λ m. refl)
-      (λ e left o t. said (Say (ask_entry b k w x)) (of_read (element_read body (entry_value_at e) (entry_type_at e) (entry_elements_at e) x)) (e, found_entry body b k w e t, in_entry body b k w x (ordered f o) e t))
+      (λ m o t. said (Say (ask_entry b k w x)) (of_read (element_read body (entry_value_at m.at) (entry_type_at m.at) (entry_elements_at m.at) x)) (m.at, found_entry body b k w m.at t, in_entry body b k w x (ordered f o) m.at t))
   says (ask_pad k n x) =
       of_variable (ask_pad k n x) k n (λ w. of_read (pad_on body (kind_among 3 8 k) x w)) (λ m. refl)
-      (λ v left o t. said (Say (ask_pad k n x)) (of_read (pad_in body v (variable_of body (kind_among 3 8 k) v) x)) (v, found_variable body k n v t, in_pad body k n x (ordered f o) v t))
+      (λ m o t. said (Say (ask_pad k n x)) (of_read (pad_in body m.at (shape_of (variable_of body (kind_among 3 8 k) m.at)) x)) (m.at, found_variable body k n m.at t, in_pad body k n x (ordered f o) m.at t))
   says (ask_file what) = of_file what
   says (ask_dimension d) = of_dimension d
   says (ask_variable k n p) =
       of_variable (ask_variable k n p) k n (λ w. of_field (field_on body (kind_among 3 8 k) p w)) (λ m. refl)
-      (λ v left o t. said (Say (ask_variable k n p)) _ (v, found_variable body k n v t, part (is_shown (kind_among 3 8 k) p) (field_at body (v + p))))
+      (λ m o t. said (Say (ask_variable k n p)) _ (m.at, found_variable body k n m.at t, part (is_shown (kind_among 3 8 k) p) (field_at body (m.at + p))))
   says (ask_attribute n p) =
       of_attribute (ask_attribute n p) n (λ w. of_field (field_on body 4 p w)) (λ m. refl)
-      (λ a left t. said (Say (ask_attribute n p)) _ (a, found_attribute body n a t, part (is_shown 4 p) (field_at body (a + p))))
+      (λ m t. said (Say (ask_attribute n p)) _ (m.at, found_attribute body n m.at t, part (is_shown 4 p) (field_at body (m.at + p))))
   says (ask_entry_field b k w p) =
       of_entry (ask_entry_field b k w p) b k w (λ s. of_field (field_on body (kind_among 5 9 k) p s)) (λ m. refl)
-      (λ e left o t. said (Say (ask_entry_field b k w p)) _ (e, found_entry body b k w e t, part (is_shown (kind_among 5 9 k) p) (field_at body (e + p))))
+      (λ m o t. said (Say (ask_entry_field b k w p)) _ (m.at, found_entry body b k w m.at t, part (is_shown (kind_among 5 9 k) p) (field_at body (m.at + p))))
   says (ask_size k n d) =
       of_variable (ask_size k n d) k n (λ w. of_field (size_on body (kind_among 3 8 k) d (dimensions_on body (kind_among 3 8 k) w))) (λ m. refl)
-      (λ v left o t.
-      rw (layout_is k n v t)
+      (λ m o t.
+      rw (layout_is k n m.at t)
       (said (Say (ask_size k n d)) _
-      (v, found_variable body k n v t, size_part body (eqb (kind_among 3 8 k) 8) (layout_of body (kind_among 3 8 k) v).sizes (layout_of body (kind_among 3 8 k) v).count d)))
+      (m.at, found_variable body k n m.at t, size_part body (eqb (kind_among 3 8 k) 8) (layout_of body (kind_among 3 8 k) m.at).sizes (layout_of body (kind_among 3 8 k) m.at).count d)))
   says (ask_variance k n d) =
       of_variable (ask_variance k n d) k n (λ w. of_field (variance_on body d (dimensions_on body (kind_among 3 8 k) w))) (λ m. refl)
-      (λ v left o t.
-      rw (layout_is k n v t)
+      (λ m o t.
+      rw (layout_is k n m.at t)
       (said (Say (ask_variance k n d)) _
-      (v, found_variable body k n v t, row_part body (layout_of body (kind_among 3 8 k) v).variances (layout_of body (kind_among 3 8 k) v).count d)))
+      (m.at, found_variable body k n m.at t, row_part body (layout_of body (kind_among 3 8 k) m.at).variances (layout_of body (kind_among 3 8 k) m.at).count d)))
   says (ask_levels k n r) =
       of_variable (ask_levels k n r) k n (λ w. of_field (levels_on body r w)) (λ m. refl)
-      (λ v left o t.
-      levels_said body k n r (length f) v t (levels_way body v r left) (levels_found body v r left)
-      (levels_lack (λ m. Goes (ask_levels k n r) (Refused m)) tt body tt v r (λ e. tt) left))
+      (λ m o t.
+      levels_said body k n r (length f) m.at t (levels_way body m.at r m.left) (levels_found body m.at r m.left)
+      (levels_lack (λ m. Goes (ask_levels k n r) (Refused m)) tt body tt m.at r (λ e. tt) m.left))
   says (ask_variable_name k n) =
       of_variable (ask_variable_name k n) k n (λ w. of_name (name_on body (var_name_at 0) w)) (λ m. refl)
-      (λ v left o t. said (Say (ask_variable_name k n)) _ (v, found_variable body k n v t, name_said body (var_name_at v)))
+      (λ m o t. said (Say (ask_variable_name k n)) _ (m.at, found_variable body k n m.at t, name_said body (var_name_at m.at)))
   says (ask_attribute_name n) =
       of_attribute (ask_attribute_name n) n (λ w. of_name (name_on body (attr_name_at 0) w)) (λ m. refl)
-      (λ a left t. said (Say (ask_attribute_name n)) _ (a, found_attribute body n a t, name_said body (attr_name_at a)))
+      (λ m t. said (Say (ask_attribute_name n)) _ (m.at, found_attribute body n m.at t, name_said body (attr_name_at m.at)))
 
 -- THE THEOREM
 pub answers_say : AnswersSay

@@ -14,10 +14,8 @@ use Rattle.records.specs.Layout.{head_of_index, attr_num_at, head_of_gr_entries,
 use Rattle.records.specs.Attributes.{adr_rule, aedr_rule}
 use Rattle.variables.specs.Vdr.{carried_of, variable_of}
 use Rattle.walk.specs.Walk.{type_number, var_number, attr_number, num_number, entry_number}
-use Rattle.lookup.specs.Lists.{meets, sought}
+use Rattle.lookup.specs.Lists.{Way, meets, sought}
 use Rattle.lookup.specs.declared.lists.Wanted.{Wanted}
-use Rattle.lookup.specs.declared.lists.Way.{Way}
-use Rattle.lookup.specs.declared.lists.Way.TheVariants.{Found, Stopped}
 use Rattle.demands.specs.Acceptance.{◌∈◌, ListedVdr, ListedAdr, offsets, index_offsets, variable_offsets, attribute_offsets}
 use Rattle.lookup.proofs.Kept.{parts_meet, kept_attribute, kept_entry, kept_variable}
 use Rattle.variables.proofs.Rule.{VdrParts, vdr_reads}
@@ -25,9 +23,9 @@ use Rattle.demands.proofs.Records.{Stands, stands_nonzero, type_reads}
 use Rattle.demands.proofs.Lists.{Rules, Listed}
 use Rattle.demands.proofs.Nested.{chain_rules, vars_rules, entries_rules, attrs_rules}
 use Rattle.demands.proofs.Splits.{split_in, each_in, listed_reads, length_earlier, offset_in, below_in}
-use Rattle.read_theorems.proofs.Room.{room}
 use Rattle.read_theorems.proofs.Lists.{FoundIn, NoneIn, OnList, list_way}
 use Rattle.read_theorems.proofs.Indexes.{stands_lies}
+use Rattle.std.specs.Prelude.{Ok, Err}
 
 -- ---- a list and what is below one of its records
 below_more : {X : Type 0} (at : X → ℕ) (below : X → List ℕ) (xs : List X) → length xs ≤ length (offsets at below xs)
@@ -80,8 +78,8 @@ module _ (f : List ℕ) where
     pub room : length (index_offsets f found.here.vxrs) ≤ rest
 
   abbrev pub OnVariables : ℕ → Wanted → ℕ → List ListedVdr → Way → Type 0
-  OnVariables t w left vs (Found v rest) = VariableIn t w left vs v rest
-  OnVariables t w left vs (Stopped m) = NoneIn f t w (λ d. d.vdr) 0 vs m
+  OnVariables t w left vs (Ok v) = VariableIn t w left vs v.at v.left
+  OnVariables t w left vs (Err m) = NoneIn f t w (λ d. d.vdr) 0 vs m
 
   -- of each VDR of a list: its rule, its index, and that the records of that stand in the file
   pub record Indexed (t : ℕ) (d : ListedVdr) : Type 0 where
@@ -117,7 +115,7 @@ module _ (f : List ℕ) where
           (omega (arith, enough, below_more (λ v. v.vdr) (λ v. index_offsets f v.vxrs) vs)))
         where
           go : (s : Way) → OnList f (cond b 3 8) w (λ d. d.vdr) 0 left vs s → OnVariables (cond b 3 8) w left vs s
-          go (Found v rest) a =
+          go (Ok v) a =
               let d = a.here in
               let m = split_in vs a.earlier a.later d a.split in
               let kept = listed_indexed b p vs l stands d m in
@@ -135,7 +133,7 @@ module _ (f : List ℕ) where
                       length_earlier vs a.earlier a.later d a.split,
                     );
               }
-          go (Stopped m) a = a
+          go (Err m) a = a
 
   -- ---- the list of attributes
   pub record AttributeIn (w : Wanted) (left : ℕ) (ads : List ListedAdr) (a rest : ℕ) : Type 0 where
@@ -146,8 +144,8 @@ module _ (f : List ℕ) where
     pub room : length (found.here.gr_entries ++ found.here.z_entries) ≤ rest
 
   abbrev pub OnAttributes : Wanted → ℕ → List ListedAdr → Way → Type 0
-  OnAttributes w left ads (Found a rest) = AttributeIn w left ads a rest
-  OnAttributes w left ads (Stopped m) = NoneIn f 4 w (λ d. d.adr) 0 ads m
+  OnAttributes w left ads (Ok a) = AttributeIn w left ads a.at a.left
+  OnAttributes w left ads (Err m) = NoneIn f 4 w (λ d. d.adr) 0 ads m
 
   module _ (w : Wanted) (p left : ℕ) (ads : List ListedAdr) (l : Listed f (attrs_rules f) [] p ads)
       (stands : (o : ℕ) → o ∈ attribute_offsets ads → Stands f o) (enough : length (attribute_offsets ads) ≤ left)
@@ -167,7 +165,7 @@ module _ (f : List ℕ) where
           (omega (arith, enough, below_more (λ a. a.adr) (λ a. a.gr_entries ++ a.z_entries) ads)))
         where
           go : (s : Way) → OnList f 4 w (λ d. d.adr) 0 left ads s → OnAttributes w left ads s
-          go (Found o rest) a =
+          go (Ok o) a =
               let d = a.here in
               let m = split_in ads a.earlier a.later d a.split in
               let kept = each_kept (attrs_rules f) p ads l d m in
@@ -185,7 +183,7 @@ module _ (f : List ℕ) where
                       length_earlier ads a.earlier a.later d a.split,
                     );
               }
-          go (Stopped m) a = a
+          go (Err m) a = a
 
   -- ---- a list of entries
   pub entries_way : (b : Bool) (w : Wanted) (a p left : ℕ) (es : List ℕ) → Listed f (entries_rules f (cond b 5 9) a) [] p es

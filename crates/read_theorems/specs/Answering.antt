@@ -1,13 +1,12 @@
 -- THE ANSWERS OF AN ACCEPTED FILE, over its lists: no limit, and nothing is judged on the way. Sections 13 to 16 of docs/RULES.md. Assumes
 -- nothing.
-use Rattle.std.specs.Prelude.{◌≡◌, ◌≢◌, ◌⊎◌, Bool, cond, ◌&&◌, List, [], ◌∷◌, ℕ, zero, suc, ◌≤◌, length, leb, eqb, ℤ, pos, negsuc}
+use Rattle.std.specs.Prelude.{◌≡◌, ◌≢◌, ◌⊎◌, Bool, cond, ◌&&◌, List, [], ◌∷◌, ℕ, zero, suc, ◌≤◌, length, leb, eqb, ℤ, pos, negsuc, Option, Some, None}
 use Rattle.format.specs.Fields.{eq_z, is_at, nat_at}
-use Rattle.format.specs.Types.{type_of}
-use Rattle.format.specs.Encodings.{encoding_of}
+use Rattle.format.specs.Types.{type_of, size_in, kind_in}
+use Rattle.format.specs.Encodings.{encoding_of, order_in, float_in}
 use Rattle.format.specs.declared.types.DataType.{DataType}
 use Rattle.format.specs.declared.encodings.Encoding.{Encoding}
 use Rattle.vax.specs.Rounding.{vax_at}
-use Rattle.vax.specs.declared.Vax.{Vax}
 use Rattle.values.specs.Values.{raw_at, answer_of, is_vax, vax_kind, vax_given}
 use Rattle.records.specs.Layout.{r_dim_sizes_at, attr_name_at, entry_type_at, entry_num_at, entry_elements_at, data_type_at, var_name_at}
 use Rattle.records.specs.Opening.{gdr_at, r_num_dims, body_of}
@@ -68,15 +67,15 @@ of_entry f l a k w of = of_kind 5 9 k (λ t. numbered l.attributes a (λ d. want
 -- ---- values
 
 -- 15.5: "The answer is a double"; 15.4: "it is the reserved operand, refused with 22"
-abbrev pub vax_told : Vax → ℕ → Reply
-vax_told (Vax.Given r) at = Value (vax_given r at)
-vax_told Vax.Reserved at = Refused Operand
+abbrev pub vax_told : Option ℕ → ℕ → Reply
+vax_told (Some r) at = Value (vax_given r at)
+vax_told None at = Refused Operand
 
 -- what data type and encoding make of the bytes at an offset
-abbrev pub element_told : List ℕ → ℕ → DataType → Encoding → Reply
+abbrev pub element_told : List ℕ → ℕ → Option DataType → Option Encoding → Reply
 element_told f at d c =
-    cond (is_vax d.kind c.float) (vax_told (vax_at (vax_kind d.kind c.float) f at) at)
-    (Value (answer_of d.kind d.size (raw_at f at d.size c.order) at))
+    cond (is_vax (kind_in d) (float_in c)) (vax_told (vax_at (vax_kind (kind_in d) (float_in c)) f at) at)
+    (Value (answer_of (kind_in d) (size_in d) (raw_at f at (size_in d) (order_in c)) at))
 
 -- 18 by 2.1: "dimension index or element out of range, or wrong number of indices"; else the element at an offset, whose data type stands at t
 abbrev pub element_in : List ℕ → Bool → ℕ → ℕ → Reply

@@ -1,31 +1,29 @@
 -- THE LIMIT OF RECORDS MET, of every file and every question: 20 where more are met than the length allows, and else no difference. Section
 -- 13 of docs/RULES.md. Assumes nothing.
-use Rattle.std.specs.Prelude.{◌≡◌, cond, List, [], ◌∷◌, ℕ, ◌/◌, ◌≤◌, ◌<◌, length}
+use Rattle.std.specs.Prelude.{◌≡◌, cond, List, [], ◌∷◌, ℕ, ◌/◌, ◌≤◌, ◌<◌, length, ℤ, Result, Ok, Err}
 use Rattle.records.specs.Layout.{cdr_offset, attr_name_at, var_name_at}
 use Rattle.records.specs.Opening.{gdr_at, body_of}
-use Rattle.lookup.specs.Lists.{opened, allowance, kind_among}
+use Rattle.lookup.specs.Lists.{met_at, Way, opened, allowance, kind_among}
 use Rattle.lookup.specs.Limit.{variable_within, attribute_within, entry_within, place_met, variable_met, entry_met, record_way_met, levels_way_met}
+use Rattle.lookup.specs.declared.refusals.Refusal.{Refusal}
 use Rattle.lookup.specs.declared.refusals.Refusal.TheVariants.{Breach}
-use Rattle.lookup.specs.declared.lists.Way.{Way}
-use Rattle.lookup.specs.declared.lists.Way.TheVariants.{Found, Stopped}
 use Rattle.answers.specs.Answers.{value_on, entry_on, pad_on}
 use Rattle.descriptors.specs.Descriptors.{file_field, dimension_size, field_on, dimensions_on, size_on, variance_on, levels_on, name_on}
-use Rattle.descriptors.specs.declared.Field.{Field}
 use Rattle.reader.specs.Questions.{Question, ask_value, ask_entry, ask_pad, ask_file, ask_dimension, ask_variable, ask_attribute, ask_entry_field, ask_size, ask_variance, ask_levels, ask_variable_name, ask_attribute_name, Reply, Refused, of_read, of_field, of_name, answer_to}
 use Rattle.read_theorems.specs.Refusing.{Subject, TheFile, AVariable, AnAttribute, AnEntry, ARecord, about}
 
 -- the way to the record that a question is about, where `left` records may be met behind CDR and GDR; of the file itself it is the GDR
 abbrev pub way_within : ℕ → List ℕ → Subject → Way
-way_within left f TheFile = cond (opened f) (Found (gdr_at (body_of f)) left) (Stopped Breach)
+way_within left f TheFile = cond (opened f) (met_at (gdr_at (body_of f)) left) (Err Breach)
 way_within left f (AVariable k n) = variable_within left f k n
 way_within left f (AnAttribute n) = attribute_within left f n
 way_within left f (AnEntry a k w) = entry_within left f a k w
 way_within left f (ARecord k n r) = variable_within left f k n
 
 -- what is read of the file where that way has found the GDR
-abbrev pub file_on : Way → Field → Reply
-file_on (Found o left) x = of_field x
-file_on (Stopped v) x = Refused v
+abbrev pub file_on : Way → Result ℤ Refusal → Reply
+file_on (Ok o) x = of_field x
+file_on (Err v) x = Refused v
 
 -- what is read at the end of a way
 abbrev pub answer_on : List ℕ → Question → Way → Reply

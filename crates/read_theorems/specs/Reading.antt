@@ -1,14 +1,13 @@
 -- WHAT THE READER ANSWERS of every file, accepted or not. Sections 13 to 16 of docs/RULES.md. Assumes nothing.
-use Rattle.std.specs.Prelude.{◌≡◌, ◌≢◌, ◌⊎◌, Bool, true, false, cond, ◌&&◌, List, [], ◌∷◌, ◌++◌, ℕ, zero, suc, ◌+◌, ◌-◌, ◌*◌, ◌≤◌, ◌<◌, length, get_or, eqb, ℤ, pos}
+use Rattle.std.specs.Prelude.{◌≡◌, ◌≢◌, ◌⊎◌, Bool, true, false, cond, ◌&&◌, List, [], ◌∷◌, ◌++◌, ℕ, zero, suc, ◌+◌, ◌-◌, ◌*◌, ◌≤◌, ◌<◌, length, get_or, eqb, ℤ, pos, Ok}
 use Rattle.std.specs.Int.Signed.{le_z}
 use Rattle.format.specs.Bytes.{OfBytes}
 use Rattle.format.specs.Fields.{field_at, nat_at, nat_or, link_at, bit_at}
-use Rattle.format.specs.Types.{signed, type_of}
-use Rattle.format.specs.Encodings.{encoding_of}
+use Rattle.format.specs.Types.{signed, type_of, kind_in}
+use Rattle.format.specs.Encodings.{encoding_of, order_in, float_in}
 use Rattle.values.specs.Values.{raw_at, is_vax, reserved_float}
 use Rattle.values.specs.Agreement.{Agrees, VaxGiven}
 use Rattle.values.specs.declared.value.Answer.{Answer}
-use Rattle.values.specs.declared.value.Decoded.TheVariants.{Given}
 use Rattle.records.specs.Layout.{next_at, encoding_at, nr_vars_at, num_attr_at, nz_vars_at, r_num_dims_at, r_dim_sizes_at, attr_name_at, entry_type_at, entry_elements_at, data_type_at, head_of_index, var_flags_at, elements_at, var_name_at}
 use Rattle.records.specs.Rules.{size_at, typed_at}
 use Rattle.records.specs.Opening.{gdr_at, r_num_dims, body_of, Unpadded}
@@ -129,24 +128,24 @@ pub record IndexWay (f : List ℕ) (v r : ℕ) : Type 0 where
 
 -- a float of that data type in encoding 3, 14 or 15, and one whose bytes at an offset are the reserved operand
 abbrev pub vax_float : List ℕ → ℕ → Bool
-vax_float f t = is_vax (type_of (nat_at f t)).kind (encoding_of (file_encoding f)).float
+vax_float f t = is_vax (kind_in (type_of (nat_at f t))) (float_in (encoding_of (file_encoding f)))
 
 abbrev pub reserved : List ℕ → ℕ → ℕ → Bool
-reserved f at t = reserved_float f at (type_of (nat_at f t)).kind (encoding_of (file_encoding f)).float
+reserved f at t = reserved_float f at (kind_in (type_of (nat_at f t))) (float_in (encoding_of (file_encoding f)))
 
 -- the answer a is the element at an offset
 pub record ElementShown (f : List ℕ) (at t : ℕ) (a : Answer) : Type 0 where
   -- 14.6: "With a value comes the file offset it was read from"
   pub offset : a.offset ≡ at
   -- what data type and encoding make of the bytes there
-  pub decoded : element_of f at t ≡ Given a
+  pub decoded : element_of f at t ≡ Ok a
   -- the bits are those of the value, where the numbers of f are bytes, as those of every file are
   pub bits : OfBytes f → Agrees a.value a.bits
   -- 15.5: "The answer is a double"
-  pub vax : vax_float f t ≡ true → VaxGiven f at (type_of (nat_at f t)).kind (encoding_of (file_encoding f)).float a
+  pub vax : vax_float f t ≡ true → VaxGiven f at (kind_in (type_of (nat_at f t))) (float_in (encoding_of (file_encoding f))) a
   -- any other value but a signed one has the bits that stand in the file, a NaN too; 14.5: "Floats keep their bits"
-  pub stored : vax_float f t ≡ false → eqb (type_of (nat_at f t)).kind signed ≡ false
-      → a.bits ≡ raw_at f at (element_size f t) (encoding_of (file_encoding f)).order
+  pub stored : vax_float f t ≡ false → eqb (kind_in (type_of (nat_at f t))) signed ≡ false
+      → a.bits ≡ raw_at f at (element_size f t) (order_in (encoding_of (file_encoding f)))
 
 -- n bytes from an offset lie in the record at o, behind its first h bytes
 pub record LiesIn (f : List ℕ) (o h offset n : ℕ) : Type 0 where

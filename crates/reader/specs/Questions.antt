@@ -1,19 +1,14 @@
 -- WHAT THE READER IS ASKED AND WHAT IT ANSWERS: a question for each exported call, and one answer to each. Sections 13 to 16 of
 -- docs/RULES.md. Assumes nothing.
-use Rattle.std.specs.Prelude.{ℕ, List, [], ◌∷◌, ℤ, pos}
+use Rattle.std.specs.Prelude.{ℕ, List, [], ◌∷◌, ℤ, pos, Result, Ok, Err}
 use Rattle.values.specs.Values.{kind_of}
 use Rattle.values.specs.declared.value.Answer.{Answer}
 use Rattle.lookup.specs.Refusals.{refusal_number}
 use Rattle.lookup.specs.declared.refusals.Refusal.{Refusal}
 use Rattle.lookup.specs.declared.lists.Wanted.{Wanted}
 use Rattle.answers.specs.Answers.{value_read, entry_value, pad_read}
-use Rattle.answers.specs.declared.Read.{Read}
-use Rattle.answers.specs.declared.Read.TheVariants.{Value as ValueIs, Refused as NoValue}
 use Rattle.descriptors.specs.Descriptors.{file_field, dimension_size, variable_field, attribute_field, entry_field, variable_size, variable_variance, variable_levels, variable_name, attribute_name}
-use Rattle.descriptors.specs.declared.Field.{Field as FieldRead}
-use Rattle.descriptors.specs.declared.Field.TheVariants.{Is, Refused as NoField}
 use Rattle.descriptors.specs.declared.Name.{Name as NameRead}
-use Rattle.descriptors.specs.declared.Name.TheVariants.{Bytes, Nameless}
 
 -- A QUESTION, with the numbers that a caller gives
 pub data Question : Type 0 where
@@ -46,18 +41,19 @@ pub data Reply : Type 0 where
   Name : (offset length : ℕ) → Reply
   Refused : Refusal → Reply
 
--- what each call reads, as an answer
-abbrev pub of_read : Read → Reply
-of_read (ValueIs a) = Value a
-of_read (NoValue v) = Refused v
+-- what a call reads, as an answer
+abbrev pub replied : {A : Type 0} → (A → Reply) → Result A Refusal → Reply
+replied of (Ok x) = of x
+replied of (Err v) = Refused v
 
-abbrev pub of_field : FieldRead → Reply
-of_field (Is x) = Field x
-of_field (NoField v) = Refused v
+abbrev pub of_read : Result Answer Refusal → Reply
+of_read r = replied Value r
 
-abbrev pub of_name : NameRead → Reply
-of_name (Bytes o n) = Name o n
-of_name (Nameless v) = Refused v
+abbrev pub of_field : Result ℤ Refusal → Reply
+of_field r = replied Field r
+
+abbrev pub of_name : Result NameRead Refusal → Reply
+of_name r = replied (λ n. Name n.offset n.length) r
 
 -- THE ANSWER to a question about a file
 abbrev pub answer_to : List ℕ → Question → Reply

@@ -1,19 +1,20 @@
 // The reader's calls, which crates/reader_c gives to C. A call answers 0 and sets the caller's numbers, or answers the number of a refusal
-// and leaves them alone.
+// and leaves them alone. A call takes C's numbers one by one and sets them one by one, as its export does, so no struct of a question stands here.
 #![tactic(auto)]
 
-ghost use Rattle.std.specs.Prelude.{◌≡◌};
+ghost use Rattle.std.specs.Prelude.{◌≡◌, pos, IfOk, MatchResult};
 ghost use Rattle.values.specs.Values.{kind_of};
+ghost use Rattle.lookup.specs.Refusals.{refusal_number};
 ghost use Rattle.lookup.specs.declared.lists.Wanted.TheVariants.{Place, Number};
 ghost use Rattle.reader.specs.Questions.{ask_value, ask_entry, ask_pad, ask_file, ask_dimension, ask_variable, ask_attribute, ask_entry_field, ask_size, ask_variance, ask_levels, ask_variable_name, ask_attribute_name, of_read, of_field, of_name, answer_to, call, call_of, three_numbers, one_number, two_numbers};
 
-use answers::Read;
-use descriptors::{Field, Name};
+use descriptors::Name;
 use lookup::lists::Wanted;
-use lookup::refusals;
-use values::value::Value;
+use lookup::refusals::Refusal;
+use values::value::{Answer, Value};
 
 // The number of a value's kind: 0 signed, 1 unsigned, 2 single, 3 double, 4 character code.
+// A match and no From: the numbers are C's, and an impl of From would stand with a type in crates/values, which knows none of C.
 fn kind_number(v: Value) -> u64
     ensures { result ≡ kind_of v }
 {
@@ -26,51 +27,55 @@ fn kind_number(v: Value) -> u64
     }
 }
 
+// The number that a call answers: 0 where there is an answer, by which the caller's numbers are set; or that of the refusal.
+fn told<T, F: FnMut(T)>(r: Result<T, Refusal>, set: &mut F) -> i32
+    requires { IfOk r (F.pre set.old) }
+    ensures { MatchResult r
+        (λ x. F.step set.old x tt set.new × (result ≡ pos 0))
+        (λ v. (set.new ≡ set.old) × (result ≡ pos (refusal_number v))) }
+{
+    match r {
+        Ok(x) => {
+            set(x);
+            0
+        }
+        Err(refusal) => i32::from(refusal),
+    }
+}
+
 // A value for C: its kind, its bits, the offset it was read from.
-fn show_value(r: Read, kind: &mut u64, bits: &mut u64, offset: &mut u64) -> i32
+fn show_value(r: Result<Answer, Refusal>, kind: &mut u64, bits: &mut u64, offset: &mut u64) -> i32
     ensures { call result (three_numbers kind.new bits.new offset.new)
         ≡ call_of (of_read r) (three_numbers kind.old bits.old offset.old) }
 {
-    match r {
-        Read::Value(a) => {
-            let v = a.value;
-            *kind = kind_number(v);
+    told(
+        r,
+        &mut |a: Answer| {
+            *kind = kind_number(a.value);
             *bits = a.bits;
             *offset = a.offset;
-            0
-        }
-        Read::Refused(refusal) => refusals::number_of(refusal),
-    }
+        },
+    )
 }
 
 // A field for C.
-fn show_field(r: Field, number: &mut i32) -> i32
+fn show_field(r: Result<i32, Refusal>, number: &mut i32) -> i32
     ensures { call result (one_number number.new) ≡ call_of (of_field r) (one_number number.old) }
 {
-    match r {
-        Field::Is(x) => {
-            *number = x;
-            0
-        }
-        Field::Refused(refusal) => refusals::number_of(refusal),
-    }
+    told(r, &mut |x| *number = x)
 }
 
-// A name for C.
-fn show_name(r: Name, offset: &mut u64, length: &mut u64) -> i32
+// A name for C: where it stands and its length.
+fn show_name(r: Result<Name, Refusal>, offset: &mut u64, length: &mut u64) -> i32
     ensures { call result (two_numbers offset.new length.new) ≡ call_of (of_name r) (two_numbers offset.old length.old) }
 {
-    match r {
-        Name::Bytes {
-            offset: o,
-            length: n,
-        } => {
-            *offset = o;
-            *length = n;
-            0
-        }
-        Name::Nameless(refusal) => refusals::number_of(refusal),
-    }
+    told(
+        r,
+        &mut |n: Name| {
+            *offset = n.offset;
+            *length = n.length;
+        },
+    )
 }
 
 // An element of a value of a variable, by kind, number, record, indices and element.

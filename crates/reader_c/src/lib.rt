@@ -1,4 +1,5 @@
 // The reader's calls for C: each is the call of crates/reader by that name, with its clauses.
+// Each stands twice: a library of Rattle cannot be a static library too.
 #![tactic(auto)]
 
 ghost use Rattle.std.specs.Prelude.{◌≡◌};

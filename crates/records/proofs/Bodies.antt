@@ -259,9 +259,6 @@ module _ (b p : List ℕ) (u : Unpadded b) (few : length p ≤ 511) where
     near = omega (arith, behind, padded_eof);
   }
 
-  pub own_body : body_of b ≡ b
-  own_body = whole b (ends_at b own_at ∙ u.eof)
-
   pub padded_end : file_end f ≡ length b
   padded_end = ends_at f padded_at ∙ padded_eof
 

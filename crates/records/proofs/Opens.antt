@@ -11,7 +11,7 @@ use lib.ListN.{length}
 use borrow.Author.Tests.{ltb-true, leb-true, eqb-true, lt-ltb, le-leb, eq-eqb}
 use Rattle.format.specs.Bytes.{big_at}
 use Rattle.format.specs.Fields.{end_of, is_at, at_least, within_at, each_within, nat_at}
-use Rattle.format.specs.Encodings.{encoding_of}
+use Rattle.format.specs.Encodings.{encoding_of, order_in}
 use Rattle.format.proofs.Tests.{both, every, cond_keeps, cond_left, cond_right}
 use Rattle.format.proofs.Numbers.{zeros, first_has}
 use Rattle.format.proofs.FieldRanges.{end_is}
@@ -41,13 +41,13 @@ module _ (f : List ℕ) where
     pub typed : typed_at f cdr_offset (pos 1) ≡ true
     pub size : size_at f cdr_offset ≡ 304
     pub version : is_at f version_at (pos 2) ≡ true
-    pub encoding : 1 ≤ (encoding_of (nat_at f encoding_at)).order
+    pub encoding : 1 ≤ order_in (encoding_of (nat_at f encoding_at))
     pub flags : big_at f cdr_flags_at 4 < 4
 
   pub cdr_fields : cdr_right f ≡ true ↔ CdrFields
   unfolding cdr_right
   cdr_fields =
-      let order = (encoding_of (nat_at f encoding_at)).order in
+      let order = order_in (encoding_of (nat_at f encoding_at)) in
       let flags = big_at f cdr_flags_at 4 in
       let tests = typed_at f cdr_offset (pos 1) ∷ eqb (size_at f cdr_offset) 304 ∷ is_at f version_at (pos 2) ∷ leb 1 order ∷ ltb flags 4 ∷ [] in (
         λ e.
@@ -189,9 +189,6 @@ module _ (f : List ℕ) where
           le-leb (g + size_at f g) (eof_of f g) p.inside,
           p.sizes,
         )
-
-    pub gdr_law : gdr_right f g ≡ true ↔ GdrParts
-    gdr_law = (gdr_parts, parts_gdr)
 
     -- the GDR lies in the file
     pub gdr_within : GdrParts → g + size_at f g ≤ end_of f

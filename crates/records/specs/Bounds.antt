@@ -1,7 +1,7 @@
 -- Bounds that the code needs. Assumes nothing.
 use Rattle.std.specs.Prelude.{ℕ, ◌+◌, ◌≤◌, ◌<◌, ◌≡◌, List, length}
 use Rattle.format.specs.Fields.{nat_at}
-use Rattle.records.specs.declared.index.Entry.{Entry}
+use Rattle.records.specs.Index.{Entry}
 
 -- the bounds of a range that is right
 pub record Ranged (f : List ℕ) (first last offset : ℕ) : Type 0 where

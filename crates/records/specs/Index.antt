@@ -1,9 +1,11 @@
 -- Index records, their entries, and value records; lower index records. Sections 4, 5 and 8 of docs/RULES.md. Assumes nothing.
-use Rattle.std.specs.Prelude.{ℕ, ◌+◌, ◌*◌, Bool, cond, ◌&&◌, List, ltb, leb, eqb, pos}
+use Rattle.std.specs.Prelude.{ℕ, ◌+◌, ◌*◌, Bool, cond, ◌&&◌, List, ltb, leb, eqb, pos, Result, Ok, Err}
 use Rattle.format.specs.Fields.{end_of, at_least, in_order, nat_at, link_at}
 use Rattle.records.specs.Layout.{vxr_entries_at, vxr_used_at, firsts_at}
 use Rattle.records.specs.Rules.{size_at, typed_at, judged}
-use Rattle.records.specs.declared.index.Entry.{Entry}
+use Rattle.records.specs.declared.breaches.Breach.{Breach}
+use Rattle.records.specs.declared.index.Range.{Range}
+use Rattle.records.specs.Breaches.{number_of}
 
 -- 5.16: "Used is 0 to entries, size is 20 + 12 × entries"; 8.20: "A negative number of entries .. counts as 0"
 abbrev pub entries_at : List ℕ → ℕ → ℕ
@@ -52,12 +54,24 @@ range_number f first last offset floor most =
     (cond (ltb (end_of f) (last + 4)) 20 (cond (closes f first last most) (cond (ltb (end_of f) (offset + 4)) 20 0) 12))
     12
 
+-- an index entry: the number of its rule, and where that is 0 its range and what it names
+pub record Entry : Type 0 where
+  pub fault : ℕ
+  pub first : ℕ
+  pub last : ℕ
+  pub link : ℕ
+
 -- record r lies in an entry's range
 abbrev pub entry_covers : Entry → ℕ → Bool
 entry_covers e r = leb e.first r && leb r e.last
 
 abbrev pub entry_fault : ℕ → Entry
 entry_fault v = record { fault = v; first = 0; last = 0; link = 0 }
+
+-- what a range, or the breach in its place, says of an entry
+abbrev pub entry_told : Result Range Breach → Entry
+entry_told (Ok r) = record { fault = 0; first = r.first; last = r.last; link = r.link }
+entry_told (Err b) = entry_fault (number_of b)
 
 -- its range and what it names, or the number that refuses it
 abbrev pub entry_by : List ℕ → ℕ → ℕ → ℕ → ℕ → Entry

@@ -103,7 +103,8 @@ pub const VALUES: usize = 8;
 // UIR.
 pub const PREVIOUS: usize = 12;
 
-// Those of the above that the reader adds to an offset into its slice.
+// Those of the above that are also added to an offset into a slice. With one constant each, a cast would stand at each use on one side, of some twenty
+// there or some twenty in walk and faults, which add in 32 bits, as offsets are saved.
 pub const NEXT_USIZE: usize = NEXT as usize;
 
 pub const HEAD_OF_R_VARIABLES_USIZE: usize = HEAD_OF_R_VARIABLES as usize;

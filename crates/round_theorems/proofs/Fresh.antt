@@ -74,9 +74,7 @@ module _ (o : Own) (q : ℕ) where
   first = ap (λ (k : ℕ). (plain_run p o.marks k).at) (zero-mul q)
 
   granted_at : (z : Own) (r : ℕ) → StandsAt p (at r) z → grant_of z.file z.marks z.state q ≡ worked (run_of p (at r) q)
-  granted_at z r s =
-      ap (λ (x : List ℕ). grant_of x z.marks z.state q) s.file ∙ ap (λ (x : List ℕ). grant_of p x z.state q) s.marks
-      ∙ ap (λ (x : List ℕ). grant_of p (at r).marks x q) s.state ∙ sound_works p (at r) (sound r) q
+  granted_at z r s = rw (s.file, s.marks, s.state) (sound_works p (at r) (sound r) q)
 
   module _ (begun : o.state ≡ save fresh) where
     steps : (r : ℕ) → StandsAt p (at r) (grants_alone q o r)

@@ -4,7 +4,6 @@ use mathlib.Core.Logic.{◌≢◌, ◌⊎◌, inl, inr}
 use mathlib.Core.Bool.{true, false, true≢false}
 use mathlib.Core.List.{List}
 use Prim.Native.Nat.{ℕ, zero, suc}
-use native.Mathlib.Omega.{arith}
 use lib.ListN.{length}
 use lib.IntN.{pos, negsuc}
 use Rattle.states.specs.declared.state.Stage.{Stage}
@@ -25,29 +24,25 @@ use Rattle.grants.proofs.Any.{every_grant}
 use Rattle.round_theorems.specs.Rounds.{rounds_of, Own, own_of, grant_alone, grants_alone, AnyJobs}
 use Rattle.round_theorems.proofs.Rounds.{alone_is}
 
+-- a stage is finished, or it answers -1
+ends_or_runs : (g : Stage) → ((answer_of g ≢ negsuc 0) × (finished g ≡ true)) ⊎ ((answer_of g ≡ negsuc 0) × (finished g ≡ false))
+ends_or_runs Fresh = inr (refl, refl)
+ends_or_runs (Sweep o) = inr (refl, refl)
+ends_or_runs (Walking w up) = inr (refl, refl)
+ends_or_runs (Done v p) = inl (λ d. cc, refl)
+ends_or_runs OutOfRange = inr (refl, refl)
+
 has_verdict : (g : Stage) → answer_of g ≢ negsuc 0 → finished g ≡ true
-has_verdict Fresh e = absurd (e refl)
-has_verdict (Sweep o) e = absurd (e refl)
-has_verdict (Walking w up) e = absurd (e refl)
-has_verdict (Done v p) e = refl
-has_verdict OutOfRange e = absurd (e refl)
+has_verdict g e = elim (ends_or_runs g) [ inl a ↦ a.1 | inr a ↦ absurd (e a.0) ]
 
 pub not_running : (g : Stage) → finished g ≡ true → answer_of g ≢ negsuc 0
-not_running Fresh e = absurd (true≢false (sym e))
-not_running (Sweep o) e = absurd (true≢false (sym e))
-not_running (Walking w up) e = absurd (true≢false (sym e))
-not_running (Done v p) e = λ d. let z : ◌≡◌ {A = ℕ} 0 1 = cc in omega arith
-not_running OutOfRange e = absurd (true≢false (sym e))
+not_running g e = elim (ends_or_runs g) [ inl a ↦ a.0 | inr a ↦ absurd (true≢false (sym e ∙ a.1)) ]
 
 is_running : (g : Stage) → answer_of g ≡ negsuc 0 → finished g ≡ false
-is_running Fresh e = refl
-is_running (Sweep o) e = refl
-is_running (Walking w up) e = refl
-is_running (Done v p) e = absurd (not_running (Done v p) refl e)
-is_running OutOfRange e = refl
+is_running g e = elim (ends_or_runs g) [ inl a ↦ absurd (a.0 e) | inr a ↦ a.1 ]
 
 not_21_running : pos 21 ≢ negsuc 0
-not_21_running e = let z : ◌≡◌ {A = ℕ} 0 1 = cc in omega arith
+not_21_running e = cc
 
 -- the state that a grant of n leaves has its length, its location, and its answer unless that is 21; with -1 it made n steps
 record Told (n : ℕ) (g : Granted) : Type 0 where

@@ -5,11 +5,9 @@ use mathlib.Core.List.{List}
 use Prim.Native.Nat.{ℕ, zero, suc, ◌≤◌, ◌<◌}
 use native.Mathlib.Omega.{arith}
 use lib.ListN.{length, get_or}
-use Rattle.checker.specs.Grant.{Granted, grant_of}
 use Rattle.jobs.specs.declared.parts.Parts.{Parts}
-use Rattle.jobs.specs.Parts.{refused_of}
 use Rattle.jobs.specs.Turns.{Window, parts_at, turns_to, Rounded}
-use Rattle.jobs.proofs.Gathers.{refused_by_parts}
+use Rattle.jobs.proofs.Tests.{refused_by_parts}
 use Rattle.round_theorems.specs.Rounds.{In, rounds_of, NotRefused, Own, own_of, grant_alone, grants_alone, Rounds, Isolated}
 use Rattle.round_theorems.proofs.Window.{Same, same_refl, same_trans, Fit, fit_of, to_same, to_own, to_else}
 use Rattle.round_theorems.proofs.Refusals.{tested, goes, not_tested}
@@ -19,9 +17,7 @@ module _ (f : List ℕ) (q : ℕ) where
   -- the test sees the parts and the lengths alone
   tested_same : (w v : Window) → Same w v → tested f q v ≡ tested f q w
   tested_same w v s =
-      ap (λ (n : ℕ). refused_of (parts_at v.rows) n (length f) (length v.marks) q) s.rows_count
-      ∙ ap (λ (m : ℕ). refused_of (parts_at v.rows) (length w.rows) (length f) m q) s.marks_count
-      ∙ refused_by_parts (parts_at v.rows) (parts_at w.rows) (length w.rows) (length f) (length w.marks) q (λ k l. s.parts k)
+      rw (s.rows_count, s.marks_count) (refused_by_parts (parts_at v.rows) (parts_at w.rows) (length w.rows) (length f) (length w.marks) q (λ k l. s.parts k))
 
   all : (w : Window) → length w.rows ≤ length w.rows
   all w = omega arith
@@ -80,12 +76,7 @@ rounds f q w runs = record {
 -- the last answer is never looked at
 same_alone : (q : ℕ) (o u : Own) → o.file ≡ u.file → o.marks ≡ u.marks → o.state ≡ u.state → (r : ℕ) → grants_alone q o (suc r) ≡ grants_alone q u (suc r)
 unfolding grants_alone
-same_alone q o u a b c zero =
-    ap (λ (x : List ℕ). made x (grant_of x o.marks o.state q)) a ∙ ap (λ (x : List ℕ). made u.file (grant_of u.file x o.state q)) b
-    ∙ ap (λ (x : List ℕ). made u.file (grant_of u.file u.marks x q)) c
-  where
-    made : List ℕ → Granted → Own
-    made x g = record { file = x; marks = g.marks; state = g.state; answer = g.answer }
+same_alone q o u a b c zero = rw (a, b, c)
 same_alone q o u a b c (suc r) = ap (grant_alone q) (same_alone q o u a b c r)
 
 pub isolated : Isolated

@@ -1,14 +1,13 @@
 -- A turn gives one job what a grant by itself gives it, and changes nothing else; and so do the turns of a round. Assumes nothing.
 use mathlib.Core.Path.{◌≡◌, refl, sym, ◌∙◌, ap, subst}
 use mathlib.Core.Logic.{◌⊎◌, inl, inr, ◌≢◌}
-use mathlib.Core.Bool.{Bool, true, false}
+use mathlib.Core.Bool.{false}
 use mathlib.Core.List.{List}
 use Prim.Native.Nat.{ℕ, zero, suc, ◌+◌, ◌≤◌, ◌<◌}
 use native.Mathlib.Omega.{arith}
 use lib.ListN.{length, get_or, set, length-set}
 use lib.Seq.{get_or-set_same, get_or-set_other}
-use lib.Dec.{eqb, ltb}
-use borrow.Author.Tests.{eqb-true, eqb-false, ltb-true, ltb-false}
+use borrow.Author.Count.{below_more}
 use Rattle.checker.specs.Grant.{Granted, grant_of}
 use Rattle.grants.proofs.Any.{every_grant}
 use Rattle.jobs.specs.declared.parts.Part.{Part}
@@ -48,14 +47,11 @@ module _ (f : List ℕ) where
 
   fit_same : (w v : Window) → Same w v → Fit w → Fit v
   fit_same w v s fit = record {
-    inside = λ i h.
-        let g : i < length w.rows = rw s.rows_count at h in
-        ap (λ (z : Parts). outside z (length f) (length v.marks)) (s.parts i) ∙ ap (outside (parts_at w.rows i) (length f)) s.marks_count ∙ fit.inside i g;
+    inside = λ i h. let g : i < length w.rows = rw s.rows_count at h in rw (s.parts i, s.marks_count) (fit.inside i g);
     apart = λ i k h g ne.
         let hi : i < length w.rows = rw s.rows_count at h in
         let hk : k < length w.rows = rw s.rows_count at g in
-        ap (λ (z : Parts). overlap z.marks (parts_at v.rows k).marks) (s.parts i)
-        ∙ ap (λ (z : Parts). overlap (parts_at w.rows i).marks z.marks) (s.parts k) ∙ fit.apart i k hi hk ne;
+        rw (s.parts i, s.parts k) (fit.apart i k hi hk ne);
   }
 
   module _ (w : Window) (q : ℕ) (runs : refused_of (parts_at w.rows) (length w.rows) (length f) (length w.marks) q ≡ false) where
@@ -68,17 +64,14 @@ module _ (f : List ℕ) where
         let e = none_at (clash_before at) (length w.rows) k (runs_apart at _ _ _ _ runs) h in
         (neither (overlap (at i).file (at k).file) (overlap (at i).marks (at k).marks) (none_at (λ x. clash (at x) (at k)) k i e l)).1
 
-    apart_by : (i k : ℕ) → i < length w.rows → k < length w.rows → i ≢ k → (y : Bool) → ltb i k ≡ y → overlap (at i).marks (at k).marks ≡ false
-    apart_by i k hi hk ne true e = earlier i k (ltb-true i k e) hk
-    apart_by i k hi hk ne false e =
-        let le = ltb-false i k e in
-        let l : k < i = omega (arith, ne) in
-        overlap_swap (at i).marks (at k).marks ∙ earlier k i l hi
+    apart_by : (i k : ℕ) → i < length w.rows → k < length w.rows → (i < k) ⊎ (k < i) → overlap (at i).marks (at k).marks ≡ false
+    apart_by i k hi hk (inl l) = earlier i k l hk
+    apart_by i k hi hk (inr l) = overlap_swap (at i).marks (at k).marks ∙ earlier k i l hi
 
     pub fit_of : Fit w
     fit_of = record {
       inside = λ i h. none_at (λ x. outside (at x) (length f) (length w.marks)) (length w.rows) i (runs_inside at _ _ _ _ runs) h;
-      apart = λ i k hi hk ne. apart_by i k hi hk ne (ltb i k) refl;
+      apart = λ i k hi hk ne. apart_by i k hi hk (grind arith);
     }
 
   -- ---- one turn
@@ -94,10 +87,6 @@ module _ (f : List ℕ) where
 
     abbrev next : Window
     next = window (set w.rows i (row_after j g)) (with_part p w.marks g.marks)
-
-    turn_is : turn_at f q w i ≡ next
-    unfolding job_turn
-    turn_is = refl
 
     in_area : p.from + p.len ≤ length w.marks
     in_area = (outside_not j.parts (length f) (length w.marks) (fit.inside i h)).1
@@ -120,37 +109,34 @@ module _ (f : List ℕ) where
     }
 
     turn_same : Same w (turn_at f q w i)
-    turn_same = subst (Same w) (sym turn_is) next_same
+    unfolding job_turn
+    turn_same = next_same
 
     abbrev own_by_lem : Job → List ℕ → Own
     own_by_lem z m = record { file = part_of z.parts.file f; marks = part_of z.parts.marks m; state = z.state; answer = z.answer }
 
     -- the job has what its grant leaves
     turn_own : own_of f (turn_at f q w i) i ≡ grant_alone q (own_of f w i)
+    unfolding job_turn
     turn_own =
-        ap (λ (v : Window). own_of f v i) turn_is ∙ ap (λ (z : Job). own_by_lem z next.marks) row_here
+        ap (λ (z : Job). own_by_lem z next.marks) row_here
         ∙ ap (λ (m : List ℕ). record { file = part_of j.parts.file f; marks = m; state = g.state; answer = g.answer }) (part_same p w.marks g.marks in_area left)
 
     -- another has what it had
     turn_other : (k : ℕ) → k < length w.rows → k ≢ i → own_of f (turn_at f q w i) k ≡ own_of f w k
+    unfolding job_turn
     turn_other k l ne =
-        ap (λ (v : Window). own_of f v k) turn_is ∙ ap (λ (z : Job). own_by_lem z next.marks) (row_there k ne)
+        ap (λ (z : Job). own_by_lem z next.marks) (row_there k ne)
         ∙ ap (λ (m : List ℕ). record { file = part_of (row_at w.rows k).parts.file f; marks = m; state = (row_at w.rows k).state; answer = (row_at w.rows k).answer })
         (part_other p w.marks g.marks in_area left (parts_at w.rows k).marks (fit.apart i k h l (λ e. ne (sym e))))
 
-    not_in : (x : ℕ) → (In x p → ⊥) → (y : Bool) → ltb x p.from ≡ y → (x < p.from) ⊎ (p.from + p.len ≤ x)
-    not_in x free true e = inl (ltb-true x p.from e)
-    not_in x free false e = inr (beyond (ltb x (p.from + p.len)) refl)
-      where
-        beyond : (y : Bool) → ltb x (p.from + p.len) ≡ y → p.from + p.len ≤ x
-        beyond true d = absurd (free (ltb-false x p.from e, ltb-true x (p.from + p.len) d))
-        beyond false d = ltb-false x (p.from + p.len) d
+    not_in : (x : ℕ) → (In x p → ⊥) → (x < p.from) ⊎ (p.from + p.len ≤ x)
+    not_in x free = grind arith
 
     -- a mark outside its part stays
     turn_else : (x : ℕ) → (In x p → ⊥) → get_or (turn_at f q w i).marks x 0 ≡ get_or w.marks x 0
-    turn_else x free =
-        ap (λ (v : Window). get_or v.marks x 0) turn_is
-        ∙ with_part_else p w.marks g.marks in_area left x (not_in x free (ltb x p.from) refl)
+    unfolding job_turn
+    turn_else x free = with_part_else p w.marks g.marks in_area left x (not_in x free)
 
   -- ---- the turns of the first n jobs
   module _ (q : ℕ) (w : Window) (fit : Fit w) where
@@ -179,22 +165,15 @@ module _ (f : List ℕ) where
         let hk : k < length (to n).rows = rw (to_same n (omega arith)).rows_count h in
         turn_other q (to n) (to_fit n (omega arith)) n (here n (omega arith)) k hk (λ e. omega arith) ∙ to_rest n (omega arith) k (omega arith) h
 
-    own_by : (n : ℕ) → suc n ≤ length w.rows → (k : ℕ) → k < suc n → (k < n → own_of f (to n) k ≡ grant_alone q (own_of f w k)) → (y : Bool) → eqb k n ≡ y
-        → own_of f (turn_at f q (to n) n) k ≡ grant_alone q (own_of f w k)
-    own_by n l k h done true e =
-        let s : k ≡ n = eqb-true k n e in
-        rw s (turn_own q (to n) (to_fit n (omega arith)) n (here n (omega arith)) ∙ ap (grant_alone q) (to_rest n (omega arith) n (omega arith) (omega arith)))
-    own_by n l k h done false e =
-        let ne = eqb-false k n e in
-        let lt : k < n = omega arith in
-        let hk : k < length (to n).rows = rw (to_same n (omega arith)).rows_count (omega arith) in
-        turn_other q (to n) (to_fit n (omega arith)) n (here n (omega arith)) k hk ne ∙ done lt
-
     -- a job whose turn is over has what its grant leaves of what it had at first
     pub to_own : (n : ℕ) → n ≤ length w.rows → (k : ℕ) → k < n → own_of f (to n) k ≡ grant_alone q (own_of f w k)
     unfolding turns_to
     to_own zero l k h = absurd (omega arith)
-    to_own (suc n) l k h = own_by n l k h (λ g. to_own n (omega arith) k g) (eqb k n) refl
+    to_own (suc n) l k h =
+        below_more (λ i. own_of f (turn_at f q (to n) n) i ≡ grant_alone q (own_of f w i)) n
+        (λ i g. turn_other q (to n) (to_fit n (omega arith)) n (here n (omega arith)) i (rw (to_same n (omega arith)).rows_count (omega arith)) (λ e. omega arith) ∙ to_own n (omega arith) i g)
+        (turn_own q (to n) (to_fit n (omega arith)) n (here n (omega arith)) ∙ ap (grant_alone q) (to_rest n (omega arith) n (omega arith) (omega arith)))
+        k (omega arith)
 
     -- a mark in no job's part stays
     pub to_else : (x : ℕ) → ((k : ℕ) → k < length w.rows → In x (parts_at w.rows k).marks → ⊥) → (n : ℕ) → n ≤ length w.rows → get_or (to n).marks x 0 ≡ get_or w.marks x 0

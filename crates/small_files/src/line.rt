@@ -1,6 +1,5 @@
 // One line for each file.
-use crate::runs;
-use crate::runs::Run;
+use crate::runs::{self, Run};
 use std::io;
 
 // A number that came back, or none for -1.
@@ -11,6 +10,7 @@ pub(crate) fn verdict(rt: &impl Print, v: i32) -> io::Result<()> {
     print!(rt; "{v}")
 }
 
+// A location of 0 is no record, as tlz_check_grant tells it.
 fn ending(rt: &impl Print, r: Run) -> io::Result<()> {
     print!(rt; ": verdict ")?;
     verdict(rt, r.verdict)?;
@@ -25,50 +25,21 @@ fn ending(rt: &impl Print, r: Run) -> io::Result<()> {
     }
 }
 
-fn wide(x: u8) -> u64 {
-    x as u64
-}
+// The offsets of a file's first records.
+const RECORDS: [usize; 5] = [8, 312, 372, 504, 536];
 
-// The mark at an offset, if the record that starts there is to be shown.
-fn mark(rt: &impl Print, m: &[u8], at: usize, is_shown: bool) -> io::Result<()> {
-    if !is_shown {
-        return Ok(());
-    }
-    if at < m.len() {
-        print!(rt; " {at}:{}", wide(m[at]))?;
-    }
-    Ok(())
-}
-
-// The marks of a file's first records.
+// The marks of so many of them.
 fn marks(rt: &impl Print, m: &[u8], records: usize) -> io::Result<()> {
     print!(rt; ", marks")?;
     if records == 0 {
         print!(rt; " none")?;
     }
-    mark(rt, m, 8, 0 < records)?;
-    mark(rt, m, 312, 1 < records)?;
-    mark(rt, m, 372, 2 < records)?;
-    mark(rt, m, 504, 3 < records)?;
-    mark(rt, m, 536, 4 < records)
-}
-
-fn same_marks(a: &[u8], b: &[u8]) -> bool {
-    if a.len() != b.len() {
-        return false;
-    }
-    let mut i = 0;
-    while i < a.len() {
-        if a[i] != b[i] {
-            return false;
+    for at in RECORDS.iter().take(records) {
+        if let Some(mark) = m.get(*at) {
+            print!(rt; " {at}:{mark}")?;
         }
-        i += 1;
     }
-    true
-}
-
-fn same_run(a: Run, b: Run) -> bool {
-    (a.verdict == b.verdict) & (a.location == b.location) & (a.steps == b.steps)
+    Ok(())
 }
 
 // A file checked both ways, each with marks that are first all 7.
@@ -79,14 +50,14 @@ fn checked(rt: &impl Print, file: &[u8], records: usize) -> io::Result<()> {
     marks(rt, &m, records)?;
     let mut n = [7u8; 1062];
     let many = runs::in_many(file, &mut n);
-    if same_run(one, many) & same_marks(&m, &n) {
+    if one == many && m == n {
         println!(rt; ", same in grants of 1")
     } else {
         println!(rt; ", other in grants of 1")
     }
 }
 
-// The line of the file that is the first bytes of f.
+// The line of the file that is the first bytes of f: a buffer of fixed memory, with room for more, and so with a length beside it.
 pub(crate) fn shown(
     rt: &impl Print,
     name: &[u8],
@@ -94,10 +65,9 @@ pub(crate) fn shown(
     length: u32,
     records: usize,
 ) -> io::Result<()> {
-    let n = length as usize;
     rt.write_all(name)?;
-    if f.len() < n {
-        return println!(rt; ": too long");
+    match f.get(..length as usize) {
+        Some(file) => checked(rt, file, records),
+        None => println!(rt; ": too long"),
     }
-    checked(rt, &f[..n], records)
 }

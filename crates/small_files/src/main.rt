@@ -6,11 +6,11 @@ mod line;
 mod parts;
 mod reads;
 mod runs;
-mod store;
 
 use std::io;
 
 // No lists: A whole, B empty, C a byte short.
+// Buffers of a fixed length, here and below: the programs have no heap.
 fn without_lists(rt: &impl Print, name: &[u8], length: u32, records: usize) -> io::Result<()> {
     let mut f = [0u8; 560];
     parts::opening(&mut f, length, 0, 0, 0);
@@ -18,11 +18,11 @@ fn without_lists(rt: &impl Print, name: &[u8], length: u32, records: usize) -> i
 }
 
 // An unlisted record of 8 bytes: D of unused space, E of type 7.
+// The kind is a number: it is written into the file as it is.
 fn unlisted(rt: &impl Print, name: &[u8], kind: u32) -> io::Result<()> {
     let mut f = [0u8; 560];
     parts::opening(&mut f, 380, 0, 0, 0);
-    let record = [8, kind];
-    stored_fields::put_all(&mut f, 372, &record);
+    stored_fields::put_all(&mut f, 372, &[8, kind]);
     line::shown(rt, name, &f, 380, 3)
 }
 
@@ -30,8 +30,7 @@ fn unlisted(rt: &impl Print, name: &[u8], kind: u32) -> io::Result<()> {
 fn listed(rt: &impl Print, name: &[u8], next: u32) -> io::Result<()> {
     let mut f = [0u8; 560];
     parts::opening(&mut f, 388, 0, 0, 372);
-    let record = [16, 0xffff_ffff, next, 0];
-    stored_fields::put_all(&mut f, 372, &record);
+    stored_fields::put_all(&mut f, 372, &[16, 0xffff_ffff, next, 0]);
     line::shown(rt, name, &f, 388, 3)
 }
 
@@ -56,18 +55,15 @@ fn decoded(
     rt: &impl Print,
     name: &[u8],
     encoding: u32,
-    high: u8,
-    low: u8,
+    bytes: [u8; 2],
     rec: i64,
 ) -> io::Result<()> {
     let mut f = [0u8; 550];
     parts::start(&mut f, encoding, 3);
     parts::gdr(&mut f, 550, 372, 1, 0);
     parts::variable(&mut f, 1, 14);
-    store::put_byte(&mut f, 546, high);
-    store::put_byte(&mut f, 547, low);
-    let none = [0i64; 0];
-    reads::shown(rt, name, &f, rec, &none)
+    parts::value(&mut f, bytes);
+    reads::shown(rt, name, &f, rec, &[])
 }
 
 // Sizes 2, 3, both varying, by the flags' majority: index (1, 0).
@@ -75,22 +71,16 @@ fn both_vary(rt: &impl Print, name: &[u8], flags: u32) -> io::Result<()> {
     let mut f = [0u8; 566];
     parts::start(&mut f, 6, flags);
     parts::gdr(&mut f, 566, 372, 1, 0);
-    let sizes = [2, 3];
-    let variances = [0xffff_ffff, 0xffff_ffff];
-    parts::plane(&mut f, &sizes, &variances, 14);
-    let index = [1i64, 0];
-    reads::shown(rt, name, &f, 0, &index)
+    parts::plane(&mut f, &[2, 3], &[0xffff_ffff, 0xffff_ffff], 14);
+    reads::shown(rt, name, &f, 0, &[1, 0])
 }
 
 // Sizes 3, 5, of which only the first varies: index (2, 4).
 fn one_varies(rt: &impl Print, name: &[u8]) -> io::Result<()> {
     let mut f = [0u8; 563];
     parts::opening(&mut f, 563, 372, 1, 0);
-    let sizes = [3, 5];
-    let variances = [0xffff_ffff, 0];
-    parts::plane(&mut f, &sizes, &variances, 11);
-    let index = [2i64, 4];
-    reads::shown(rt, name, &f, 0, &index)
+    parts::plane(&mut f, &[3, 5], &[0xffff_ffff, 0], 11);
+    reads::shown(rt, name, &f, 0, &[2, 4])
 }
 
 // A to I, and more of H: checked in one grant of steps and in grants of one step.
@@ -112,9 +102,9 @@ fn checks(rt: &impl Print) -> io::Result<()> {
 
 // J to M: a value of each.
 fn values(rt: &impl Print) -> io::Result<()> {
-    decoded(rt, b"J", 6, 0xff, 0xfe, 1)?;
-    decoded(rt, b"J, encoding 1", 1, 0xff, 0xfe, 1)?;
-    decoded(rt, b"K", 6, 0, 0, 3)?;
+    decoded(rt, b"J", 6, [0xff, 0xfe], 1)?;
+    decoded(rt, b"J, encoding 1", 1, [0xff, 0xfe], 1)?;
+    decoded(rt, b"K", 6, [0, 0], 3)?;
     both_vary(rt, b"L, row majority", 3)?;
     both_vary(rt, b"L, column majority", 2)?;
     one_varies(rt, b"M")

@@ -2,14 +2,6 @@
 use crate::line;
 use std::io;
 
-// A number of 64 bits, signed.
-fn signed(rt: &impl Print, bits: u64) -> io::Result<()> {
-    if bits < 0x8000_0000_0000_0000 {
-        return print!(rt; "{bits}");
-    }
-    print!(rt; "-{}", 0xffff_ffff_ffff_ffff - bits + 1)
-}
-
 // The line of the first element of a value of the first zVariable.
 pub(crate) fn shown(
     rt: &impl Print,
@@ -33,10 +25,9 @@ pub(crate) fn shown(
         &mut offset,
     );
     rt.write_all(name)?;
+    // The answer of a call for C: 0 where there is a value.
     if number == 0 {
-        print!(rt; ": kind {kind}, value ")?;
-        signed(rt, bits)?;
-        return println!(rt; " at {offset}");
+        return println!(rt; ": kind {kind}, value {} at {offset}", bits.cast_signed());
     }
     print!(rt; ": refused ")?;
     line::verdict(rt, number)?;

@@ -1,13 +1,15 @@
 -- The levels of a saved state: some that are there and, behind them, none. Assumes nothing.
-use mathlib.Core.Path.{◌≡◌, refl, sym, ap, ◌∙◌}
+use mathlib.Core.Path.{◌≡◌, refl, sym, ◌∙◌}
 use mathlib.Core.Logic.{◌⊎◌, inl, inr}
-use mathlib.Core.Bool.{Bool, true, false, and-true, or-true, ◌&&◌, ◌||◌}
+use mathlib.Core.Bool.{Bool, true, false, or-true, or-false, ◌&&◌}
 use mathlib.Core.List.{List, [], ◌∷◌, ◌++◌}
-use Prim.Native.Nat.{◌≤◌}
+use Prim.Native.Nat.{suc, ◌+◌, ◌≤◌}
 use native.Mathlib.Omega.{arith}
 use lib.Dec.{leb, eqb}
 use borrow.Author.Tests.{leb-true, le-leb, eqb-true}
 use Rattle.format.proofs.Tests.{both, either, every}
+use Rattle.std.specs.List.{list_all, prefix_len}
+use lib.ListN.{drop}
 use Rattle.walk.specs.Bounds.{SmallLevel, SmallLevels}
 use Rattle.walk.specs.Levels.{no_level, is_none}
 use Rattle.walk.specs.Ranges.{level_ranges, all_in}
@@ -15,25 +17,6 @@ use Rattle.walk.specs.declared.positions.Level.{Level}
 use Rattle.walk.specs.declared.positions.Levels.{Levels}
 use Rattle.walk.proofs.Closed.{all_in_lem, in_all}
 use Rattle.states.specs.Saved.{level_there, none_there, level_list, none_of, levels_stand}
-
--- ---- tested from the last level up
--- none says whether there is none of ls, there whether they are levels and behind them none
-pub record Tested (ls : List Level) (none there : Bool) : Type 0 where
-  pub none_is : none ≡ none_of ls
-  pub there_is : there ≡ levels_stand ls
-
-pub last_tested : (l : Level) {n t : Bool} → n ≡ none_there l → t ≡ level_there l → Tested (l ∷ []) n (t || n)
-last_tested l {n} {t} e h =
-    let a : n ≡ none_of (l ∷ []) = e ∙ sym (and-true (none_there l)) in
-    let b : t ≡ (level_there l && true) = h ∙ sym (and-true (level_there l)) in
-    record { none_is = a; there_is = ap (λ (x : Bool). x || n) b ∙ ap (λ (x : Bool). level_there l && true || x) a }
-
-pub more_tested : (l : Level) {ls : List Level} {n t none there : Bool}
-    → n ≡ none_there l
-    → t ≡ level_there l
-    → Tested ls none there
-    → Tested (l ∷ ls) (n && none) (t && there || (n && none))
-more_tested l e h k = record { none_is = rw (e, k.none_is); there_is = rw (e, h, k.none_is, k.there_is) }
 
 -- ---- levels and, behind them, none
 abbrev Cases : Level → List Level → Type 0
@@ -97,6 +80,27 @@ none_parts l e =
     let p = every (eqb l.vxr 0 ∷ eqb l.next 0 ∷ eqb l.last 0 ∷ []) e in
     (eqb-true l.vxr 0 (p 0), eqb-true l.next 0 (p 1), eqb-true l.last 0 (p 2))
 
+not_none : (l : Level) → level_there l ≡ true → none_there l ≡ false
+not_none l e = go (none_there l) refl
+  where
+    go : (b : Bool) → none_there l ≡ b → b ≡ false
+    go true h = absurd (omega (arith, (there_parts l e).1, (none_parts l h).1))
+    go false h = refl
+
+-- the levels that are there passed over, none of the others is
+pub stand_is : (ls : List Level) → list_all none_there (drop (prefix_len level_there ls) ls) ≡ levels_stand ls
+stand_is [] = refl
+stand_is (l ∷ ls) = go (level_there l) refl (stand_is ls)
+  where
+    go : (b : Bool)
+        → level_there l ≡ b
+        → list_all none_there (drop (prefix_len level_there ls) ls) ≡ levels_stand ls
+        → list_all none_there (drop (prefix_len level_there (l ∷ ls)) (l ∷ ls)) ≡ levels_stand (l ∷ ls)
+    go true e k =
+        let next : 1 + prefix_len level_there ls ≡ suc (prefix_len level_there ls) = omega arith in
+        rw (e, not_none l e, next) (k ∙ sym (or-false (levels_stand ls)))
+    go false e k = rw e
+
 head_small : (l : Level) (ls : List Level) → levels_stand (l ∷ ls) ≡ true → SmallLevel l
 head_small l ls e = go (cases l ls e)
   where
@@ -124,16 +128,6 @@ head_none l ls z e = go (cases l ls e)
 pub none_head : (l : Level) (ls : List Level) → none_of (l ∷ ls) ≡ true → is_none l ≡ true
 unfolding is_none
 none_head l ls e = every (eqb l.vxr 0 ∷ eqb l.next 0 ∷ eqb l.last 0 ∷ []) (both (none_there l) (none_of ls) e).0 1
-
-pub none_tested : (l : Level) (ls : List Level) → (levels_stand (l ∷ ls) && is_none l) ≡ none_of (l ∷ ls)
-none_tested l ls = go (levels_stand (l ∷ ls)) (is_none l) (none_of (l ∷ ls)) (λ e z. head_none l ls z e) (none_there_lem (l ∷ ls)) (none_head l ls)
-  where
-    go : (s z n : Bool) → (s ≡ true → z ≡ true → n ≡ true) → (n ≡ true → s ≡ true) → (n ≡ true → z ≡ true) → (s && z) ≡ n
-    go true true n h a b = sym (h refl refl)
-    go true false true h a b = b refl
-    go true false false h a b = refl
-    go false z true h a b = a refl
-    go false z false h a b = refl
 
 -- so the numbers of all are in their ranges
 pub levels_small : (up : Levels) → levels_stand (level_list up) ≡ true → SmallLevels up

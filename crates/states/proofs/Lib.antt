@@ -1,3 +1,3 @@
 pub mod LevelLists
-pub mod Same
 pub mod Loads
+pub mod Parts

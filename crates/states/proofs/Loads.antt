@@ -16,7 +16,8 @@ use Rattle.states.specs.declared.state.Stage.TheVariants.{Fresh, Sweep, Walking,
 use Rattle.states.specs.declared.state.State.{State}
 use Rattle.states.specs.Stages.{done, answer_of, location_in}
 use Rattle.states.specs.Saved.{state_length, save_stage, levels_in, save_levels, save_numbers, save}
-use Rattle.states.specs.Saved.{stage_range, stage_by, same_numbers, checked, verdict_range, load}
+use Rattle.states.specs.Saved.{stage_range, stage_by, checked, verdict_range, load}
+use Rattle.std.specs.Cmp.Lexicographic.{pointwise}
 use Rattle.format.proofs.Tests.{both}
 use Rattle.faults.specs.Fault.{fault_at, anywhere, saved_location}
 use Rattle.faults.proofs.Locations.{saved_fault}
@@ -44,7 +45,7 @@ checked_loaded : (s : List ℕ) (n : ℕ) (g : Stage) → Loaded n (checked s n 
 checked_loaded s n g = go (stage_range n g && same) refl
   where
     same : Bool
-    same = same_numbers (save_numbers n g) s
+    same = pointwise eqb (save_numbers n g) s
 
     go : (b : Bool) → (stage_range n g && same) ≡ b → Loaded n (cond b g OutOfRange)
     go true e = loaded_range n g (both (stage_range n g) same e).0
@@ -67,7 +68,7 @@ load_is l = (go (eqb (get_or l 0 0) 0) (verdict_range (get_or l 0 0 - 1)) refl).
     go false false e = record { loaded = tt }
 
 -- ---- of the numbers of a save it makes the state again
-same_own : (l : List ℕ) → same_numbers l l ≡ true
+same_own : (l : List ℕ) → pointwise eqb l l ≡ true
 same_own [] = refl
 same_own (x ∷ xs) = rw (eq-eqb x x refl, same_own xs)
 

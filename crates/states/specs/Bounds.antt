@@ -1,6 +1,8 @@
--- What only the code needs: that a verdict fits, and what a load makes of any numbers. Assumes nothing.
-use Rattle.std.specs.Prelude.{ℕ, ◌≤◌, ◌≡◌, true}
+-- What only the code needs: that a verdict fits, the ranges of a variable alone, and what a load makes of any numbers. Assumes nothing.
+use Rattle.std.specs.Prelude.{ℕ, ◌≤◌, ◌≡◌, true, List, [], ◌∷◌}
 use Rattle.faults.specs.Fault.{saved_location}
+use Rattle.walk.specs.Ranges.{Range, var_kind, offset, count}
+use Rattle.walk.specs.declared.positions.Var.{Var}
 use Rattle.states.specs.Saved.{stage_range, verdict_range}
 use Rattle.states.specs.declared.state.Stage.{Stage}
 use Rattle.states.specs.declared.state.Stage.TheVariants.{Fresh, Sweep, Walking, Done, OutOfRange}
@@ -12,6 +14,10 @@ VerdictFits (Sweep o) = Unit {0}
 VerdictFits (Walking w up) = Unit {0}
 VerdictFits (Done v p) = v ≤ 23
 VerdictFits OutOfRange = Unit {0}
+
+-- the ranges of the variable whose index is walked, as `row_of` has them
+abbrev pub var_ranges : Var → List Range
+var_ranges u = var_kind u.kind ∷ offset u.place ∷ count u.greatest ∷ offset u.vdr ∷ []
 
 -- a verdict that a saved state may tell
 pub record IsVerdict (v : ℕ) : Type 0 where

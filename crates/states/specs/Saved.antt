@@ -1,7 +1,11 @@
 -- The saved state: thirty-four numbers, their ranges, load and save; docs/STATE.md gives them in words. Assumes nothing.
 use Rattle.std.specs.Prelude.{ℕ, suc, ◌+◌, ◌-◌, Bool, true, false, cond, ◌&&◌, ◌||◌, List, [], ◌∷◌, ◌++◌, get_or, leb, eqb}
+use Rattle.std.specs.Prelude as P
+use Rattle.std.specs.Prelude.{Some, None}
+use Rattle.std.specs.List.{list_all}
+use Rattle.std.specs.Cmp.Lexicographic.{pointwise}
 use Rattle.std.proofs.Math.Option.{Option, none, some}
-use Rattle.walk.specs.Ranges.{offset, Row, row_of, ranges_of, level_ranges, number_of, in_range, all_in}
+use Rattle.walk.specs.Ranges.{Range, offset, count, var_kind, Row, row_of, ranges_of, level_ranges, number_of, in_range, all_in}
 use Rattle.walk.specs.Levels.{no_levels, indexed}
 use Rattle.walk.specs.declared.positions.Level.{Level}
 use Rattle.walk.specs.declared.positions.Levels.{Levels}
@@ -77,8 +81,7 @@ abbrev pub level_list : Levels → List Level
 level_list s = s.a ∷ s.b ∷ s.c ∷ s.d ∷ s.e ∷ s.f ∷ s.g ∷ []
 
 abbrev pub none_of : List Level → Bool
-none_of [] = true
-none_of (l ∷ ls) = none_there l && none_of ls
+none_of ls = list_all none_there ls
 
 -- 10.6: "After a level that is not there none is there"
 abbrev pub levels_stand : List Level → Bool
@@ -121,38 +124,29 @@ levels_by s =
       g = level_by s 30;
     }
 
-abbrev pub walking_by : List ℕ → W.Walk → Stage
-walking_by s w = Walking w (levels_by s)
+-- the position of the walk, if the phase has one; 10.3: "The phases, and the numbers that have a meaning there"
+abbrev pub walk_by : List ℕ → ℕ → P.Option W.Walk
+walk_by s phase =
+    cond (eqb phase 2) (Some Start)
+    (cond (eqb phase 3) (Some (Vars (get_or s 3 0) (get_or s 4 0) (get_or s 5 0) (get_or s 6 0)))
+    (cond (eqb phase 4) (Some (Chain (var_by s) (get_or s 4 0) (get_or s 8 0) (get_or s 10 0) (eqb (get_or s 11 0) 1)))
+    (cond (eqb phase 5) (Some (Entry (var_by s) (get_or s 8 0) (get_or s 9 0) (get_or s 10 0) (eqb (get_or s 11 0) 1)))
+    (cond (eqb phase 6) (Some (Attrs (get_or s 4 0) (get_or s 5 0)))
+    (cond (eqb phase 7) (Some (Entries (get_or s 3 0) (get_or s 7 0) (get_or s 5 0) (get_or s 4 0) (get_or s 9 0) (get_or s 10 0)))
+    (cond (eqb phase 8) (Some (Unused (get_or s 4 0) (get_or s 8 0))) None))))))
 
--- the position of the walk in a list, by the phase
-abbrev pub later_by : List ℕ → ℕ → Stage
-later_by s phase =
-    cond (eqb phase 6) (walking_by s (Attrs (get_or s 4 0) (get_or s 5 0)))
-    (cond (eqb phase 7) (walking_by s (Entries (get_or s 3 0) (get_or s 7 0) (get_or s 5 0) (get_or s 4 0) (get_or s 9 0) (get_or s 10 0)))
-    (cond (eqb phase 8) (walking_by s (Unused (get_or s 4 0) (get_or s 8 0))) OutOfRange))
+abbrev pub walking_by : List ℕ → P.Option W.Walk → Stage
+walking_by s None = OutOfRange
+walking_by s (Some w) = Walking w (levels_by s)
 
-abbrev pub list_by : List ℕ → ℕ → Stage
-list_by s phase =
-    cond (eqb phase 3) (walking_by s (Vars (get_or s 3 0) (get_or s 4 0) (get_or s 5 0) (get_or s 6 0)))
-    (cond (eqb phase 4) (walking_by s (Chain (var_by s) (get_or s 4 0) (get_or s 8 0) (get_or s 10 0) (eqb (get_or s 11 0) 1)))
-    (cond (eqb phase 5) (walking_by s (Entry (var_by s) (get_or s 8 0) (get_or s 9 0) (get_or s 10 0) (eqb (get_or s 11 0) 1)))
-    (later_by s phase)))
-
--- the stage that the numbers would be, by their phase; a number that has no place in a stage is not looked at here; 10.3: "The phases, and
--- the numbers that have a meaning there"
+-- the stage that the numbers would be, by their phase; a number that has no place in a stage is not looked at here
 unfoldable pub stage_by : List ℕ → ℕ → Stage
-stage_by s phase = cond (eqb phase 0) Fresh (cond (eqb phase 1) (Sweep (get_or s 4 0)) (cond (eqb phase 2) (walking_by s Start) (list_by s phase)))
-
-abbrev pub same_numbers : List ℕ → List ℕ → Bool
-same_numbers [] [] = true
-same_numbers [] (y ∷ ys) = false
-same_numbers (x ∷ xs) [] = false
-same_numbers (x ∷ xs) (y ∷ ys) = eqb x y && same_numbers xs ys
+stage_by s phase = cond (eqb phase 0) Fresh (cond (eqb phase 1) (Sweep (get_or s 4 0)) (walking_by s (walk_by s phase)))
 
 -- the numbers are those of that stage: each in its range, and those without a place in it 0; 10.8: "a number outside its range or not 0
 -- where it has no meaning"
 abbrev pub checked : List ℕ → ℕ → Stage → Stage
-checked s l g = cond (stage_range l g && same_numbers (save_numbers l g) s) g OutOfRange
+checked s l g = cond (stage_range l g && pointwise eqb (save_numbers l g) s) g OutOfRange
 
 -- 10.7: "Finished is said by number 0 alone": the verdict number alone says so, 0 to 14, 20 and 23; of the others the location is looked
 -- at, where the verdict has one

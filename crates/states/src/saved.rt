@@ -1,17 +1,18 @@
 // The saved state: thirty-four numbers.
-ghost use Rattle.std.specs.Prelude.{◌≡◌, [], ◌∷◌, ◌++◌, ◌+◌, ◌≤◌, length, take};
-ghost use Rattle.states.specs.Bounds.{VerdictFits};
+ghost use Rattle.std.specs.Prelude.{◌≡◌, ◌+◌, ◌≤◌, [], ◌∷◌};
+ghost use Rattle.states.specs.Bounds.{VerdictFits, var_ranges};
 ghost use Rattle.states.specs.Stages.{done, answer_of, location_in};
-ghost use Rattle.walk.specs.Ranges.{row_of};
-ghost use Rattle.states.specs.Saved.{state_length, bit, save_row, save_stage, levels_in, save_levels, save, walk_range, level_there, none_there, level_list, none_of, levels_stand, levels_range, stage_range, var_by, level_by, levels_by, walking_by, later_by, list_by, stage_by, same_numbers, checked, load};
+ghost use Rattle.walk.specs.Ranges.{offset, link, count, row_of, in_range, all_in};
+ghost use Rattle.states.specs.Saved.{state_length, bit, save_row, save_stage, levels_in, save_levels, save, walk_range, level_there, none_there, level_list, none_of, levels_stand, levels_range, stage_range, var_by, level_by, levels_by, walk_by, stage_by, checked, load};
+ghost use Rattle.walk.specs.declared.positions.Walk.TheVariants.{Entries};
 
-use crate::state;
-use crate::state::{Stage, State};
+use crate::state::{STATE_LENGTH, Stage, State};
 use faults::fault;
 use walk::levels;
 use walk::positions::{Level, Levels, Var, Walk};
 
 // A finished check.
+// A number: a check may be finished with any verdict.
 pub fn finished(verdict: u32, location: u32) -> State
     ensures { result ≡ done verdict location }
 {
@@ -21,11 +22,25 @@ pub fn finished(verdict: u32, location: u32) -> State
     }
 }
 
-// 1 for true, 0 for false.
-fn bit_of(b: bool) -> u32
-    ensures { result ≡ bit b }
+// The numbers of a position in the index of a variable.
+// Its numbers one by one, as the two positions have them: a struct would be made in walk_numbers and taken apart here at once.
+fn index_numbers(
+    l: u32,
+    phase: u32,
+    u: Var,
+    link: u32,
+    before: u32,
+    entry: u32,
+    floor: u32,
+    covered: bool,
+) -> [u32; 12]
+    ensures { result ≡ 0 ∷ l ∷ phase ∷ u.kind ∷ link ∷ u.place ∷ u.greatest ∷ u.vdr
+        ∷ before ∷ entry ∷ floor ∷ bit covered ∷ [] }
 {
-    if b { 1 } else { 0 }
+    let covered = u32::from(covered);
+    [
+        0, l, phase, u.kind, link, u.place, u.greatest, u.vdr, before, entry, floor, covered,
+    ]
 }
 
 // The numbers of a position of the walk.
@@ -41,45 +56,19 @@ fn walk_numbers(l: u32, w: Walk) -> [u32; 12]
             greatest,
         } => [0, l, 3, kind, link, count, greatest, 0, 0, 0, 0, 0],
         Walk::Chain {
-            var,
+            var: u,
             link,
             before,
             floor,
             covered,
-        } => [
-            0,
-            l,
-            4,
-            var.kind,
-            link,
-            var.place,
-            var.greatest,
-            var.vdr,
-            before,
-            0,
-            floor,
-            bit_of(covered),
-        ],
+        } => index_numbers(l, 4, u, link, before, 0, floor, covered),
         Walk::Entry {
-            var,
+            var: u,
             vxr,
             entry,
             floor,
             covered,
-        } => [
-            0,
-            l,
-            5,
-            var.kind,
-            0,
-            var.place,
-            var.greatest,
-            var.vdr,
-            vxr,
-            entry,
-            floor,
-            bit_of(covered),
-        ],
+        } => index_numbers(l, 5, u, 0, vxr, entry, floor, covered),
         Walk::Attrs { link, count } => [0, l, 6, 0, link, count, 0, 0, 0, 0, 0, 0],
         Walk::Entries {
             kind,
@@ -94,6 +83,7 @@ fn walk_numbers(l: u32, w: Walk) -> [u32; 12]
 }
 
 // The first twelve numbers of a stage.
+// A number: a finished check takes every verdict that a step is given, so that the sum fits is asked for here.
 fn stage_numbers(l: u32, g: Stage) -> [u32; 12]
     requires { VerdictFits g }
     ensures { result ≡ save_stage l g }
@@ -101,11 +91,8 @@ fn stage_numbers(l: u32, g: Stage) -> [u32; 12]
     match g {
         Stage::Fresh => [0, l, 0, 0, 0, 0, 0, 0, 0, 0, 0, 0],
         Stage::Sweep { at } => [0, l, 1, 0, at, 0, 0, 0, 0, 0, 0, 0],
-        Stage::Walking { walk, up: _ } => walk_numbers(l, walk),
-        Stage::Done {
-            verdict,
-            location: _,
-        } => [verdict + 1, l, 0, 0, 0, 0, 0, 0, 0, 0, 0, 0],
+        Stage::Walking { walk, .. } => walk_numbers(l, walk),
+        Stage::Done { verdict, .. } => [verdict + 1, l, 0, 0, 0, 0, 0, 0, 0, 0, 0, 0],
         Stage::OutOfRange => [0, l, 9, 0, 0, 0, 0, 0, 0, 0, 0, 0],
     }
 }
@@ -115,11 +102,8 @@ fn levels_in(g: Stage) -> Levels
     ensures { result ≡ levels_in g }
 {
     match g {
-        Stage::Fresh => levels::no_levels(),
-        Stage::Sweep { at: _ } => levels::no_levels(),
-        Stage::Walking { walk: _, up } => up,
-        Stage::Done { .. } => levels::no_levels(),
-        Stage::OutOfRange => levels::no_levels(),
+        Stage::Walking { up, .. } => up,
+        _ => levels::no_levels(),
     }
 }
 
@@ -128,32 +112,56 @@ pub fn location_in(g: Stage) -> u32
     ensures { result ≡ location_in g }
 {
     match g {
-        Stage::Fresh => 0,
-        Stage::Sweep { at: _ } => 0,
-        Stage::Walking { walk: _, up: _ } => 0,
-        Stage::Done {
-            verdict: _,
-            location,
-        } => location,
-        Stage::OutOfRange => 0,
+        Stage::Done { location, .. } => location,
+        _ => 0,
     }
 }
 
 // -1 for a check that is not finished, or its verdict.
+// That the verdict fits is asked for: a finished check may have any.
 pub fn answer(g: Stage) -> i32
     requires { VerdictFits g }
     ensures { result ≡ answer_of g }
 {
     match g {
-        Stage::Fresh => -1,
-        Stage::Sweep { at: _ } => -1,
-        Stage::Walking { walk: _, up: _ } => -1,
-        Stage::Done {
-            verdict,
-            location: _,
-        } => verdict as i32,
-        Stage::OutOfRange => -1,
+        Stage::Done { verdict, .. } => verdict.cast_signed(),
+        _ => -1,
     }
+}
+
+// An offset, a place in a list or the number of an entry in its range.
+// This and the next two are one comparison each: each has the name of its range (crates/walk/specs/Ranges.antt).
+fn is_offset(n: u32) -> bool
+    ensures { result ≡ in_range (offset n) }
+{
+    n <= 2147483647
+}
+
+// Where a link stands in its range.
+fn is_link(n: u32) -> bool
+    ensures { result ≡ in_range (link n) }
+{
+    n <= 2147483711
+}
+
+// A count or a number + 1 in its range.
+fn is_count(n: u32) -> bool
+    ensures { result ≡ in_range (count n) }
+{
+    n <= 2147483648
+}
+
+// Those of a position in an attribute's list of entries.
+// Its numbers one by one, as Walk::Entries has them; the kind is one of them.
+fn entries_range(kind: u32, adr: u32, place: u32, link: u32, count: u32, greatest: u32) -> bool
+    ensures { result ≡ walk_range (Entries kind adr place link count greatest) }
+{
+    matches!(kind, 5 | 9)
+        & is_link(link)
+        & is_offset(place)
+        & is_offset(adr)
+        & is_count(count)
+        & is_count(greatest)
 }
 
 // The numbers of a position of the walk are in their ranges.
@@ -167,43 +175,22 @@ fn walk_range(w: Walk) -> bool
             link,
             count,
             greatest,
-        } => {
-            ((kind == 3) | (kind == 8))
-                & (link <= 2147483711)
-                & (count <= 2147483648)
-                & (greatest <= 2147483648)
-        }
+        } => { matches!(kind, 3 | 8) & is_link(link) & is_count(count) & is_count(greatest) }
         Walk::Chain {
             var,
             link,
             before,
             floor,
-            covered: _,
-        } => {
-            ((var.kind == 3) | (var.kind == 8))
-                & (link <= 2147483711)
-                & (var.place <= 2147483647)
-                & (var.greatest <= 2147483648)
-                & (var.vdr <= 2147483647)
-                & (before <= 2147483647)
-                & (floor <= 2147483648)
-        }
+            ..
+        } => { var_range(var) & is_link(link) & is_offset(before) & is_count(floor) }
         Walk::Entry {
             var,
             vxr,
             entry,
             floor,
-            covered: _,
-        } => {
-            ((var.kind == 3) | (var.kind == 8))
-                & (var.place <= 2147483647)
-                & (var.greatest <= 2147483648)
-                & (var.vdr <= 2147483647)
-                & (vxr <= 2147483647)
-                & (entry <= 2147483647)
-                & (floor <= 2147483648)
-        }
-        Walk::Attrs { link, count } => (link <= 2147483711) & (count <= 2147483648),
+            ..
+        } => { var_range(var) & is_offset(vxr) & is_offset(entry) & is_count(floor) }
+        Walk::Attrs { link, count } => is_link(link) & is_count(count),
         Walk::Entries {
             kind,
             adr,
@@ -211,80 +198,64 @@ fn walk_range(w: Walk) -> bool
             link,
             count,
             greatest,
-        } => {
-            ((kind == 5) | (kind == 9))
-                & (link <= 2147483711)
-                & (place <= 2147483647)
-                & (adr <= 2147483647)
-                & (count <= 2147483648)
-                & (greatest <= 2147483648)
-        }
-        Walk::Unused { link, before } => (link <= 2147483711) & (before <= 2147483647),
+        } => entries_range(kind, adr, place, link, count, greatest),
+        Walk::Unused { link, before } => is_link(link) & is_offset(before),
     }
+}
+
+// Those of the variable whose index is walked.
+fn var_range(v: Var) -> bool
+    ensures { result ≡ all_in (var_ranges v) }
+{
+    matches!(v.kind, 3 | 8) & is_offset(v.place) & is_count(v.greatest) & is_offset(v.vdr)
 }
 
 // The numbers of a level that is there.
 fn level_there(l: Level) -> bool
     ensures { result ≡ level_there l }
 {
-    (1 <= l.next) & ((l.vxr <= 2147483647) & (l.next <= 2147483648) & (l.last <= 2147483647))
+    (1 <= l.next) & is_offset(l.vxr) & is_count(l.next) & is_offset(l.last)
 }
 
 // The numbers of one that is not.
+// A function: its definition has this name, and the law stand_is goes by it.
 fn none_there(l: Level) -> bool
     ensures { result ≡ none_there l }
 {
-    (l.vxr == 0) & (l.next == 0) & (l.last == 0)
+    l == levels::no_level()
+}
+
+// The levels, the nearest first.
+fn level_list(s: Levels) -> [Level; 7]
+    ensures { result ≡ level_list s }
+{
+    [s.a, s.b, s.c, s.d, s.e, s.f, s.g]
 }
 
 // After a level that is not there none is there.
 fn levels_stand(s: Levels) -> bool
     ensures { result ≡ levels_stand (level_list s) }
 {
-    let a = s.a;
-    let b = s.b;
-    let c = s.c;
-    let d = s.d;
-    let e = s.e;
-    let f = s.f;
-    let g = s.g;
-    let none_g = none_there(g);
-    let none_f = none_there(f) & none_g;
-    let none_e = none_there(e) & none_f;
-    let none_d = none_there(d) & none_e;
-    let none_c = none_there(c) & none_d;
-    let none_b = none_there(b) & none_c;
-    let none_a = none_there(a) & none_b;
-    let from_g = level_there(g) | none_g;
-    let from_f = (level_there(f) & from_g) | none_f;
-    let from_e = (level_there(e) & from_f) | none_e;
-    let from_d = (level_there(d) & from_e) | none_d;
-    let from_c = (level_there(c) & from_d) | none_c;
-    let from_b = (level_there(b) & from_c) | none_b;
-    (level_there(a) & from_b) | none_a
+    level_list(s)
+        .iter()
+        .skip_while(|l| level_there(**l))
+        .all(|l| none_there(*l))
 }
 
-// No level is there: the nearest is not.
+// No level is there.
 fn none_of(s: Levels) -> bool
     ensures { result ≡ none_of (level_list s) }
 {
-    let nearest = s.a;
-    levels_stand(s) & levels::is_none(nearest)
+    level_list(s).iter().all(|l| none_there(*l))
 }
 
 // Levels stand above an index record alone.
 fn levels_range(up: Levels, w: Walk) -> bool
     ensures { result ≡ levels_range up w }
 {
-    let none = none_of(up);
     match w {
-        Walk::Start => none,
-        Walk::Vars { .. } => none,
-        Walk::Chain { .. } => levels_stand(up),
-        Walk::Entry { .. } => levels_stand(up),
-        Walk::Attrs { .. } => none,
-        Walk::Entries { .. } => none,
-        Walk::Unused { .. } => none,
+        Walk::Chain { .. } | Walk::Entry { .. } => levels_stand(up),
+        _ => none_of(up),
     }
 }
 
@@ -292,19 +263,17 @@ fn levels_range(up: Levels, w: Walk) -> bool
 fn stage_range(l: u32, g: Stage) -> bool
     ensures { result ≡ stage_range l g }
 {
-    let known = (372 <= l) & (l <= 2147483647);
+    let known = (372 <= l) & is_offset(l);
     match g {
         Stage::Fresh => l == 0,
-        Stage::Sweep { at } => known & (8 <= at) & (at <= 2147483647),
+        Stage::Sweep { at } => known & (8 <= at) & is_offset(at),
         Stage::Walking { walk, up } => known & walk_range(walk) & levels_range(up, walk),
-        Stage::Done { .. } => false,
-        Stage::OutOfRange => false,
+        Stage::Done { .. } | Stage::OutOfRange => false,
     }
 }
 
 // The variable that the numbers tell of.
-fn var_of(s: &[u32]) -> Var
-    requires { length s.now ≡ state_length }
+fn var_of(s: &[u32; STATE_LENGTH]) -> Var
     ensures { result ≡ var_by s.now }
 {
     Var {
@@ -316,8 +285,8 @@ fn var_of(s: &[u32]) -> Var
 }
 
 // The level that the numbers from a place in the list on tell of.
-fn level_of(s: &[u32], p: usize) -> Level
-    requires { p + 3 ≤ length s.now }
+fn level_of(s: &[u32; STATE_LENGTH], p: usize) -> Level
+    requires { p + 3 ≤ state_length }
     ensures { result ≡ level_by s.now p }
 {
     Level {
@@ -328,245 +297,132 @@ fn level_of(s: &[u32], p: usize) -> Level
 }
 
 // The levels that the numbers tell of.
-fn levels_of(s: &[u32]) -> Levels
-    requires { length s.now ≡ state_length }
+fn levels_of(s: &[u32; STATE_LENGTH]) -> Levels
     ensures { result ≡ levels_by s.now }
 {
-    let a = level_of(s, 12);
-    let b = level_of(s, 15);
-    let c = level_of(s, 18);
-    let d = level_of(s, 21);
-    let e = level_of(s, 24);
-    let f = level_of(s, 27);
-    let g = level_of(s, 30);
     Levels {
-        a,
-        b,
-        c,
-        d,
-        e,
-        f,
-        g,
+        a: level_of(s, 12),
+        b: level_of(s, 15),
+        c: level_of(s, 18),
+        d: level_of(s, 21),
+        e: level_of(s, 24),
+        f: level_of(s, 27),
+        g: level_of(s, 30),
     }
 }
 
-// The position of the walk in a list that the numbers tell of, by their phase.
-fn list_of(s: &[u32], phase: u32) -> Stage
-    requires { length s.now ≡ state_length }
-    ensures { result ≡ list_by s.now phase }
+// The position of the walk that the numbers tell of, if their phase has one.
+// The phase is a saved number: load promises its answer for every one.
+fn walk_of(s: &[u32; STATE_LENGTH], phase: u32) -> Option<Walk>
+    ensures { result ≡ walk_by s.now phase }
 {
-    if phase == 3 {
-        return walking(
-            s,
-            Walk::Vars {
-                kind: s[3],
-                link: s[4],
-                count: s[5],
-                greatest: s[6],
-            },
-        );
-    }
-    if phase == 4 {
-        return walking(
-            s,
-            Walk::Chain {
-                var: var_of(s),
-                link: s[4],
-                before: s[8],
-                floor: s[10],
-                covered: s[11] == 1,
-            },
-        );
-    }
-    if phase == 5 {
-        return walking(
-            s,
-            Walk::Entry {
-                var: var_of(s),
-                vxr: s[8],
-                entry: s[9],
-                floor: s[10],
-                covered: s[11] == 1,
-            },
-        );
-    }
-    later_list_of(s, phase)
-}
-
-// The same for the lists after the variables.
-fn later_list_of(s: &[u32], phase: u32) -> Stage
-    requires { length s.now ≡ state_length }
-    ensures { result ≡ later_by s.now phase }
-{
-    if phase == 6 {
-        return walking(
-            s,
-            Walk::Attrs {
-                link: s[4],
-                count: s[5],
-            },
-        );
-    }
-    if phase == 7 {
-        return walking(
-            s,
-            Walk::Entries {
-                kind: s[3],
-                adr: s[7],
-                place: s[5],
-                link: s[4],
-                count: s[9],
-                greatest: s[10],
-            },
-        );
-    }
-    if phase == 8 {
-        return walking(
-            s,
-            Walk::Unused {
-                link: s[4],
-                before: s[8],
-            },
-        );
-    }
-    Stage::OutOfRange
-}
-
-// A stage of the walk, with the levels that the numbers tell of.
-fn walking(s: &[u32], w: Walk) -> Stage
-    requires { length s.now ≡ state_length }
-    ensures { result ≡ walking_by s.now w }
-{
-    Stage::Walking {
-        walk: w,
-        up: levels_of(s),
+    let (kind, link, count, before, entry, floor) = (s[3], s[4], s[5], s[8], s[9], s[10]);
+    match phase {
+        2 => Some(Walk::Start),
+        3 => Some(Walk::Vars {
+            kind,
+            link,
+            count,
+            greatest: s[6],
+        }),
+        4 => Some(Walk::Chain {
+            var: var_of(s),
+            link,
+            before,
+            floor,
+            covered: s[11] == 1,
+        }),
+        5 => Some(Walk::Entry {
+            var: var_of(s),
+            vxr: before,
+            entry,
+            floor,
+            covered: s[11] == 1,
+        }),
+        6 => Some(Walk::Attrs { link, count }),
+        7 => Some(Walk::Entries {
+            kind,
+            adr: s[7],
+            place: count,
+            link,
+            count: entry,
+            greatest: floor,
+        }),
+        8 => Some(Walk::Unused { link, before }),
+        _ => None,
     }
 }
 
 // The stage that the numbers tell of, by their phase.
-fn stage_of(s: &[u32], phase: u32) -> Stage
-    requires { length s.now ≡ state_length }
+// The phase is a saved number: load promises its answer for every one.
+#[tactic(auto, unfolding(crate::specs::Saved::stage_by))]
+fn stage_of(s: &[u32; STATE_LENGTH], phase: u32) -> Stage
     ensures { result ≡ stage_by s.now phase }
 {
-    if phase == 0 {
-        return Stage::Fresh;
+    match phase {
+        0 => Stage::Fresh,
+        1 => Stage::Sweep { at: s[4] },
+        _ => walk_of(s, phase).map_or(
+            Stage::OutOfRange,
+            |walk| Stage::Walking {
+                walk,
+                up: levels_of(s),
+            },
+        ),
     }
-    if phase == 1 {
-        return Stage::Sweep { at: s[4] };
-    }
-    if phase == 2 {
-        return walking(s, Walk::Start);
-    }
-    list_of(s, phase)
-}
-
-// Two lists of numbers are the same.
-fn same_numbers(a: &[u32], s: &[u32]) -> bool
-    requires { (length a.now ≡ state_length) × (length s.now ≡ state_length) }
-    ensures { result ≡ same_numbers a.now s.now }
-{
-    let mut i = 0;
-    while i < state::STATE_LENGTH {
-        if a[i] != s[i] {
-            return false;
-        }
-        i += 1;
-    }
-    true
 }
 
 // A stage, or that its numbers are not those of a saved state.
-fn checked_stage(s: &[u32], l: u32, g: Stage) -> Stage
-    requires { length s.now ≡ state_length }
-    ensures { result ≡ checked s.now l g }
+fn checked_stage(s: &[u32; STATE_LENGTH], length: u32, stage: Stage) -> Stage
+    ensures { result ≡ checked s.now length stage }
 {
-    if !stage_range(l, g) {
+    if !stage_range(length, stage) {
         return Stage::OutOfRange;
     }
-    let mut own = [0u32; state::STATE_LENGTH];
-    save_state(
-        &mut own,
-        State {
-            length: l,
-            stage: g,
-        },
-    );
-    if !same_numbers(&own, s) {
-        return Stage::OutOfRange;
-    }
-    g
+    let mut own = [0; STATE_LENGTH];
+    save_state(&mut own, State { length, stage });
+    if own == *s { stage } else { Stage::OutOfRange }
 }
 
 // A state from its numbers.
-pub fn load_state(s: &[u32]) -> State
-    requires { length s.now ≡ state_length }
+#[tactic(auto, unfolding(crate::specs::Saved::load))]
+pub fn load_state(s: &[u32; STATE_LENGTH]) -> State
     ensures { result ≡ load s.now }
 {
-    let first = s[0];
-    let l = s[1];
-    if first == 0 {
+    let length = s[1];
+    if s[0] == 0 {
         return State {
-            length: l,
-            stage: checked_stage(s, l, stage_of(s, s[2])),
+            length,
+            stage: checked_stage(s, length, stage_of(s, s[2])),
         };
     }
-    let verdict = first - 1;
-    if (verdict <= 14) | (verdict == 20) | (verdict == 23) {
+    let verdict = s[0] - 1;
+    if matches!(verdict, 0..=14 | 20 | 23) {
         return finished(verdict, fault::saved_location(verdict, s[33]));
     }
     State {
-        length: l,
+        length,
         stage: Stage::OutOfRange,
     }
 }
 
-// The numbers of the levels and the location into a slice, behind the first twelve.
-fn save_rest(s: &mut [u32], up: Levels, location: u32)
-    requires { length s.old ≡ state_length }
-    ensures { s.new ≡ take 12 s.old ++ (save_levels up ++ (location ∷ [])) }
+// The numbers of the levels.
+fn levels_numbers(s: Levels) -> [u32; 21]
+    ensures { result ≡ save_levels s }
 {
-    let a = up.a;
-    let b = up.b;
-    let c = up.c;
-    let d = up.d;
-    let e = up.e;
-    let f = up.f;
-    let g = up.g;
-    s[12] = a.vxr;
-    s[13] = a.next;
-    s[14] = a.last;
-    s[15] = b.vxr;
-    s[16] = b.next;
-    s[17] = b.last;
-    s[18] = c.vxr;
-    s[19] = c.next;
-    s[20] = c.last;
-    s[21] = d.vxr;
-    s[22] = d.next;
-    s[23] = d.last;
-    s[24] = e.vxr;
-    s[25] = e.next;
-    s[26] = e.last;
-    s[27] = f.vxr;
-    s[28] = f.next;
-    s[29] = f.last;
-    s[30] = g.vxr;
-    s[31] = g.next;
-    s[32] = g.last;
-    s[33] = location;
+    let [a, b, c, d, e, f, g] = level_list(s);
+    [
+        a.vxr, a.next, a.last, b.vxr, b.next, b.last, c.vxr, c.next, c.last, d.vxr, d.next, d.last,
+        e.vxr, e.next, e.last, f.vxr, f.next, f.last, g.vxr, g.next, g.last,
+    ]
 }
 
-// The numbers of a state into a slice.
-pub fn save_state(s: &mut [u32], t: State)
-    requires { (length s.old ≡ state_length) × VerdictFits t.stage }
+// The numbers of a state into an array.
+pub fn save_state(s: &mut [u32; STATE_LENGTH], t: State)
+    requires { VerdictFits t.stage }
     ensures { s.new ≡ save t }
 {
-    let g = t.stage;
-    let a = stage_numbers(t.length, g);
-    save_rest(s, levels_in(g), location_in(g));
-    let mut i = 0;
-    while i < 12 {
-        s[i] = a[i];
-        i += 1;
-    }
+    s[..12].copy_from_slice(&stage_numbers(t.length, t.stage));
+    s[12..33].copy_from_slice(&levels_numbers(levels_in(t.stage)));
+    s[33] = location_in(t.stage);
 }

@@ -14,10 +14,7 @@ pub fn put(f: &mut [u8], at: usize, n: u32)
     if f.len() - 4 < at {
         return;
     }
-    f[at] = (n / 16777216) as u8;
-    f[at + 1] = (n / 65536 % 256) as u8;
-    f[at + 2] = (n / 256 % 256) as u8;
-    f[at + 3] = (n % 256) as u8;
+    f[at..at + 4].copy_from_slice(&n.to_be_bytes());
 }
 
 // Stores control fields one after the other, as far as they end where the file does or before.
@@ -25,13 +22,11 @@ pub fn put_all(f: &mut [u8], at: usize, fields: &[u32])
     ensures { f.new ≡ stored_all f.old at fields.now }
 {
     let mut to = at;
-    let mut i = 0;
-    while i < fields.len() {
+    for n in fields {
         if f.len() < to {
             return;
         }
-        put(f, to, fields[i]);
+        put(f, to, *n);
         to += 4;
-        i += 1;
     }
 }

@@ -7,23 +7,23 @@ use native.Mathlib.Omega.{arith}
 use lib.Dec.{T, ltb, eqb, eqb→eq}
 use lib.Ieee.{Format, binary32, binary64, of_bits, top}
 use lib.Ieee.Bits.{to_bits-of_bits}
+use Rattle.std.specs.Prelude.{Option, Some, None, Result, Ok, Err}
 use Rattle.format.specs.Bytes.{OfBytes, big_at, little_at}
 use Rattle.format.specs.Fields.{end_of}
-use Rattle.format.specs.Types.{signed, unsigned, single, double, type_of}
-use Rattle.format.specs.Encodings.{big, vax_d, encoding_of}
+use Rattle.format.specs.Types.{signed, unsigned, single, double, type_of, size_in, kind_in}
+use Rattle.format.specs.Encodings.{big, vax_d, encoding_of, order_in, float_in}
 use Rattle.format.proofs.Widths.{big_lt, little_lt}
 use Rattle.vax.specs.Layouts.{Kind, ffloat, dfloat, gfloat}
 use Rattle.vax.specs.Vax.{reserved_at, NearestAt, ExactAt}
 use Rattle.vax.specs.Rounding.{vax_at}
-use Rattle.vax.specs.declared.Vax.{Vax}
 use Rattle.vax.proofs.Floats.{numbers_right}
 use Rattle.vax.proofs.ThreeKinds.{bytes_right}
 use Rattle.values.specs.Agreement.{FloatBits, Agrees, VaxGiven}
 use Rattle.values.specs.Bounds.{Element}
 use Rattle.values.specs.Values.{raw_at, value_of, bits_of, answer_of, is_vax, vax_kind, reserved_float, vax_answer, is_nothing, decoded_of}
 use Rattle.values.specs.declared.value.Answer.{Answer}
-use Rattle.values.specs.declared.value.Decoded.{Decoded}
-use Rattle.values.specs.declared.value.Decoded.TheVariants.{Given, Reserved, Nothing}
+use Rattle.values.specs.declared.value.Undecoded.{Undecoded}
+use Rattle.values.specs.declared.value.Undecoded.TheVariants.{Reserved, Nothing}
 use Rattle.values.proofs.Rows.{within, element}
 
 -- ---- floats and their bits
@@ -73,29 +73,29 @@ module _ (f : List ℕ) (at kind float : ℕ) where
 -- THE THEOREM: what an element is, by what it was decoded to
 module _ (f : List ℕ) (at t e : ℕ) where
   abbrev kind : ℕ
-  kind = (type_of t).kind
+  kind = kind_in (type_of t)
 
   abbrev float : ℕ
-  float = (encoding_of e).float
+  float = float_in (encoding_of e)
 
   abbrev size : ℕ
-  size = (type_of t).size
+  size = size_in (type_of t)
 
   pub record GivenRight (a : Answer) : Type 0 where
     pub offset : a.offset ≡ at
     pub plain : reserved_float f at kind float ≡ false
     pub bits : OfBytes f → Agrees a.value a.bits
     pub vax : is_vax kind float ≡ true → VaxGiven f at kind float a
-    pub stored : is_vax kind float ≡ false → eqb kind signed ≡ false → a.bits ≡ raw_at f at size (encoding_of e).order
+    pub stored : is_vax kind float ≡ false → eqb kind signed ≡ false → a.bits ≡ raw_at f at size (order_in (encoding_of e))
 
-  abbrev pub Decodes : Decoded → Type 0
-  Decodes (Given a) = GivenRight a
-  Decodes Reserved = reserved_float f at kind float ≡ true
-  Decodes Nothing = is_nothing f at size (encoding_of e).order ≡ true
+  abbrev pub Decodes : Result Answer Undecoded → Type 0
+  Decodes (Ok a) = GivenRight a
+  Decodes (Err Reserved) = reserved_float f at kind float ≡ true
+  Decodes (Err Nothing) = is_nothing f at size (order_in (encoding_of e)) ≡ true
 
-  vax_decodes : is_vax kind float ≡ true → (v : Vax) → vax_at (vax_kind kind float) f at ≡ v → Decodes (vax_answer v at)
+  vax_decodes : is_vax kind float ≡ true → (v : Option ℕ) → vax_at (vax_kind kind float) f at ≡ v → Decodes (vax_answer v at)
   unfolding reserved_float reserved_at
-  vax_decodes i (Vax.Given r) q =
+  vax_decodes i (Some r) q =
       let n = subst (NearestAt (vax_kind kind float) f at) q (nearest f at kind float) in
       record {
         offset = refl;
@@ -106,38 +106,38 @@ module _ (f : List ℕ) (at t e : ℕ) where
           number = numbers_right r n.2.finite;
           nearest = n;
           exact = λ s. subst (ExactAt ffloat f at) q (exact f at kind float s);
-          exact_if = (bytes_right f at).exact_if (vax_kind kind float) (Vax.Given r) n;
+          exact_if = (bytes_right f at).exact_if (vax_kind kind float) (Some r) n;
         };
         stored = λ j. absurd (true≢false (sym i ∙ j));
       }
-  vax_decodes i Vax.Reserved q = rw i (subst (NearestAt (vax_kind kind float) f at) q (nearest f at kind float))
+  vax_decodes i None q = rw i (subst (NearestAt (vax_kind kind float) f at) q (nearest f at kind float))
 
   -- an element that is there has a size
-  sized : is_nothing f at size (encoding_of e).order ≡ false → 0 < size
+  sized : is_nothing f at size (order_in (encoding_of e)) ≡ false → 0 < size
   unfolding is_nothing
   sized h = go size h
     where
-      go : (n : ℕ) → (eqb n 0 || (eqb (encoding_of e).order 0 || ltb (end_of f) (at + n))) ≡ false → 0 < n
+      go : (n : ℕ) → (eqb n 0 || (eqb (order_in (encoding_of e)) 0 || ltb (end_of f) (at + n))) ≡ false → 0 < n
       go zero q = absurd (true≢false q)
       go (suc n) q = omega arith
 
-  plain_decodes : is_nothing f at size (encoding_of e).order ≡ false → is_vax kind float ≡ false
-      → GivenRight (answer_of kind size (raw_at f at size (encoding_of e).order) at)
+  plain_decodes : is_nothing f at size (order_in (encoding_of e)) ≡ false → is_vax kind float ≡ false
+      → GivenRight (answer_of kind size (raw_at f at size (order_in (encoding_of e))) at)
   unfolding reserved_float bits_of
   plain_decodes h i = record {
     offset = refl;
     plain = rw i;
-    bits = λ b. number_agrees kind size _ (element t (type_of t) refl _ (sized h) (raw_lt f at size (encoding_of e).order b));
+    bits = λ b. number_agrees kind size _ (element t _ (sized h) (raw_lt f at size (order_in (encoding_of e)) b));
     vax = λ j. absurd (true≢false (sym j ∙ i));
     stored = λ j k. rw k;
   }
 
   pub decodes : Decodes (decoded_of f at t e)
   unfolding decoded_of
-  decodes = go (is_nothing f at size (encoding_of e).order) refl (is_vax kind float) refl
+  decodes = go (is_nothing f at size (order_in (encoding_of e))) refl (is_vax kind float) refl
     where
-      go : (b : Bool) → is_nothing f at size (encoding_of e).order ≡ b → (c : Bool) → is_vax kind float ≡ c
-          → Decodes (cond b Nothing (cond c (vax_answer (vax_at (vax_kind kind float) f at) at) (Given (answer_of kind size (raw_at f at size (encoding_of e).order) at))))
+      go : (b : Bool) → is_nothing f at size (order_in (encoding_of e)) ≡ b → (c : Bool) → is_vax kind float ≡ c
+          → Decodes (cond b (Err Nothing) (cond c (vax_answer (vax_at (vax_kind kind float) f at) at) (Ok (answer_of kind size (raw_at f at size (order_in (encoding_of e))) at))))
       go true h c i = h
       go false h true i = vax_decodes i (vax_at (vax_kind kind float) f at) refl
       go false h false i = plain_decodes h i

@@ -1,5 +1,5 @@
 -- What holds of every value that is given: its bits agree with it, and a VAX float is the nearest double. Assumes nothing.
-use Rattle.std.specs.Prelude.{ℕ, ◌^◌, ◌≡◌, true, false, List, eqb, Float}
+use Rattle.std.specs.Prelude.{ℕ, ◌^◌, ◌≡◌, true, false, List, eqb, Float, Some}
 use Rattle.std.specs.Float.{Format, binary32, binary64}
 use Rattle.std.specs.Float.Ieee.{of_bits, to_bits, is_nan}
 use Rattle.std.specs.Float.Ieee.Exact.{HasValue}
@@ -7,7 +7,6 @@ use Rattle.format.specs.Types.{single}
 use Rattle.vax.specs.Doubles.{sign_of, units_of}
 use Rattle.vax.specs.Layouts.{ffloat}
 use Rattle.vax.specs.Vax.{NearestAt, ExactAt, ExactIf}
-use Rattle.vax.specs.declared.Vax.TheVariants.{Given}
 use Rattle.values.specs.Values.{extended_of, vax_kind}
 use Rattle.values.specs.declared.value.Value.{Value}
 use Rattle.values.specs.declared.value.Value.TheVariants.{Signed, Unsigned, Single, Double, Code}
@@ -33,7 +32,7 @@ pub record VaxGiven (f : List ℕ) (at kind float : ℕ) (a : Answer) : Type 0 w
   -- of the number that its bits say
   pub number : HasValue (of_bits binary64 a.bits) (sign_of a.bits) (units_of a.bits) (2 ^ 1074)
   -- 15.5: "nearest, ties to an even last bit"
-  pub nearest : NearestAt (vax_kind kind float) f at (Given a.bits)
+  pub nearest : NearestAt (vax_kind kind float) f at (Some a.bits)
   -- 15.6: "F_FLOAT comes out exact"; any other does where a double is the value
-  pub exact : eqb kind single ≡ true → ExactAt ffloat f at (Given a.bits)
-  pub exact_if : ExactIf (vax_kind kind float) f at (Given a.bits)
+  pub exact : eqb kind single ≡ true → ExactAt ffloat f at (Some a.bits)
+  pub exact_if : ExactIf (vax_kind kind float) f at (Some a.bits)

@@ -1,22 +1,21 @@
 -- Values: the element at an offset, by its data type and its encoding. Assumes nothing.
-use Rattle.std.specs.Prelude.{ℕ, suc, ◌+◌, ◌-◌, ◌*◌, ◌^◌, Bool, not, cond, ◌&&◌, ◌||◌, List, eqb, ltb, ℤ, pos, negsuc}
+use Rattle.std.specs.Prelude.{ℕ, suc, ◌+◌, ◌-◌, ◌*◌, ◌^◌, Bool, not, cond, ◌&&◌, ◌||◌, List, eqb, ltb, ℤ, pos, negsuc, Option, Some, None, Result, Ok, Err}
 use Rattle.std.specs.Float.{binary32, binary64}
 use Rattle.std.specs.Float.Ieee.{of_bits}
 use Rattle.format.specs.Bytes.{big_at, little_at, signed_of}
 use Rattle.format.specs.Fields.{end_of}
-use Rattle.format.specs.Types.{signed, unsigned, single, double, code, type_of}
-use Rattle.format.specs.Encodings.{big, ieee, vax_d, encoding_of}
+use Rattle.format.specs.Types.{signed, unsigned, single, double, code, type_of, size_in, kind_in}
+use Rattle.format.specs.Encodings.{big, ieee, vax_d, encoding_of, order_in, float_in}
 use Rattle.format.specs.declared.types.DataType.{DataType}
 use Rattle.format.specs.declared.encodings.Encoding.{Encoding}
 use Rattle.vax.specs.Layouts.{Kind, ffloat, dfloat, gfloat}
 use Rattle.vax.specs.Vax.{reserved_at}
 use Rattle.vax.specs.Rounding.{vax_at}
-use Rattle.vax.specs.declared.Vax.{Vax}
 use Rattle.values.specs.declared.value.Value.{Value}
 use Rattle.values.specs.declared.value.Value.TheVariants.{Signed, Unsigned, Single, Double, Code}
 use Rattle.values.specs.declared.value.Answer.{Answer}
-use Rattle.values.specs.declared.value.Decoded.{Decoded}
-use Rattle.values.specs.declared.value.Decoded.TheVariants.{Given, Reserved, Nothing}
+use Rattle.values.specs.declared.value.Undecoded.{Undecoded}
+use Rattle.values.specs.declared.value.Undecoded.TheVariants.{Reserved, Nothing}
 
 -- 14.5: "one case per kind, signed, unsigned, single, double or character code": the number of each
 abbrev pub kind_of : Value → ℕ
@@ -73,21 +72,21 @@ reserved_float f at kind float = is_vax kind float && reserved_at (vax_kind kind
 abbrev pub vax_given : ℕ → ℕ → Answer
 vax_given r at = record { value = Double (of_bits binary64 r); bits = r; offset = at }
 
-abbrev pub vax_answer : Vax → ℕ → Decoded
-vax_answer (Vax.Given r) at = Given (vax_given r at)
-vax_answer Vax.Reserved at = Reserved
+abbrev pub vax_answer : Option ℕ → ℕ → Result Answer Undecoded
+vax_answer (Some r) at = Ok (vax_given r at)
+vax_answer None at = Err Reserved
 
 -- no data type's size, no encoding's byte order, or an element that does not lie before the file's end
 unfoldable pub is_nothing : List ℕ → ℕ → ℕ → ℕ → Bool
 is_nothing f at size order = eqb size 0 || (eqb order 0 || ltb (end_of f) (at + size))
 
 -- 2.3: "22 comes last"
-abbrev pub decoded_by : List ℕ → ℕ → DataType → Encoding → Decoded
+abbrev pub decoded_by : List ℕ → ℕ → Option DataType → Option Encoding → Result Answer Undecoded
 decoded_by f at d c =
-    cond (is_nothing f at d.size c.order) Nothing
-    (cond (is_vax d.kind c.float) (vax_answer (vax_at (vax_kind d.kind c.float) f at) at)
-    (Given (answer_of d.kind d.size (raw_at f at d.size c.order) at)))
+    cond (is_nothing f at (size_in d) (order_in c)) (Err Nothing)
+    (cond (is_vax (kind_in d) (float_in c)) (vax_answer (vax_at (vax_kind (kind_in d) (float_in c)) f at) at)
+    (Ok (answer_of (kind_in d) (size_in d) (raw_at f at (size_in d) (order_in c)) at)))
 
 -- the element at an offset, of the data type t in the encoding e
-unfoldable pub decoded_of : List ℕ → ℕ → ℕ → ℕ → Decoded
+unfoldable pub decoded_of : List ℕ → ℕ → ℕ → ℕ → Result Answer Undecoded
 decoded_of f at t e = decoded_by f at (type_of t) (encoding_of e)

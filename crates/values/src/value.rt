@@ -1,17 +1,19 @@
 // Values of the file: the element at an offset, by its data type and its encoding.
 ghost use Rattle.std.specs.Prelude.{◌≡◌, ◌+◌, ◌-◌, ◌*◌, ◌^◌, ◌≤◌, ◌<◌, length};
 ghost use Rattle.format.specs.Bytes.{signed_of};
-ghost use Rattle.format.specs.Types.{signed};
+ghost use Rattle.format.specs.Types.{signed, kind_number};
+ghost use Rattle.format.specs.Encodings.{order_number, float_number};
 ghost use Rattle.values.specs.Bounds.{Element};
 ghost use Rattle.vax.specs.Rounding.{vax_at};
-ghost use Rattle.values.specs.Values.{raw_at, extended_of, value_of, bits_of, answer_of, is_vax, vax_kind, vax_bytes, vax_answer, decoded_of};
+ghost use Rattle.values.specs.Values.{raw_at, value_of, bits_of, answer_of, is_vax, vax_kind, vax_bytes, vax_answer, decoded_of};
 
 use crate::floats;
-use format::{bytes, encodings, fields, signed, types};
-use vax::Vax;
+use format::encodings::{ByteOrder, FloatKind};
+use format::types::Kind;
+use format::{bytes, encodings, fields, types};
 
 // A value: one case for each kind.
-#[derive(Clone, Copy)]
+#[derive(Clone, Copy, Debug, PartialEq)]
 pub enum Value {
     Signed(i32),
     Unsigned(u32),
@@ -22,154 +24,143 @@ pub enum Value {
 
 // A value, its bits, and the file offset that it was read from. The bits of a signed value are
 // sign-extended; those of a float are its own, a NaN's too, and those of a VAX float are the double's.
-#[derive(Clone, Copy)]
+#[derive(Clone, Copy, Debug, PartialEq)]
 pub struct Answer {
     pub value: Value,
     pub bits: u64,
     pub offset: u64,
 }
 
-// What is at an offset: a value, the reserved operand of VAX floats, or no element.
-#[derive(Clone, Copy)]
-pub enum Decoded {
-    Given(Answer),
+// Why there is no value at an offset: the reserved operand of VAX floats is there, or no element.
+#[derive(Clone, Copy, Debug, PartialEq, Eq)]
+pub enum Undecoded {
     Reserved,
     Nothing,
 }
 
-// The number of the n bytes at an offset, in a byte order: 1 big-endian, any other little-endian.
-fn raw(f: &[u8], at: usize, n: usize, order: u32) -> u64
+// The number of the n bytes at an offset, in a byte order.
+// 8 bytes at most, as big and little ask.
+#[tactic(auto, unfolding(crate::specs::Values::raw_at))]
+fn raw(f: &[u8], at: usize, n: usize, order: ByteOrder) -> u64
     requires { (at + n ≤ length f.now) × (n ≤ 8) }
-    ensures { (result ≡ raw_at f.now at n order) × (result < 256 ^ n) }
+    ensures { (result ≡ raw_at f.now at n (order_number order)) × (result < 256 ^ n) }
 {
-    if order == 1 {
-        bytes::big(f, at, n)
-    } else {
-        bytes::little(f, at, n)
+    match order {
+        ByteOrder::Big => bytes::big(f, at, n),
+        ByteOrder::Little => bytes::little(f, at, n),
     }
 }
 
-// The number of 1, 2 or 4 bytes as two's complement.
-fn signed_of(n: u64, size: u32) -> i32
-    requires { Element signed size n }
-    ensures { result ≡ signed_of (8 * size - 1) n }
-{
-    if size == 1 {
-        signed::signed1(n as u8) as i32
-    } else if size == 2 {
-        signed::signed2(n as u16) as i32
-    } else {
-        signed::signed4(n as u32)
-    }
+// The number of an element: of as many bytes as a data type of its kind takes.
+#[derive(Clone, Copy)]
+struct Number {
+    kind: Kind,
+    size: u32,
+    n: u64,
+    ghost fits: { Element (kind_number kind) size n },
 }
 
-// A signed number as two's complement of 64 bits.
-fn extended(x: i32) -> u64
-    ensures { result ≡ extended_of x }
-{
-    if x < 0 {
-        0xffff_ffff_ffff_ffff - ((-1 - x) as u64)
-    } else {
-        x as u64
+impl Number {
+    // The number of 1, 2 or 4 bytes as two's complement.
+    fn signed(self) -> i32
+        requires { kind_number self.kind ≡ signed }
+        ensures { result ≡ signed_of (8 * self.size - 1) self.n }
+    {
+        match self.size {
+            1 => i32::from((self.n as u8).cast_signed()),
+            2 => i32::from((self.n as u16).cast_signed()),
+            _ => (self.n as u32).cast_signed(),
+        }
     }
-}
 
-// The value of a number of size bytes, by its kind.
-fn value_of(kind: u32, size: u32, n: u64) -> Value
-    requires { Element kind size n }
-    ensures { result ≡ value_of kind size n }
-{
-    match kind {
-        0 => Value::Signed(signed_of(n, size)),
-        1 => Value::Unsigned(n as u32),
-        2 => Value::Single(floats::single_of(n as u32)),
-        3 => Value::Double(floats::double_of(n)),
-        _ => Value::Code(n as u8),
+    // The value, by the kind.
+    #[tactic(auto, unfolding(crate::specs::Values::value_of))]
+    fn value(self) -> Value
+        ensures { result ≡ value_of (kind_number self.kind) self.size self.n }
+    {
+        match self.kind {
+            Kind::Signed => Value::Signed(self.signed()),
+            Kind::Unsigned => Value::Unsigned(self.n as u32),
+            Kind::Single => Value::Single(floats::single_of(self.n as u32)),
+            Kind::Double => Value::Double(floats::double_of(self.n)),
+            Kind::Code => Value::Code(self.n as u8),
+        }
     }
-}
 
-// The bits of that value: of a signed one sign-extended.
-fn bits_of(kind: u32, size: u32, n: u64) -> u64
-    requires { Element kind size n }
-    ensures { result ≡ bits_of kind size n }
-{
-    if kind == 0 {
-        extended(signed_of(n, size))
-    } else {
-        n
+    // The bits of that value: of a signed one sign-extended.
+    #[tactic(auto, unfolding(crate::specs::Values::bits_of))]
+    fn bits(self) -> u64
+        ensures { result ≡ bits_of (kind_number self.kind) self.size self.n }
+    {
+        match self.kind {
+            Kind::Signed => i64::from(self.signed()).cast_unsigned(),
+            _ => self.n,
+        }
     }
-}
 
-// The answer of a number of size bytes that was read at an offset.
-fn answer_of(kind: u32, size: u32, n: u64, at: u64) -> Answer
-    requires { Element kind size n }
-    ensures { result ≡ answer_of kind size n at }
-{
-    Answer {
-        value: value_of(kind, size, n),
-        bits: bits_of(kind, size, n),
-        offset: at,
+    // The answer, where it was read at an offset.
+    fn answer(self, at: u32) -> Answer
+        ensures { result ≡ answer_of (kind_number self.kind) self.size self.n at }
+    {
+        Answer {
+            value: self.value(),
+            bits: self.bits(),
+            offset: u64::from(at),
+        }
     }
 }
 
 // Single or double, and the float kind is not IEEE 754.
-fn is_vax(kind: u32, float: u32) -> bool
-    ensures { result ≡ is_vax kind float }
+#[tactic(auto, unfolding(crate::specs::Values::is_vax))]
+fn is_vax(kind: Kind, float: FloatKind) -> bool
+    ensures { result ≡ is_vax (kind_number kind) (float_number float) }
 {
-    if float == 1 {
-        return false;
-    }
-    kind == 2 || kind == 3
+    float != FloatKind::Ieee && matches!(kind, Kind::Single | Kind::Double)
 }
 
 // The VAX float at an offset: a single is an F_FLOAT, a double a D_FLOAT or a G_FLOAT by the float kind.
-fn vax_at(f: &[u8], at: usize, kind: u32, float: u32) -> Vax
-    requires { at + vax_bytes kind ≤ length f.now }
-    ensures { result ≡ vax_at (vax_kind kind float) f.now at }
+fn vax_at(f: &[u8], at: usize, kind: Kind, float: FloatKind) -> Option<u64>
+    requires { at + vax_bytes (kind_number kind) ≤ length f.now }
+    ensures { result ≡ vax_at (vax_kind (kind_number kind) (float_number float)) f.now at }
 {
-    if kind == 2 {
-        return vax::f_float(f, at);
+    match (kind, float) {
+        (Kind::Single, _) => vax::f_float(f, at),
+        (_, FloatKind::VaxD) => vax::d_float(f, at),
+        _ => vax::g_float(f, at),
     }
-    if float == 2 {
-        return vax::d_float(f, at);
-    }
-    vax::g_float(f, at)
 }
 
 // A VAX float as an answer: a double and its bits.
-fn vax_answer(v: Vax, at: u64) -> Decoded
+fn vax_answer(v: Option<u64>, at: u32) -> Result<Answer, Undecoded>
     ensures { result ≡ vax_answer v at }
 {
-    match v {
-        Vax::Given(n) => Decoded::Given(Answer {
-            value: Value::Double(floats::double_of(n)),
-            bits: n,
-            offset: at,
-        }),
-        Vax::Reserved => Decoded::Reserved,
-    }
+    let bits = v.ok_or(Undecoded::Reserved)?;
+    Ok(Answer {
+        value: Value::Double(floats::double_of(bits)),
+        bits,
+        offset: u64::from(at),
+    })
 }
 
-// The element at an offset, of a data type in an encoding.
-pub fn decode(f: &[u8], at: u32, t: u32, e: u32) -> Decoded
+// The element at an offset, of a data type in an encoding, by their numbers: a field of a file may hold any number.
+#[tactic(auto, unfolding(crate::specs::Values::decoded_of, crate::specs::Values::is_nothing))]
+pub fn decode(f: &[u8], at: u32, t: u32, e: u32) -> Result<Answer, Undecoded>
     ensures { result ≡ decoded_of f.now at t e }
 {
-    let d = types::type_of(t);
-    let c = encodings::encoding_of(e);
-    let size = d.size;
-    let order = c.order;
-    if size == 0 {
-        return Decoded::Nothing;
-    }
-    if order == 0 {
-        return Decoded::Nothing;
-    }
-    if fields::end(f) < at as usize + size as usize {
-        return Decoded::Nothing;
+    let d = types::type_of(t).ok_or(Undecoded::Nothing)?;
+    let c = encodings::encoding_of(e).ok_or(Undecoded::Nothing)?;
+    let place = at as usize;
+    let size = d.size as usize;
+    if fields::end(f) < place + size {
+        return Err(Undecoded::Nothing);
     }
     if is_vax(d.kind, c.float) {
-        return vax_answer(vax_at(f, at as usize, d.kind, c.float), at as u64);
+        return vax_answer(vax_at(f, place, d.kind, c.float), at);
     }
-    let n = raw(f, at as usize, size as usize, order);
-    Decoded::Given(answer_of(d.kind, size, n, at as u64))
+    let number = Number {
+        kind: d.kind,
+        size: d.size,
+        n: raw(f, place, size, c.order),
+    };
+    Ok(number.answer(at))
 }

@@ -1,9 +1,9 @@
 -- Sums and products up to the limit. Assumes nothing.
-use mathlib.Core.Path.{◌≡◌, refl, sym, ap, ◌∙◌}
+use mathlib.Core.Path.{◌≡◌, refl, sym, ◌∙◌}
 use mathlib.Core.Bool.{Bool, true, false}
 use mathlib.Core.List.{List}
 use Prim.Native.Nat.{ℕ, zero, suc, ◌+◌, ◌-◌, ◌*◌, ◌≤◌, ◌<◌}
-use native.Mathlib.Nat.{mul-le-mul, mul-zero, mul-one, mul_assoc, le_refl, add-zero}
+use native.Mathlib.Nat.{mul-le-mul, mul-zero, mul-one, mul_assoc, le_refl, add-zero, sub-zero}
 use native.Mathlib.Omega.{arith}
 use lib.Dec.{ltb, leb}
 use borrow.Author.Tests.{leb-true, leb-false, lt-ltb, le-ltb}
@@ -51,15 +51,23 @@ capped_on a (suc b) c = go (leb a 2147483648) refl
 pub capped_times : (a b : ℕ) → capped (capped a * b) ≡ capped (a * b)
 capped_times a b = simp add-zero at (capped_on a b 0)
 
+-- the values that n dimensions make, sizes from p and variances from q on, from dimension d on
+abbrev pub values_from : List ℕ → ℕ → ℕ → ℕ → ℕ → ℕ
+values_from f n p q d = values_per_record f (n - d) (p + 4 * d) (q + 4 * d)
+
 module _ (f : List ℕ) (n p q : ℕ) where
-  -- the first dimension, and the rest
-  values_first : 0 < n → values_per_record f n p q ≡ factor_of f p q * values_per_record f (n - 1) (p + 4) (q + 4)
-  unfolding values_per_record
-  values_first h = let up : suc (n - 1) ≡ n = omega arith in ap (λ (k : ℕ). values_per_record f k p q) (sym up)
+  pub values_all : (a : ℕ) → capped (capped a * values_from f n p q 0) ≡ capped (a * values_per_record f n p q)
+  values_all a = capped_times a _ ∙ rw (mul-zero, add-zero, add-zero, sub-zero)
 
-  pub values_more : (a : ℕ) → 0 < n → capped (capped (a * factor_of f p q) * values_per_record f (n - 1) (p + 4) (q + 4)) ≡ capped (a * values_per_record f n p q)
-  values_more a h = capped_times (a * factor_of f p q) _ ∙ rw (mul_assoc, values_first h)
+  module _ (d a : ℕ) where
+    -- dimension d, and the rest
+    pub values_more : d < n → capped (capped (a * factor_of f (p + 4 * d) (q + 4 * d)) * values_from f n p q (d + 1)) ≡ capped (a * values_from f n p q d)
+    unfolding values_per_record
+    values_more h =
+        let up : n - d ≡ suc (n - (d + 1)) = omega arith in
+        let next : (k : ℕ) → k + 4 * (d + 1) ≡ k + 4 * d + 4 = λ k. omega arith in
+        capped_times (a * factor_of f (p + 4 * d) (q + 4 * d)) _ ∙ rw (up, next p, next q, mul_assoc)
 
-  pub values_none : (a : ℕ) → a ≤ 2147483648 → n ≤ 0 → capped (a * values_per_record f n p q) ≡ a
-  unfolding values_per_record
-  values_none a h e = let z : n ≡ 0 = omega arith in rw (z, mul-one) (capped_small a h)
+    pub values_none : a ≤ 2147483648 → n ≤ d → capped (a * values_from f n p q d) ≡ a
+    unfolding values_per_record
+    values_none h e = let z : n - d ≡ 0 = omega arith in rw (z, mul-one) (capped_small a h)

@@ -4,3 +4,4 @@ pub mod Product
 pub mod Bound
 pub mod Numbering
 pub mod Rule
+mod Shapes

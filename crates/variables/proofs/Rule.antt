@@ -19,7 +19,7 @@ use Rattle.records.specs.Rules.{size_at, reach_of}
 use Rattle.records.specs.Attributes.{element_size}
 use Rattle.records.proofs.Judged.{Reach, reach_cases, reach_reads, reach_makes}
 use Rattle.variables.specs.declared.vdr.Layout.{Layout}
-use Rattle.variables.specs.declared.vdr.Variable.{Variable}
+use Rattle.variables.specs.Vdr.{Variable}
 use Rattle.variables.specs.Limit.{capped}
 use Rattle.variables.specs.Bounds.{LayoutInside}
 use Rattle.variables.specs.Vdr.{carried_of, vdr_fields, head_of, num_dims_at, count_right, layout_of, value_bytes, size_exact, dimensions_right, values_per_record, record_bytes, vdr_fault, dimensioned, variable_of}
@@ -148,9 +148,6 @@ module _ (f : List ℕ) (k o : ℕ) where
         p.dimensions,
         le-ltb 2147483647 (record_bytes f o dims) p.small,
       )
-
-  pub vdr_law : (variable_of f k o).fault ≡ 0 ↔ VdrParts f k o
-  vdr_law = (vdr_reads, λ p. rw (vdr_makes p) refl)
 
   -- the record bytes that a VVR is judged by
   pub vdr_bytes : VdrParts f k o → ((variable_of f k o).fault ≡ 0) × ((variable_of f k o).bytes ≡ record_bytes f o dims)

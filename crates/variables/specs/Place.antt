@@ -1,12 +1,9 @@
 -- The place of an element in a record, by majority and variances. Assumes nothing.
-use Rattle.std.specs.Prelude.{ℕ, zero, suc, ◌+◌, ◌-◌, ◌*◌, Bool, true, cond, ◌&&◌, List, length, get_or, leb, eqb, ℤ, pos, negsuc}
+use Rattle.std.specs.Prelude.{ℕ, zero, suc, ◌+◌, ◌-◌, ◌*◌, Bool, true, cond, ◌&&◌, List, length, get_or, leb, eqb, ℤ, pos, negsuc, Option, Some, None}
 use Rattle.std.specs.Int.Signed.{le_z, lt_z}
 use Rattle.format.specs.Fields.{end_of, is_at, nat_at, nat_or}
 use Rattle.variables.specs.Limit.{capped}
 use Rattle.variables.specs.declared.vdr.Layout.{Layout}
-use Rattle.variables.specs.declared.vdr.Variable.{Variable}
-use Rattle.variables.specs.declared.place.Place.{Place}
-use Rattle.variables.specs.declared.place.Place.TheVariants.{At, Wrong}
 
 -- 14.3: "Row majority: last varying index runs fastest; column: first": of n dimensions, the j-th from the slowest
 abbrev pub slower : Bool → ℕ → ℕ → ℕ
@@ -62,6 +59,6 @@ placed f l is =
     && row_fits f l.variances l.count
     && indices_right f l.sizes is l.count
 
--- the place that indices give in a record of a variable
-unfoldable pub place_of : List ℕ → Variable → Bool → List ℤ → Place
-place_of f v row is = cond (placed f v.dimensions is) (At (capped (element_place f v.dimensions row is))) Wrong
+-- the place that indices give in a record of a variable with these dimensions
+unfoldable pub place_of : List ℕ → Layout → Bool → List ℤ → Option ℕ
+place_of f l row is = cond (placed f l is) (Some (capped (element_place f l row is))) None

@@ -1,13 +1,15 @@
 -- Variables: the rule of a VDR of either kind, and record bytes. A kind is a record type: 8 for zVariables, 3 for rVariables. Assumes nothing.
-use Rattle.std.specs.Prelude.{ℕ, zero, suc, ◌+◌, ◌*◌, Bool, cond, ◌&&◌, ◌||◌, List, ltb, leb, eqb, pos, negsuc}
+use Rattle.std.specs.Prelude.{ℕ, zero, suc, ◌+◌, ◌*◌, Bool, cond, ◌&&◌, ◌||◌, List, ltb, leb, eqb, pos, negsuc, Result, Ok, Err}
 use Rattle.format.specs.Bytes.{big_at}
 use Rattle.format.specs.Fields.{end_of, is_at, at_least, within_at, each_within, nat_at, bit_at}
 use Rattle.records.specs.Layout.{r_num_dims_at, data_type_at, max_rec_at, var_flags_at, s_records_at, elements_at, r_variances_at, z_num_dims_at}
 use Rattle.records.specs.Rules.{size_at, reach_of}
 use Rattle.records.specs.Opening.{gdr_at}
 use Rattle.records.specs.Attributes.{element_size}
+use Rattle.records.specs.declared.breaches.Breach.{Breach}
+use Rattle.records.specs.Breaches.{number_of}
 use Rattle.variables.specs.declared.vdr.Layout.{Layout}
-use Rattle.variables.specs.declared.vdr.Variable.{Variable}
+use Rattle.variables.specs.declared.vdr.Shape.{Shape}
 use Rattle.variables.specs.Limit.{capped}
 
 -- 5.15: "14 looks at Flags only in a VDR of 32 bytes or more": 14 if bit 2 is set there, else 0. Where the file ends before them the VDR's
@@ -80,8 +82,23 @@ values_per_record f (suc n) p q = factor_of f p q * values_per_record f n (p + 4
 unfoldable pub record_bytes : List ℕ → ℕ → Layout → ℕ
 record_bytes f o l = value_bytes f o * values_per_record f l.count l.sizes l.variances
 
+-- a VDR: the number of its rule, and where that is 0 its dimensions, the bytes of a value and the bytes of a record
+pub record Variable : Type 0 where
+  pub fault : ℕ
+  pub dimensions : Layout
+  pub value : ℕ
+  pub bytes : ℕ
+
+abbrev pub shape_of : Variable → Shape
+shape_of v = record { dimensions = v.dimensions; value = v.value; bytes = v.bytes }
+
 abbrev pub vdr_fault : ℕ → Variable
 vdr_fault v = record { fault = v; dimensions = record { count = 0; sizes = 0; variances = 0 }; value = 0; bytes = 0 }
+
+-- what a shape, or the breach in its place, says of a VDR
+abbrev pub variable_told : Result Shape Breach → Variable
+variable_told (Ok s) = record { fault = 0; dimensions = s.dimensions; value = s.value; bytes = s.bytes }
+variable_told (Err b) = vdr_fault (number_of b)
 
 -- a VDR whose fields are right, with its dimensions: 10 unless its size is exact; 20 if the dimensions pass the file's end; 10 unless they
 -- are right; 5.13: "Above 2,147,483,647 the VDR breaks its rule"

@@ -1,81 +1,52 @@
 // Variables: the rule of a VDR of either kind, and record bytes. A kind is a record type: 8 for zVariables, 3 for rVariables.
-ghost use Rattle.std.specs.Prelude.{◌≡◌, ◌+◌, ◌*◌, ◌≤◌, ◌<◌, length};
+ghost use Rattle.std.specs.Prelude.{◌≡◌, ◌+◌, ◌≤◌, ◌<◌, length};
 ghost use Rattle.records.specs.Attributes.{element_size};
-ghost use Rattle.variables.specs.Bounds.{LayoutFits, LayoutInside};
-ghost use Rattle.variables.specs.Limit.{capped};
-ghost use Rattle.variables.specs.Vdr.{carried_of, vdr_fields, head_of, num_dims_at, count_right, r_sizes_at, layout_of, value_bytes, factor_of, size_exact, dimensions_right, values_per_record, vdr_fault, dimensioned, variable_of};
+ghost use Rattle.records.specs.Breaches.{told};
+ghost use Rattle.records.specs.Layout.{data_type_at};
+ghost use Rattle.variables.specs.Bounds.{LayoutFits};
+ghost use Rattle.variables.specs.Vdr.{carried_of, vdr_fields, head_of, num_dims_at, count_right, r_sizes_at, layout_of, value_bytes, size_exact, variable_told, shape_of, dimensioned, variable_of};
 
+use crate::dimensions::Dimensions;
 use crate::limit;
 use format::{bytes, fields};
+use records::breaches::{Breach, check};
 use records::{attributes, layout, rules};
 
 // The dimensions of a variable: how many, and where their sizes and variances stand.
-#[derive(Clone, Copy)]
+#[derive(Clone, Copy, Debug, PartialEq, Eq)]
 pub struct Layout {
     pub count: usize,
     pub sizes: usize,
     pub variances: usize,
 }
 
-// A VDR: the number of its rule, and where that is 0 its dimensions, the bytes of a value and the bytes of a record.
-#[derive(Clone, Copy)]
-pub struct Variable {
-    pub fault: u32,
+// The shape of a variable: its dimensions, the bytes of a value and the bytes of a record.
+#[derive(Clone, Copy, Debug, PartialEq, Eq)]
+pub struct Shape {
     pub dimensions: Layout,
     pub value: u64,
     pub bytes: u64,
 }
 
-// 14 for a VDR of compressed values whose flags lie in it and before the file's end, else 0.
-pub fn carried(f: &[u8], at: u32) -> u32
-    ensures { result ≡ carried_of f.now at }
+// A VDR has no compressed values, or its flags do not lie in it and before the file's end.
+pub fn carried(f: &[u8], at: u32) -> Result<(), Breach>
+    ensures { told result ≡ carried_of f.now at }
 {
     let o = at as usize;
     if fields::end(f) < o + 32 {
-        return 0;
+        return Ok(());
     }
     if fields::nat_at(f, o) < 32 {
-        return 0;
+        return Ok(());
     }
-    if fields::bit(f, o + layout::VAR_FLAGS, 4) {
-        return 14;
-    }
-    0
+    check(!fields::bit(f, o + layout::VAR_FLAGS, 4), Breach::Uncarried)
 }
 
-// The fields of a VDR but those of its dimensions. Its elements have element bytes.
-fn vdr_fields(f: &[u8], o: usize, element: u32) -> bool
-    requires { (o + 128 ≤ length f.now) × (element ≡ element_size f.now (o + 12)) }
-    ensures { result ≡ vdr_fields f.now o }
-{
-    let single = fields::is(f, o + layout::DATA_TYPE, 51)
-        | fields::is(f, o + layout::DATA_TYPE, 52)
-        | fields::is(f, o + layout::ELEMENTS, 1);
-    (1 <= element)
-        & fields::at_least(f, o + layout::MAX_REC, -1)
-        & (bytes::big4(f, o + layout::VAR_FLAGS) < 8)
-        & fields::within(f, o + layout::S_RECORDS, 0, 2)
-        & fields::at_least(f, o + layout::ELEMENTS, 1)
-        & single
-}
-
-// The bytes of a VDR before its dimensions.
+// The bytes of a VDR before its dimensions. The kind is a number, as in `variable_at`.
 fn head_of(kind: u32) -> u32
     ensures { (result ≡ head_of kind) × (128 ≤ result) }
 {
     if kind == 8 { 132 } else { 128 }
-}
-
-// Where the number of its dimensions stands.
-fn num_dims_at(f: &[u8], kind: u32, o: usize) -> usize
-    requires { (o + 128 ≤ length f.now) × (o < 4294967296) }
-    ensures { (result ≡ num_dims_at f.now kind o) × (result < 8589934592) }
-{
-    if kind == 8 {
-        o + layout::Z_NUM_DIMS
-    } else {
-        fields::link_at(f, layout::GDR_LINK) as usize + layout::R_NUM_DIMS
-    }
 }
 
 // There are 0 to 10 dimensions.
@@ -98,172 +69,155 @@ fn r_sizes_at(o: usize, p: usize, n: usize) -> usize
     }
 }
 
-// The dimensions that are counted at p.
-fn dimensions_at(f: &[u8], kind: u32, o: usize, p: usize) -> Layout
-    requires { (o < 4294967296) × (p < 8589934592) × (p + 4 ≤ length f.now) × (p ≡ num_dims_at f.now kind o) }
-    ensures { (result ≡ layout_of f.now kind o) × LayoutFits result }
-{
-    let n = fields::nat_at(f, p) as usize;
-    if kind == 8 {
-        Layout {
-            count: n,
-            sizes: p + 4,
-            variances: p + 4 + 4 * n,
+// A VDR of a kind whose first 128 bytes, those of its fields before the dimensions, lie in the file, with the bytes of an element of its data type.
+#[derive(Clone, Copy)]
+struct Head<'a> {
+    file: &'a [u8],
+    kind: u32,
+    at: u32,
+    element: u32,
+    ghost inside: { at + 128 ≤ length file.now },
+    ghost typed: { (element ≡ element_size file.now (data_type_at at)) × (element ≤ 8) },
+}
+
+impl<'a> Head<'a> {
+    // The fields but those of the dimensions.
+    fn is_right(&self) -> bool
+        ensures { result ≡ vdr_fields self.now.file.now self.now.at }
+    {
+        let f = self.file;
+        let o = self.at as usize;
+        let single = fields::is(f, o + layout::DATA_TYPE, 51)
+            | fields::is(f, o + layout::DATA_TYPE, 52)
+            | fields::is(f, o + layout::ELEMENTS, 1);
+        (1 <= self.element)
+            & fields::at_least(f, o + layout::MAX_REC, -1)
+            & (bytes::big4(f, o + layout::VAR_FLAGS) < 8)
+            & fields::within(f, o + layout::S_RECORDS, 0, 2)
+            & fields::at_least(f, o + layout::ELEMENTS, 1)
+            & single
+    }
+
+    // Where the number of its dimensions stands.
+    fn num_dims_at(&self) -> usize
+        ensures { (result ≡ num_dims_at self.now.file.now self.now.kind self.now.at) × (result < 8589934592) }
+    {
+        if self.kind == 8 {
+            self.at as usize + layout::Z_NUM_DIMS
+        } else {
+            fields::link_at(self.file, layout::GDR_LINK) as usize + layout::R_NUM_DIMS
         }
-    } else {
-        Layout {
-            count: n,
-            sizes: r_sizes_at(o, p, n),
-            variances: o + layout::R_VARIANCES,
+    }
+
+    // The dimensions that are counted at p.
+    fn dimensions_at(&self, p: usize) -> Layout
+        requires inside { p + 4 ≤ length self.now.file.now }
+        requires counted { p ≡ num_dims_at self.now.file.now self.now.kind self.now.at }
+        requires near { p < 8589934592 }
+        ensures { (result ≡ layout_of self.now.file.now self.now.kind self.now.at) × LayoutFits result }
+    {
+        let n = fields::nat_at(self.file, p) as usize;
+        let o = self.at as usize;
+        if self.kind == 8 {
+            Layout {
+                count: n,
+                sizes: p + 4,
+                variances: p + 4 + 4 * n,
+            }
+        } else {
+            Layout {
+                count: n,
+                sizes: r_sizes_at(o, p, n),
+                variances: o + layout::R_VARIANCES,
+            }
         }
     }
+
+    // The bytes of one value.
+    fn value_bytes(&self) -> u64
+        ensures { (result ≡ value_bytes self.now.file.now self.now.at) × (result ≤ 17179869184) }
+    {
+        let elements = fields::nat_at(self.file, self.at as usize + layout::ELEMENTS);
+        u64::from(elements) * u64::from(self.element)
+    }
+
+    // The size of a VDR is that of its fields, dimensions and pad value.
+    fn size_exact(&self, l: Layout, value: u64) -> bool
+        requires { LayoutFits l × (value ≡ value_bytes self.now.file.now self.now.at) × (value ≤ 17179869184) }
+        ensures { result ≡ size_exact self.now.file.now self.now.at l }
+    {
+        let f = self.file;
+        let o = self.at as usize;
+        let dimensions = l.variances as u64 + 4 * (l.count as u64);
+        let size = u64::from(self.at) + u64::from(fields::nat_at(f, o));
+        if fields::bit(f, o + layout::VAR_FLAGS, 2) {
+            return size == dimensions + value;
+        }
+        size == dimensions
+    }
+
+    // The shape that its dimensions give, where the fields are right. Inlined, as the reader asks it of every VDR on its way.
+    #[inline(always)]
+    fn shaped(&self, l: Layout) -> Result<Shape, Breach>
+        requires { LayoutFits l }
+        ensures { variable_told result ≡ dimensioned self.now.file.now self.now.at l }
+    {
+        let f = self.file;
+        let end = fields::end(f);
+        let value = self.value_bytes();
+        check(self.size_exact(l, value), Breach::Rule)?;
+        check(l.sizes + 4 * l.count <= end, Breach::PastEnd)?;
+        check(l.variances + 4 * l.count <= end, Breach::PastEnd)?;
+        let dimensions = Dimensions { file: f, layout: l };
+        check(dimensions.are_right(), Breach::Rule)?;
+        let bytes = dimensions.record_bytes(value);
+        check(bytes <= 2147483647, Breach::Rule)?;
+        Ok(Shape {
+            dimensions: l,
+            value: limit::cap(value),
+            bytes,
+        })
+    }
 }
 
-// The bytes of one value, of elements of element bytes.
-fn value_bytes(f: &[u8], o: usize, element: u32) -> u64
-    requires { (o + 128 ≤ length f.now) × (element ≡ element_size f.now (o + 12)) × (element ≤ 8) }
-    ensures { (result ≡ value_bytes f.now o) × (result ≤ 17179869184) }
+// The VDR of a kind at an offset. The kind is a number: a position of the walk takes every number for it, also one that is no kind.
+pub fn variable_at(f: &[u8], kind: u32, at: u32) -> Result<Shape, Breach>
+    ensures { variable_told result ≡ variable_of f.now kind at }
 {
-    let elements = fields::nat_at(f, o + layout::ELEMENTS) as u64;
-    elements * element as u64
+    rules::reach(f, at, head_of(kind))?;
+    let element = attributes::element_size(f, at as usize + layout::DATA_TYPE);
+    let head = Head {
+        file: f,
+        kind,
+        at,
+        element,
+    };
+    check(head.is_right(), Breach::Rule)?;
+    let p = head.num_dims_at();
+    check(p + 4 <= fields::end(f), Breach::PastEnd)?;
+    check(count_right(f, p), Breach::Rule)?;
+    head.shaped(head.dimensions_at(p))
 }
 
-// The size of a VDR is that of its fields, dimensions and pad value.
-fn size_exact(f: &[u8], o: usize, l: Layout, value: u64) -> bool
-    requires { (o + 128 ≤ length f.now) × (o < 4294967296) × LayoutFits l × (value ≡ value_bytes f.now o) × (value ≤ 17179869184) }
-    ensures { result ≡ size_exact f.now o l }
-{
-    let dimensions = l.variances as u64 + 4 * (l.count as u64);
-    let size = o as u64 + fields::nat_at(f, o) as u64;
-    if fields::bit(f, o + layout::VAR_FLAGS, 2) {
-        return size == dimensions + value;
-    }
-    size == dimensions
-}
-
-// The sizes and variances of the dimensions.
-fn dimensions_right(f: &[u8], l: Layout) -> bool
-    requires { LayoutInside f.now l }
-    ensures { result ≡ dimensions_right f.now l }
-{
-    let n = l.count;
-    fields::each_within(f, l.sizes, n, 1, 2147483647)
-        & fields::each_within(f, l.variances, n, -1, 0)
-}
-
-// What a dimension multiplies the values of a record by.
-fn factor(f: &[u8], p: usize, q: usize) -> u64
-    requires { (p + 4 ≤ length f.now) × (q + 4 ≤ length f.now) }
-    ensures { (result ≡ factor_of f.now p q) × (result < 2147483648) }
-{
-    if fields::is(f, q, -1) {
-        fields::nat_at(f, p) as u64
-    } else {
-        1
-    }
-}
-
-// The bytes of a record, and 2,147,483,648 for every larger number.
-fn record_bytes(f: &[u8], l: Layout, value: u64) -> u64
-    requires { LayoutInside f.now l }
-    ensures { (result ≡ capped (value * values_per_record f.now l.count l.sizes l.variances)) × (result ≤ 2147483648) }
-{
-    let mut acc = limit::cap(value);
-    let mut p = l.sizes;
-    let mut q = l.variances;
-    let mut left = l.count;
-    while 0 < left {
-        acc = limit::cap(acc * factor(f, p, q));
-        p += 4;
-        q += 4;
-        left -= 1;
-    }
-    acc
-}
-
-// A VDR that breaks a rule.
-pub fn faulty(v: u32) -> Variable
-    ensures { result ≡ vdr_fault v }
-{
-    Variable {
-        fault: v,
-        dimensions: Layout {
-            count: 0,
-            sizes: 0,
-            variances: 0,
-        },
-        value: 0,
-        bytes: 0,
-    }
-}
-
-// A VDR whose fields are right, with its dimensions. Its elements have element bytes.
-fn dimensioned_vdr(f: &[u8], o: usize, l: Layout, element: u32) -> Variable
-    requires { (o + 128 ≤ length f.now) × (o < 4294967296) × LayoutFits l × (element ≡ element_size f.now (o + 12)) × (element ≤ 8) }
-    ensures { result ≡ dimensioned f.now o l }
-{
-    let end = fields::end(f);
-    let n = l.count;
-    let value = value_bytes(f, o, element);
-    if !size_exact(f, o, l, value) {
-        return faulty(10);
-    }
-    if end < l.sizes + 4 * n {
-        return faulty(20);
-    }
-    if end < l.variances + 4 * n {
-        return faulty(20);
-    }
-    if !dimensions_right(f, l) {
-        return faulty(10);
-    }
-    let bytes = record_bytes(f, l, value);
-    if 2147483647 < bytes {
-        return faulty(10);
-    }
-    Variable {
-        fault: 0,
-        dimensions: l,
-        value: limit::cap(value),
-        bytes,
-    }
-}
-
-// The VDR of a kind at an offset.
-pub fn variable_at(f: &[u8], kind: u32, at: u32) -> Variable
-    ensures { result ≡ variable_of f.now kind at }
-{
-    let o = at as usize;
-    let reached = rules::reach(f, at, head_of(kind));
-    if reached != 0 {
-        return faulty(reached);
-    }
-    let element = attributes::element_size(f, o + layout::DATA_TYPE);
-    if !vdr_fields(f, o, element) {
-        return faulty(10);
-    }
-    let p = num_dims_at(f, kind, o);
-    if fields::end(f) < p + 4 {
-        return faulty(20);
-    }
-    if !count_right(f, p) {
-        return faulty(10);
-    }
-    dimensioned_vdr(f, o, dimensions_at(f, kind, o, p), element)
-}
-
-// The VDR of a kind at an offset that is known to keep its rule.
-pub fn known_at(f: &[u8], kind: u32, at: u32) -> Variable
+// The VDR of a kind at an offset that is known to keep its rule. The kind is a number, as in `variable_at`. Inlined, as each read of a value asks it.
+#[inline(always)]
+pub fn known_at(f: &[u8], kind: u32, at: u32) -> Shape
     requires { (variable_of f.now kind at).fault ≡ 0 }
-    ensures { result ≡ variable_of f.now kind at }
+    ensures { result ≡ shape_of (variable_of f.now kind at) }
 {
-    let o = at as usize;
-    let l = dimensions_at(f, kind, o, num_dims_at(f, kind, o));
-    let value = value_bytes(f, o, attributes::element_size(f, o + layout::DATA_TYPE));
-    Variable {
-        fault: 0,
+    let element = attributes::element_size(f, at as usize + layout::DATA_TYPE);
+    let head = Head {
+        file: f,
+        kind,
+        at,
+        element,
+    };
+    let l = head.dimensions_at(head.num_dims_at());
+    let value = head.value_bytes();
+    let dimensions = Dimensions { file: f, layout: l };
+    Shape {
         dimensions: l,
         value: limit::cap(value),
-        bytes: record_bytes(f, l, value),
+        bytes: dimensions.record_bytes(value),
     }
 }

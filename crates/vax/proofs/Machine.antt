@@ -1,23 +1,17 @@
 -- What the functions need of machine numbers: they fit. Assumes nothing.
 use Prim.Native.Nat.{ℕ, zero, suc, ◌+◌, ◌-◌, ◌*◌, ◌/◌, ◌%◌, ◌^◌, ◌≤◌, ◌<◌}
 use mathlib.Core.Path.{◌≡◌, sym, ap, ◌∙◌, subst}
-use native.Mathlib.Nat.{le_trans, lt_of_lt_of_le, le_of_lt, le_of_eq, one-mul, mod-eq_of_lt, mod-lt, pow-suc, lt_irrefl, zero-add}
-use native.Mathlib.Numerals.{add-one}
+use native.Mathlib.Nat.{le_trans, le_of_lt, pow-suc, lt_irrefl, zero-add}
 use native.Mathlib.Omega.{arith}
-use lib.Pow.{pow_pos, pow_mono, pow-lt, shl_lt}
+use lib.Pow.{pow_mono, shl_lt}
 use mathlib.Core.Bool.{cond}
 use lib.Dec.{leb, eqb}
 use borrow.Author.Tests.{le-leb, lt-leb, eq-eqb, ne_eqb}
+use Rattle.std.specs.Prelude.{Some, None}
 use Rattle.vax.specs.Bounds.{DigitsFit}
 use Rattle.vax.specs.Rounding.{kept_of, size_of, with_sign, vax_of}
 use Rattle.vax.specs.Words.{vax_in}
-use Rattle.vax.specs.declared.Vax.TheVariants.{Given, Reserved}
 use Rattle.vax.proofs.Digits.{kept_le}
-
-pub one_shifted : (k : ℕ) → k < 64 → (1 * 2 ^ k % 2 ^ 64 ≡ 2 ^ k) × (0 < 1 * 2 ^ k % 2 ^ 64)
-one_shifted k h =
-    let e : 1 * 2 ^ k % 2 ^ 64 ≡ 2 ^ k = ap (λ (z : ℕ). z % 2 ^ 64) (one-mul (2 ^ k)) ∙ mod-eq_of_lt (pow-lt h) in
-    (e, subst (λ (z : ℕ). 0 < z) (sym e) (pow_pos k))
 
 -- a power of two and its half
 pub halved : (k h : ℕ) → 0 < k → h ≡ 2 ^ (k - 1) → 2 ^ k ≡ h + h
@@ -30,12 +24,6 @@ halved (suc k) h l e = pow-suc 2 k ∙ double (2 ^ k) h (e ∙ ap (λ (z : ℕ).
     double : (x y : ℕ) → y ≡ x → x * 2 ≡ y + y
     double x y e = omega arith
 
-pub half_fits : (k h : ℕ) → k < 64 → h ≡ 2 ^ (k - 1) → h ≤ 2 ^ 62
-half_fits k h l e = le_trans (le_of_eq e) (pow_mono (less k l))
-  where
-    less : (k : ℕ) → k < 64 → k - 1 ≤ 62
-    less k l = omega arith
-
 -- n of w + 1 digits, with zeros behind it up to p digits
 pub shifted_fits : (w p n : ℕ) → w < p → n < 2 ^ (w + 1) → n * 2 ^ (p - (w + 1)) < 2 ^ p
 shifted_fits w p n l h = subst (λ (z : ℕ). n * 2 ^ (p - (w + 1)) < 2 ^ z) (fit w p l) (shl_lt (w + 1) (p - (w + 1)) h)
@@ -43,47 +31,25 @@ shifted_fits w p n l h = subst (λ (z : ℕ). n * 2 ^ (p - (w + 1)) < 2 ^ z) (fi
     fit : (w p : ℕ) → w < p → w + 1 + (p - (w + 1)) ≡ p
     fit w p l = omega arith
 
-pub under_63 : (w n : ℕ) → w ≤ 62 → n < 2 ^ (w + 1) → n < 2 ^ 63
-under_63 w n l h = lt_of_lt_of_le h (pow_mono (more w l))
-  where
-    more : (w : ℕ) → w ≤ 62 → w + 1 ≤ 63
-    more w l = omega arith
-
-module _ {w p n : ℕ} (d : DigitsFit w p 53 n) where
+module _ {w n p : ℕ} (d : DigitsFit w n) (places : p ≤ 53) where
   pub kept_53 : kept_of w p n ≤ 2 ^ 53
-  kept_53 = le_trans (kept_le w p n d.digits) (pow_mono d.places)
+  kept_53 = le_trans (kept_le w p n d.digits) (pow_mono places)
 
   pub product_fits : w < p → {r : ℕ} → r ≡ 2 ^ (p - (w + 1)) → n * r ≤ 2 ^ 53
-  product_fits l e = subst (λ (z : ℕ). n * z ≤ 2 ^ 53) (sym e) (le_trans (le_of_lt (shifted_fits w p n l d.digits)) (pow_mono d.places))
+  product_fits l e = subst (λ (z : ℕ). n * z ≤ 2 ^ 53) (sym e) (le_trans (le_of_lt (shifted_fits w p n l d.digits)) (pow_mono places))
 
 -- ---- the fields of one number: an exponent of x bits, and a mantissa of w bits below the leading digit
-pub exponent_in : (raw u v w x : ℕ) → u ≡ 2 ^ w → v ≡ 2 ^ x → raw / u % v ≡ raw / 2 ^ w % 2 ^ x
-exponent_in raw u v w x e f = ap (λ (z : ℕ). raw / z % v) e ∙ ap (λ (z : ℕ). raw / 2 ^ w % z) f
-
-pub exponent_lt : (n v b x : ℕ) → v ≡ 2 ^ x → 2 ^ x ≤ b + 1024 → n % v < b + 1024
-exponent_lt n v b x e h = lt_of_lt_of_le (mod-lt n (subst (λ (z : ℕ). 0 < z) (sym e) (pow_pos x))) (le_trans (le_of_eq e) h)
-
-pub leading_fits : (raw u w : ℕ) → u ≡ 2 ^ w → w ≤ 62 → (u + raw % u < 2 ^ (w + 1)) × (u + raw % u < 2 ^ 63)
-leading_fits raw u w e h =
-    let l : raw % u < u = mod-lt raw (subst (λ (z : ℕ). 0 < z) (sym e) (pow_pos w)) in
-    let d : 2 ^ (w + 1) ≡ u * 2 = ap (λ (z : ℕ). 2 ^ z) (add-one w) ∙ pow-suc 2 w ∙ ap (λ (z : ℕ). z * 2) (sym e) in
-    let k : u + raw % u < 2 ^ (w + 1) = subst (λ (z : ℕ). u + raw % u < z) (sym d) (twice u (raw % u) l) in
-    (k, under_63 w (u + raw % u) h k)
-  where
-    twice : (u m : ℕ) → m < u → u + m < u * 2
-    twice u m l = omega arith
-
 module _ (raw u v w x b : ℕ) (e : u ≡ 2 ^ w) (f : v ≡ 2 ^ x) where
   vax_in_lem : vax_in w x b raw
-      ≡ cond (eqb (raw / u % v) 0) (cond (leb v (raw / u)) Reserved (Given 0))
-      (Given (with_sign (leb v (raw / u)) (size_of w (raw / u % v + 1074 - b) (u + raw % u))))
+      ≡ cond (eqb (raw / u % v) 0) (cond (leb v (raw / u)) None (Some 0))
+      (Some (with_sign (leb v (raw / u)) (size_of w (raw / u % v + 1074 - b) (u + raw % u))))
   unfolding vax_in vax_of
   vax_in_lem = rw (e, f)
 
-  pub reserved_in : raw / u % v ≡ 0 → v ≤ raw / u → Reserved ≡ vax_in w x b raw
+  pub reserved_in : raw / u % v ≡ 0 → v ≤ raw / u → None ≡ vax_in w x b raw
   reserved_in z l = sym (vax_in_lem ∙ rw (eq-eqb (raw / u % v) 0 z, le-leb v (raw / u) l))
 
-  pub zero_in : raw / u % v ≡ 0 → raw / u < v → Given 0 ≡ vax_in w x b raw
+  pub zero_in : raw / u % v ≡ 0 → raw / u < v → Some 0 ≡ vax_in w x b raw
   zero_in z l = sym (vax_in_lem ∙ rw (eq-eqb (raw / u % v) 0 z, lt-leb v (raw / u) l))
 
   -- p places and the number n, and the bits r for them
@@ -91,8 +57,8 @@ module _ (raw u v w x b : ℕ) (e : u ≡ 2 ^ w) (f : v ≡ 2 ^ x) where
     bits_are : size_of w (raw / u % v + 1074 - b) (u + raw % u) ≡ r
     bits_are = ap (λ (p : ℕ). size_of w p (u + raw % u)) (sym places) ∙ ap (λ (n : ℕ). size_of w p n) (sym number) ∙ sym bits
 
-    pub negative_in : v ≤ raw / u → Given (2 ^ 63 + r) ≡ vax_in w x b raw
+    pub negative_in : v ≤ raw / u → Some (2 ^ 63 + r) ≡ vax_in w x b raw
     negative_in l = sym (vax_in_lem ∙ rw (ne_eqb (raw / u % v) 0 z, le-leb v (raw / u) l, bits_are))
 
-    pub positive_in : raw / u < v → Given r ≡ vax_in w x b raw
+    pub positive_in : raw / u < v → Some r ≡ vax_in w x b raw
     positive_in l = sym (vax_in_lem ∙ rw (ne_eqb (raw / u % v) 0 z, lt-leb v (raw / u) l, bits_are, zero-add))

@@ -7,10 +7,10 @@ use native.Mathlib.Omega.{arith}
 use lib.Dec.{ltb}
 use lib.Pow.{pow_pos, pow-lt}
 use borrow.Author.Tests.{ltb-true, ltb-false, leb-true, leb-false, le-leb, lt-leb}
+use Rattle.std.specs.Prelude.{Some}
 use Rattle.vax.specs.Doubles.{sign_of, field_of, units_of, units_by, Finite, apart, between, distance, Nearest}
 use Rattle.vax.specs.Vax.{num_of, den_of, Holds}
 use Rattle.vax.specs.Rounding.{with_sign}
-use Rattle.vax.specs.declared.Vax.TheVariants.{Given}
 use Rattle.vax.proofs.Digits.{joined}
 use Rattle.vax.proofs.Rounded.{finite, sign_is, units_are, low_lt, size_lt}
 
@@ -140,6 +140,6 @@ vax_enough w b e m h =
     more x = omega arith
 
 -- THE THEOREM, once over width and offset
-pub one_answer : (w b e m : ℕ) (s : Bool) (r q : ℕ) → b ≤ 1074 → Holds Nearest w b s e m (Given r) → Holds Nearest w b s e m (Given q) → r ≡ q
+pub one_answer : (w b e m : ℕ) (s : Bool) (r q : ℕ) → b ≤ 1074 → Holds Nearest w b s e m (Some r) → Holds Nearest w b s e m (Some q) → r ≡ q
 one_answer w b zero m s r q h R Q = R.1 refl ∙ sym (Q.1 refl)
 one_answer w b (suc e) m s r q h R Q = one_nearest s (num_of w (suc e) m) (den_of w b) (pow_pos (w + 1 + b)) (vax_enough w b e m h) r q R.2 Q.2

@@ -9,8 +9,7 @@ pub record Bounds (w x b : ℕ) : Type 0 where
   pub greatest : 2 ^ x ≤ b + 1024
   pub least : b ≤ 1074
 
--- n has w + 1 digits and fits 63 bits; p places of it are asked for, no more than most
-pub record DigitsFit (w p most n : ℕ) : Type 0 where
+-- n has w + 1 digits, the first of which may be 0, and fits 63 bits
+pub record DigitsFit (w n : ℕ) : Type 0 where
   pub width : w ≤ 62
-  pub places : p ≤ most
   pub digits : n < 2 ^ (w + 1)

@@ -1,10 +1,8 @@
 -- The double for a VAX float, computed: its first digits, rounded. That it is the nearest, ties to an even last bit, is proved (proofs/Answers.antt).
 -- Assumes nothing.
-use Rattle.std.specs.Prelude.{ℕ, ◌+◌, ◌-◌, ◌*◌, ◌/◌, ◌%◌, ◌^◌, Bool, true, false, cond, List, ltb, eqb}
+use Rattle.std.specs.Prelude.{ℕ, ◌+◌, ◌-◌, ◌*◌, ◌/◌, ◌%◌, ◌^◌, Bool, true, false, cond, List, ltb, eqb, Option, Some, None}
 use Rattle.vax.specs.Layouts.{Kind}
 use Rattle.vax.specs.Vax.{sign_at, exponent_at, mantissa_at}
-use Rattle.vax.specs.declared.Vax.{Vax}
-use Rattle.vax.specs.declared.Vax.TheVariants.{Given, Reserved}
 
 -- the whole number nearest to n / d, q being n / d cut, by whether q is nearer and whether q + 1 is; of two as near the even one
 abbrev pub chosen : Bool → Bool → ℕ → ℕ
@@ -32,9 +30,9 @@ abbrev pub leading : ℕ → ℕ → ℕ
 leading w m = 2 ^ w + m
 
 -- 15.4: "An exponent of zero with the sign clear is zero (+0) whatever its mantissa; with the sign set it is the reserved operand"
-unfoldable pub vax_of : ℕ → ℕ → Bool → ℕ → ℕ → Vax
-vax_of w b s e m = cond (eqb e 0) (cond s Reserved (Given 0)) (Given (with_sign s (size_of w (e + 1074 - b) (leading w m))))
+unfoldable pub vax_of : ℕ → ℕ → Bool → ℕ → ℕ → Option ℕ
+vax_of w b s e m = cond (eqb e 0) (cond s None (Some 0)) (Some (with_sign s (size_of w (e + 1074 - b) (leading w m))))
 
 -- the VAX float of a kind at an offset
-unfoldable pub vax_at : Kind → List ℕ → ℕ → Vax
+unfoldable pub vax_at : Kind → List ℕ → ℕ → Option ℕ
 vax_at k f at = vax_of k.width k.offset (sign_at k f at) (exponent_at k f at) (mantissa_at k f at)

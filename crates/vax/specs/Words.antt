@@ -1,8 +1,7 @@
 -- The bits of a VAX float as one number, most significant first: the sign, an exponent of x bits, a mantissa of w bits; and the words that it is made of.
 -- They serve the contracts; that they are the fields of the tables is proved (proofs/Words.antt). Assumes nothing.
-use Rattle.std.specs.Prelude.{ℕ, ◌+◌, ◌*◌, ◌/◌, ◌%◌, ◌^◌, Bool, List, leb, get_or}
+use Rattle.std.specs.Prelude.{ℕ, ◌+◌, ◌*◌, ◌/◌, ◌%◌, ◌^◌, Bool, List, leb, get_or, Option}
 use Rattle.vax.specs.Rounding.{vax_of}
-use Rattle.vax.specs.declared.Vax.{Vax}
 
 abbrev pub sign_in : ℕ → ℕ → ℕ → Bool
 sign_in w x raw = leb (2 ^ x) (raw / 2 ^ w)
@@ -13,7 +12,7 @@ exponent_in w x raw = raw / 2 ^ w % 2 ^ x
 abbrev pub mantissa_in : ℕ → ℕ → ℕ
 mantissa_in w raw = raw % 2 ^ w
 
-unfoldable pub vax_in : ℕ → ℕ → ℕ → ℕ → Vax
+unfoldable pub vax_in : ℕ → ℕ → ℕ → ℕ → Option ℕ
 vax_in w x b raw = vax_of w b (sign_in w x raw) (exponent_in w x raw) (mantissa_in w raw)
 
 -- a word of two bytes, the second the more significant; of two and of four words the first is the most significant

@@ -7,11 +7,39 @@ ghost use Rattle.vax.specs.Rounding.{nearest_of, kept_of, size_of, vax_at};
 ghost use Rattle.vax.specs.Words.{vax_in, word_at, pair_at, four_at};
 ghost use Rattle.vax.specs.Bounds.{Bounds, DigitsFit};
 
-// A VAX float: the bits of the nearest double, or the reserved operand.
+// The layout of a VAX float: how many bits its mantissa and its exponent have, and the offset that the exponent counts from.
 #[derive(Clone, Copy)]
-pub enum Vax {
-    Given(u64),
-    Reserved,
+struct Layout {
+    width: u32,
+    range: u32,
+    offset: u32,
+    ghost bounds: { Bounds width range offset },
+}
+
+const F_FLOAT: Layout = Layout {
+    width: 23,
+    range: 8,
+    offset: 128,
+};
+
+const D_FLOAT: Layout = Layout {
+    width: 55,
+    range: 8,
+    offset: 128,
+};
+
+const G_FLOAT: Layout = Layout {
+    width: 52,
+    range: 11,
+    offset: 1024,
+};
+
+// A significand: a leading digit and the mantissa's digits below it, width of them, as one number.
+#[derive(Clone, Copy)]
+struct Significand {
+    width: u32,
+    n: u64,
+    ghost digits: { DigitsFit width n },
 }
 
 // A power of two.
@@ -33,65 +61,63 @@ fn nearest(n: u64, k: u32) -> u64
     (n + (half - 1) + q % 2) >> k
 }
 
-// The first places of the width + 1 digits of n, rounded; zeros behind n where it has fewer.
-fn kept(width: u32, places: u32, n: u64) -> u64
-    requires { DigitsFit width places 53 n }
-    ensures { (result ≡ kept_of width places n) × (result ≤ 2 ^ 53) }
+// The first places of the digits of a significand, rounded; zeros behind it where it has fewer.
+fn kept(s: Significand, places: u32) -> u64
+    requires { places ≤ 53 }
+    ensures { (result ≡ kept_of s.width places s.n) × (result ≤ 2 ^ 53) }
 {
-    if width < places {
-        return n * power(places - (width + 1));
+    if s.width < places {
+        return s.n * power(places - (s.width + 1));
     }
-    nearest(n, width + 1 - places)
+    nearest(s.n, s.width + 1 - places)
 }
 
-// The bits below the sign of the double for n, which has that many digits before the point in units
+// The bits below the sign of the double for a significand, which has that many digits before the point in units
 // of the smallest double.
-fn size(width: u32, places: u32, n: u64) -> u64
-    requires { DigitsFit width places 2097 n }
-    ensures { (result ≡ size_of width places n) × (result < 2047 * 2 ^ 52) }
+fn size(s: Significand, places: u32) -> u64
+    requires { places ≤ 2097 }
+    ensures { (result ≡ size_of s.width places s.n) × (result < 2047 * 2 ^ 52) }
 {
     if places < 53 {
-        return kept(width, places, n);
+        return kept(s, places);
     }
-    (places - 53) as u64 * 0x10_0000_0000_0000 + kept(width, 53, n)
+    u64::from(places - 53) * 0x10_0000_0000_0000 + kept(s, 53)
 }
 
-// The double for a VAX float, given as one number: the sign, then the exponent, then the mantissa.
-fn vax_to_double(raw: u64, width: u32, range: u32, offset: u32) -> Vax
-    requires { Bounds width range offset }
-    ensures { result ≡ vax_in width range offset raw }
+// The double for a VAX float, given as one number: the sign, then the exponent, then the mantissa. None is the
+// reserved operand.
+fn vax_to_double(raw: u64, layout: Layout) -> Option<u64>
+    ensures { result ≡ vax_in layout.width layout.range layout.offset raw }
 {
-    let unit = power(width);
+    let unit = power(layout.width);
     let mantissa = raw % unit;
     let upper = raw / unit;
-    let span = power(range);
+    let span = power(layout.range);
     let exponent = (upper % span) as u32;
     if exponent == 0 {
         if upper >= span {
-            return Vax::Reserved;
+            return None;
         }
-        return Vax::Given(0);
+        return Some(0);
     }
-    let bits = size(width, exponent + 1074 - offset, unit + mantissa);
+    let significand = Significand {
+        width: layout.width,
+        n: unit + mantissa,
+    };
+    let bits = size(significand, exponent + 1074 - layout.offset);
     if upper >= span {
-        return Vax::Given(0x8000_0000_0000_0000 + bits);
+        return Some(0x8000_0000_0000_0000 + bits);
     }
-    Vax::Given(bits)
+    Some(bits)
 }
 
-// The number of a byte, at a wider type.
-fn wide(x: u8) -> u64
-    ensures { (result ≡ x) × (result < 256) }
-{
-    x as u64
-}
-
-// A word of two bytes, the second the more significant.
+// A word of two bytes, the second the more significant. Bytes and an offset, here and below: a slice of a float's own bytes would state the same bound
+// where it is cut out.
 fn word(s: &[u8], at: usize) -> u64
     requires { at + 2 ≤ length s.now }
     ensures { (result ≡ word_at s.now at) × (result < 65536) }
 {
-    wide(s[at]) + wide(s[at + 1]) * 256
+    u64::from(u16::from_le_bytes([s[at], s[at + 1]]))
 }
 
 // Two words as one number, the first the more significant.
@@ -114,34 +140,26 @@ fn four(s: &[u8], at: usize) -> u64
     a * 0x1_0000_0000 + b
 }
 
-// The F_FLOAT at an offset, as a double.
-pub fn f_float(s: &[u8], at: usize) -> Vax
+// The F_FLOAT at an offset, as the bits of a double; None: the reserved operand.
+pub fn f_float(s: &[u8], at: usize) -> Option<u64>
     requires { at + 4 ≤ length s.now }
     ensures { result ≡ vax_at ffloat s.now at }
 {
-    vax_to_double(pair(s, at), 23, 8, 128)
+    vax_to_double(pair(s, at), F_FLOAT)
 }
 
-// The VAX float of four words at an offset, as a double.
-fn of_four(s: &[u8], at: usize, width: u32, range: u32, offset: u32) -> Vax
-    requires { (at + 8 ≤ length s.now) × Bounds width range offset }
-    ensures { result ≡ vax_in width range offset (four_at s.now at) }
-{
-    vax_to_double(four(s, at), width, range, offset)
-}
-
-// The D_FLOAT at an offset, as a double.
-pub fn d_float(s: &[u8], at: usize) -> Vax
+// The D_FLOAT at an offset, likewise.
+pub fn d_float(s: &[u8], at: usize) -> Option<u64>
     requires { at + 8 ≤ length s.now }
     ensures { result ≡ vax_at dfloat s.now at }
 {
-    of_four(s, at, 55, 8, 128)
+    vax_to_double(four(s, at), D_FLOAT)
 }
 
-// The G_FLOAT at an offset, as a double.
-pub fn g_float(s: &[u8], at: usize) -> Vax
+// The G_FLOAT at an offset, likewise.
+pub fn g_float(s: &[u8], at: usize) -> Option<u64>
     requires { at + 8 ≤ length s.now }
     ensures { result ≡ vax_at gfloat s.now at }
 {
-    of_four(s, at, 52, 11, 1024)
+    vax_to_double(four(s, at), G_FLOAT)
 }

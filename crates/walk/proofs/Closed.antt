@@ -12,7 +12,7 @@ use Rattle.format.specs.Fields.{end_of, is_at, after_at}
 use Rattle.records.specs.Opening.{gdr_at}
 use Rattle.records.specs.Index.{used_at, entry_of, index_at}
 use Rattle.records.specs.Attributes.{adr_rule}
-use Rattle.records.specs.declared.index.Entry as E
+use Rattle.records.specs.Index as E
 use Rattle.variables.specs.Vdr.{carried_of, variable_of}
 use Rattle.walk.specs.Levels.{is_none, most_of}
 use Rattle.format.specs.Numbers.{unless}

@@ -1,4 +1,5 @@
-pub mod Entered
+pub mod Chained
+pub mod Widened
 pub mod Small
 pub mod Leads
 pub mod Closed

@@ -6,7 +6,7 @@ use Rattle.format.proofs.FieldRanges.{nat_small, link_small}
 use Rattle.records.specs.Opening.{gdr_at}
 use Rattle.records.specs.Index.{entries_at, first_field_at, last_field_at, offset_field_at, entry_fault, entry_of}
 use Rattle.records.proofs.Ranges.{entry_cases}
-use Rattle.records.specs.declared.index.Entry as E
+use Rattle.records.specs.Index as E
 
 module _ (f : List ℕ) where
   pub gdr_small : gdr_at f < 2147483648

@@ -9,10 +9,10 @@ use borrow.Author.Tests.{le-ltb, eqb-false}
 use Rattle.format.specs.Fields.{end_of, after_at}
 use Rattle.records.specs.Opening.{gdr_at}
 use Rattle.records.specs.Index.{used_at, index_at, entry_of}
-use Rattle.records.specs.declared.index.Entry as E
+use Rattle.records.specs.Index as E
 use Rattle.format.specs.Numbers.{unless}
 use Rattle.variables.specs.Vdr.{variable_of}
-use Rattle.variables.specs.declared.vdr.Variable.{Variable}
+use Rattle.variables.specs.Vdr.{Variable}
 use lib.IntN.{pos}
 use Rattle.walk.specs.Walk.{type_number, values_number, gdr_named, over_by, takes, after_vars, vars_tally, vars_list, entered, lower_over, lower_next, chain_list, chain_step, covers, entry_refused, lower_number, lower_step, entry_step, field_number, attrs_list, after_entries, entries_list, unused_list, Listing, list_step, walk_step_by}
 use Rattle.walk.specs.Levels.{is_none, most_of, OfVariable, no_variable, leading_to, walking, of_variable, walked, indexed}

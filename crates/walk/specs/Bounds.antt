@@ -4,7 +4,7 @@ use Rattle.std.specs.Prelude.{◌≡◌, ◌⊎◌, cond, List, [], ◌∷◌, �
 use Rattle.std.proofs.Math.Option.{Option, none, some}
 use Rattle.format.specs.Fields.{end_of, link_at}
 use Rattle.variables.specs.Vdr.{vdr_fault, variable_of}
-use Rattle.variables.specs.declared.vdr.Variable.{Variable}
+use Rattle.variables.specs.Vdr.{Variable}
 use Rattle.walk.specs.Ranges.{Range, up_to, one_of, absent, row_of, level_ranges}
 use Rattle.walk.specs.Levels.{OfVariable, no_variable, leading_to, walking, of_variable, indexed}
 use Rattle.walk.specs.declared.positions.Var.{Var}

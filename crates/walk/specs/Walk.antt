@@ -8,9 +8,9 @@ use Rattle.records.specs.Opening.{gdr_at}
 use Rattle.records.specs.Attributes.{adr_rule, aedr_rule}
 use Rattle.records.specs.Index.{used_at, vxr_rule, index_at, entry_of, entry_covers, vvr_rule}
 use Rattle.records.specs.Unused.{uir_rule}
-use Rattle.records.specs.declared.index.Entry.{Entry}
+use Rattle.records.specs.Index.{Entry}
 use Rattle.variables.specs.Vdr.{carried_of, variable_of}
-use Rattle.variables.specs.declared.vdr.Variable.{Variable}
+use Rattle.variables.specs.Vdr.{Variable}
 use Rattle.walk.specs.Levels.{is_none, most_of, room_below}
 use Rattle.walk.specs.declared.positions.Var.{Var}
 use Rattle.walk.specs.declared.positions.Level.{Level}

@@ -32,6 +32,8 @@ pub fn no_levels() -> Levels
 }
 
 // There is no record at a level.
+// A function: it is public, and its definition has this name.
+#[tactic(auto, unfolding(crate::specs::Levels::is_none))]
 pub fn is_none(l: Level) -> bool
     ensures { result ≡ is_none l }
 {
@@ -39,6 +41,7 @@ pub fn is_none(l: Level) -> bool
 }
 
 // The greatest Last that an entry may have.
+#[tactic(auto, unfolding(crate::specs::Levels::most_of))]
 pub fn most_of(l: Level) -> u32
     ensures { result ≡ most_of l }
 {
@@ -46,31 +49,25 @@ pub fn most_of(l: Level) -> u32
 }
 
 // The record that is walked may have one below it.
+#[tactic(auto, unfolding(crate::specs::Levels::room_below))]
 pub fn room_below(s: Levels) -> bool
     ensures { result ≡ room_below s }
 {
-    let last = s.g;
-    is_none(last)
+    is_none(s.g)
 }
 
 // One level down.
 fn push(l: Level, s: Levels) -> Levels
     ensures { result ≡ pushed l s }
 {
-    let b = s.a;
-    let c = s.b;
-    let d = s.c;
-    let e = s.d;
-    let f = s.e;
-    let g = s.f;
     Levels {
         a: l,
-        b,
-        c,
-        d,
-        e,
-        f,
-        g,
+        b: s.a,
+        c: s.b,
+        d: s.c,
+        e: s.d,
+        f: s.e,
+        g: s.f,
     }
 }
 
@@ -78,21 +75,14 @@ fn push(l: Level, s: Levels) -> Levels
 fn pop(s: Levels) -> Levels
     ensures { result ≡ popped s }
 {
-    let a = s.b;
-    let b = s.c;
-    let c = s.d;
-    let d = s.e;
-    let e = s.f;
-    let f = s.g;
-    let g = no_level();
     Levels {
-        a,
-        b,
-        c,
-        d,
-        e,
-        f,
-        g,
+        a: s.b,
+        b: s.c,
+        c: s.d,
+        d: s.e,
+        e: s.f,
+        f: s.g,
+        g: no_level(),
     }
 }
 
@@ -101,23 +91,16 @@ pub fn after(s: Levels, t: Step) -> Levels
     ensures { result ≡ levels_after s t }
 {
     match t {
-        Step::Over { .. } => s,
-        Step::End { .. } => s,
-        Step::Take { .. } => s,
         Step::Down { level, .. } => push(level, s),
         Step::Up { .. } => pop(s),
+        _ => s,
     }
 }
 
 // They are others than before.
+// A function: it is public, and its definition has this name.
 pub fn changes_level(t: Step) -> bool
     ensures { result ≡ changes_level t }
 {
-    match t {
-        Step::Over { .. } => false,
-        Step::End { .. } => false,
-        Step::Take { .. } => false,
-        Step::Down { .. } => true,
-        Step::Up { .. } => true,
-    }
+    matches!(t, Step::Down { .. } | Step::Up { .. })
 }

@@ -1,8 +1,8 @@
 // Where the walk stands, and what a step of it finds.
 
 // The variable whose index is walked: its kind, its VDR, its place in the list of its kind, and the greatest MaxRec + 1 of
-// that list up to it. Kinds are record types.
-#[derive(Clone, Copy)]
+// that list up to it. Kinds are record types, as numbers here and below: settle and left_at of checker take every walk, also of a kind that is none.
+#[derive(Clone, Copy, Debug, PartialEq, Eq)]
 pub struct Var {
     pub kind: u32,
     pub vdr: u32,
@@ -11,7 +11,7 @@ pub struct Var {
 }
 
 // The link that is taken next.
-#[derive(Clone, Copy)]
+#[derive(Clone, Copy, Debug, PartialEq, Eq)]
 pub enum Walk {
     // The CDR's link to the GDR.
     Start,
@@ -62,16 +62,18 @@ pub enum Walk {
 }
 
 // An index record one of whose entries led down: the record, the entry after that one, that one's Last. All are 0 where there is none;
-// the entry after one is never 0.
-#[derive(Clone, Copy)]
+// the entry after one is never 0. No Option, and no invariant that says SmallLevel: left_at of checker takes every level, also one of
+// numbers that no walk leaves.
+#[derive(Clone, Copy, Debug, PartialEq, Eq)]
 pub struct Level {
     pub vxr: u32,
     pub next: u32,
     pub last: u32,
 }
 
-// The index records above the one that is walked, the nearest first.
-#[derive(Clone, Copy)]
+// The index records above the one that is walked, the nearest first. Seven fields and no array: to the definitions an array is a list of
+// any length, and each would have to say seven.
+#[derive(Clone, Copy, Debug, PartialEq, Eq)]
 pub struct Levels {
     pub a: Level,
     pub b: Level,
@@ -82,8 +84,8 @@ pub struct Levels {
     pub g: Level,
 }
 
-// Where a link leads.
-#[derive(Clone, Copy)]
+// Where a link leads. Three cases with names: a Result of an Option is matched in two steps, where the definition of a step has one.
+#[derive(Clone, Copy, Debug, PartialEq, Eq)]
 pub enum Link {
     // The file ends before it.
     Past,
@@ -93,8 +95,9 @@ pub enum Link {
     To { at: u32 },
 }
 
-// What a step of the walk finds, whatever the marks say. Numbers are refusals, 0 for none. Where the walk goes on comes first in each case.
-#[derive(Clone, Copy)]
+// What a step of the walk finds, whatever the marks say. Numbers are refusals, 0 for none, since
+// settle takes every number. Where the walk goes on comes first in each case.
+#[derive(Clone, Copy, Debug, PartialEq, Eq)]
 pub enum Step {
     // A zero link that ends a list: where the walk goes on, and the number.
     Over {

@@ -1,17 +1,23 @@
 // A step of the walk.
 ghost use Rattle.std.specs.Prelude.{◌≡◌};
+ghost use Rattle.variables.specs.Vdr.{variable_told};
 ghost use Rattle.walk.specs.Walk.{walk_step_by};
 ghost use Rattle.walk.specs.Bounds.{Within, SmallLevel};
 ghost use Rattle.walk.specs.Bounds.{NextVariable};
 
+use crate::attrs::{AttributeList, EntryList, UnusedList};
+use crate::index::{AtEntry, IndexChain};
 use crate::positions::{Level, Step, Walk};
-use crate::{attrs, index, vars};
-use variables::vdr::Variable;
+use crate::vars::VariableList;
+use crate::{index, lists, vars};
+use records::breaches::Breach;
+use variables::vdr::Shape;
 
 // What the next link of the walk says, with the variable that was looked at; near is the level above, and room says whether there may be
 // one more below.
-pub fn step(f: &[u8], w: Walk, v: Variable, near: Level, room: bool) -> Step
-    requires { Within w × NextVariable f.now v w × SmallLevel near }
+#[tactic(auto, unfolding(crate::specs::Walk::walk_step_by))]
+pub fn step(f: &[u8], w: Walk, v: Result<Shape, Breach>, near: Level, room: bool) -> Step
+    requires { Within w × NextVariable f.now (variable_told v) w × SmallLevel near }
     ensures { result ≡ walk_step_by f.now near room w }
 {
     match w {
@@ -21,22 +27,30 @@ pub fn step(f: &[u8], w: Walk, v: Variable, near: Level, room: bool) -> Step
             link,
             count,
             greatest,
-        } => vars::vars_step(f, v, kind, link, count, greatest),
+        } => {
+            let list = VariableList {
+                kind,
+                count,
+                greatest,
+                linked: v,
+            };
+            lists::list_step(f, link, list)
+        }
         Walk::Chain {
             var,
             link,
             before,
             floor,
             covered,
-        } => index::chain_step(f, near, var, link, before, floor, covered),
+        } => index::chain_step(f, near, link, IndexChain::of(var, before, floor, covered)),
         Walk::Entry {
             var,
             vxr,
-            entry,
+            entry: i,
             floor,
             covered,
-        } => index::entry_step(f, near, room, var, v, vxr, entry, floor, covered),
-        Walk::Attrs { link, count } => attrs::attrs_step(f, link, count),
+        } => index::entry_step(f, near, room, AtEntry::of(var, vxr, i, covered), v, floor),
+        Walk::Attrs { link, count } => lists::list_step(f, link, AttributeList { count }),
         Walk::Entries {
             kind,
             adr,
@@ -44,7 +58,7 @@ pub fn step(f: &[u8], w: Walk, v: Variable, near: Level, room: bool) -> Step
             link,
             count,
             greatest,
-        } => attrs::entries_step(f, kind, adr, place, link, count, greatest),
-        Walk::Unused { link, before } => attrs::unused_step(f, link, before),
+        } => lists::list_step(f, link, EntryList::of(kind, adr, place, count, greatest)),
+        Walk::Unused { link, before } => lists::list_step(f, link, UnusedList { before }),
     }
 }

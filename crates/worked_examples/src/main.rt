@@ -8,8 +8,8 @@ use std::io;
 
 fn main(rt: HostRuntime) -> io::Result<()> {
     vxr::example(&rt)?;
-    tables::plane(&rt, true, false)?;
-    tables::plane(&rt, false, true)?;
-    tables::plane(&rt, true, true)?;
+    tables::plane(&rt, [true, false])?;
+    tables::plane(&rt, [false, true])?;
+    tables::plane(&rt, [true, true])?;
     tables::solid(&rt)
 }

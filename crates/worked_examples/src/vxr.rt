@@ -5,40 +5,32 @@ use std::io;
 
 // Its fields, with no entry used: thirty fields that hold -1.
 fn header(f: &mut [u8]) {
-    let fields = [140, 6, 0, 10, 2];
-    stored_fields::put_all(f, 0, &fields);
-    let unused = [0xffff_ffff; 30];
-    stored_fields::put_all(f, layout::FIRSTS, &unused);
+    stored_fields::put_all(f, 0, &[140, 6, 0, 10, 2]);
+    stored_fields::put_all(f, layout::FIRSTS, &[0xffff_ffff; 30]);
 }
 
 // The Firsts, Lasts and Offsets of two of its ten entries.
 fn used_entries(f: &mut [u8]) {
-    let firsts = [0, 100];
-    stored_fields::put_all(f, layout::FIRSTS, &firsts);
-    let lasts = [99, 149];
-    stored_fields::put_all(f, layout::FIRSTS + 40, &lasts);
-    let offsets = [0xa400, 0xb554];
-    stored_fields::put_all(f, layout::FIRSTS + 80, &offsets);
+    stored_fields::put_all(f, layout::FIRSTS, &[0, 100]);
+    stored_fields::put_all(f, layout::FIRSTS + 40, &[99, 149]);
+    stored_fields::put_all(f, layout::FIRSTS + 80, &[0xa400, 0xb554]);
 }
 
 // Entry i, counted from 0, whose range begins at floor or above; answers where the next may begin.
 fn entry(rt: &impl Print, f: &[u8], i: u32, floor: u32) -> io::Result<u32> {
-    let e = index::entry_at(f, 0, i, floor, 2147483647);
-    print!(rt; "VXR entry {}", i as u64 + 1)?;
-    if e.fault != 0 {
+    print!(rt; "VXR entry {}", u64::from(i) + 1)?;
+    let Ok(e) = index::entry_at(f, 0, i, floor, 2147483647) else {
         println!(rt; ": refused")?;
         return Ok(floor);
-    }
+    };
     println!(rt; ": {}..{} at 0x{:08x}", e.first, e.last, e.link)?;
     Ok(e.last.wrapping_add(1))
 }
 
 fn entries(rt: &impl Print, f: &[u8], used: u32) -> io::Result<()> {
-    let mut i = 0;
     let mut floor = 0;
-    while i < used {
+    for i in 0..used {
         floor = entry(rt, f, i, floor)?;
-        i += 1;
     }
     Ok(())
 }
@@ -48,7 +40,7 @@ fn shown(rt: &impl Print, f: &[u8]) -> io::Result<()> {
     if f.len() < layout::FIRSTS {
         return Ok(());
     }
-    if index::vxr(f, 0) != 0 {
+    if index::vxr(f, 0).is_err() {
         return println!(rt; "VXR refused");
     }
     let bytes = fields::nat_at(f, 0);

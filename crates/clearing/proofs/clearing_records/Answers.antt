@@ -8,34 +8,25 @@ use Rattle.clearing.proofs.Reached.{one_more_lem, too_short, not_fitting, none_l
 use borrow.Author.Rules.{rules}
 use Rattle.clearing.proofs.clearing_records.Goals as goal
 
-pub loop-i-init : goal.loop-i-init
-loop-i-init c = record { within = search rules; long = refl; marks = sym (cleared_none _ _); same = refl }
-
-pub shape_of-m-then-n-lt8 : goal.shape_of-m-then-n-lt8
-shape_of-m-then-n-lt8 c = c.loop-i.invariant.long
+pub loop-n-init : goal.loop-n-init
+loop-n-init c = record { within = search rules; long = refl; marks = sym (cleared_none _ _); same = refl }
 
 pub returns-then-n-lt8 : goal.returns-then-n-lt8
 returns-then-n-lt8 c =
-    let l = c.loop-i in
-    (sym (too_short l.invariant c.loop-i-test.true c.if-n-lt8.true), l.invariant.marks)
-
-pub shape_of-m-then-m-at : goal.shape_of-m-then-m-at
-shape_of-m-then-m-at c = c.loop-i.invariant.long
+    let l = c.loop-n in
+    (sym (too_short l.invariant c.loop-n-test.true c.if-n-lt8.true), l.invariant.marks)
 
 pub returns-then-m-at : goal.returns-then-m-at
 returns-then-m-at c =
-    let l = c.loop-i in
-    (sym (not_fitting l.invariant c.loop-i-test.true c.if-n-lt8.false (omega arith)), l.invariant.marks)
+    let l = c.loop-n in
+    (sym (not_fitting l.invariant c.loop-n-test.true c.if-n-lt8.false (omega arith)), l.invariant.marks)
 
-pub clear_one-requires : goal.clear_one-requires
-clear_one-requires c = omega arith
-
-pub loop-i-preserved : goal.loop-i-preserved
-loop-i-preserved c =
-    let l = c.loop-i in
+pub loop-n-preserved : goal.loop-n-preserved
+loop-n-preserved c =
+    let l = c.loop-n in
     let a = c.args in
     let m = a.m.now in
-    let n = get_or a.sizes.now l.i 0 in
+    let n = get_or a.sizes.now l.n-index 0 in
     let fit : l.at + n ≤ length m = omega arith in
     let marks : c.clear_one.new.m ≡ cleared m 0 (l.at + n) =
     c.clear_one.ensures ∙ rw l.invariant.marks (cleared_on m 0 l.at l.at n (l.at + n) (omega arith) refl (omega arith)) in
@@ -43,11 +34,8 @@ loop-i-preserved c =
       within = fit;
       long = rw marks (cleared_length m 0 (l.at + n) (omega arith));
       marks = marks;
-      same = one_more_lem l.invariant c.loop-i-test.true c.if-n-lt8.false fit;
+      same = one_more_lem l.invariant c.loop-n-test.true c.if-n-lt8.false fit;
     }
 
-pub shape_of-m : goal.shape_of-m
-shape_of-m c = c.loop-i.invariant.long
-
 pub returns : goal.returns
-returns c = let l = c.loop-i in (sym (none_left l.invariant c.loop-i-test.false), l.invariant.marks)
+returns c = let l = c.loop-n in (sym (none_left l.invariant c.loop-n-test.false), l.invariant.marks)

@@ -15,4 +15,4 @@ returns-then-end-o c = (simp (← c.end.ensures.0, le-ltb _ _ c.if-end-o.true, l
 
 pub returns : goal.returns
 unfolding start_at
-returns c = (simp (← c.end.ensures.0, lt-ltb _ _ c.if-end-o.false, le-leb _ _ c.if-o-lt8.false), λ e. omega (arith, c.if-end-o.false, c.end.ensures.1))
+returns c = (simp (← c.end.ensures.0, lt-ltb _ _ c.if-end-o.false, le-leb _ _ c.if-o-lt8.false, c.marks_start.ensures), λ e. omega (arith, c.if-end-o.false, c.end.ensures.1))

@@ -1,7 +1,8 @@
-use mathlib.Core.Path.{◌∙◌}
+use mathlib.Core.Path.{ap, ◌∙◌}
+use Rattle.vax.specs.Words.{vax_in}
 use Rattle.vax.proofs.Words.{d_words}
 use Rattle.vax.proofs.d_float.Goals as goal
 
 pub returns : goal.returns
 returns c =
-    c.of_four.ensures ∙ d_words c.args.s.now c.args.at (λ i. (c.shared_slice_known-1.given i).fits)
+    c.vax_to_double.ensures ∙ ap (vax_in 55 8 128) c.four.ensures ∙ d_words c.args.s.now c.args.at (λ i. (c.type_inv.s i).fits)

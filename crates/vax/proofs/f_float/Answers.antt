@@ -5,6 +5,4 @@ use Rattle.vax.proofs.f_float.Goals as goal
 
 pub returns : goal.returns
 returns c =
-    c.vax_to_double.ensures
-    ∙ ap (vax_in 23 8 128) c.pair.ensures.0
-    ∙ f_words c.args.s.now c.args.at (λ i. (c.shared_slice_known-1.given i).fits)
+    c.vax_to_double.ensures ∙ ap (vax_in 23 8 128) c.pair.ensures.0 ∙ f_words c.args.s.now c.args.at (λ i. (c.type_inv.s i).fits)

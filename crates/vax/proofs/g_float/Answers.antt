@@ -1,7 +1,8 @@
-use mathlib.Core.Path.{◌∙◌}
+use mathlib.Core.Path.{ap, ◌∙◌}
+use Rattle.vax.specs.Words.{vax_in}
 use Rattle.vax.proofs.Words.{g_words}
 use Rattle.vax.proofs.g_float.Goals as goal
 
 pub returns : goal.returns
 returns c =
-    c.of_four.ensures ∙ g_words c.args.s.now c.args.at (λ i. (c.shared_slice_known-1.given i).fits)
+    c.vax_to_double.ensures ∙ ap (vax_in 52 11 1024) c.four.ensures ∙ g_words c.args.s.now c.args.at (λ i. (c.type_inv.s i).fits)

@@ -1,19 +1,9 @@
 use mathlib.Core.Path.{ap, ◌∙◌}
 use Prim.Native.Nat.{ℕ, ◌/◌, ◌^◌}
 use Rattle.vax.proofs.Whole.{nearest_by_half}
-use Rattle.vax.proofs.Machine.{halved, half_fits}
+use Rattle.vax.proofs.Machine.{halved}
 use native.Mathlib.Omega.{arith}
 use Rattle.vax.proofs.nearest.Goals as goal
-
-pub overflow_add-result : goal.overflow_add-result
-overflow_add-result c =
-    let p = c.requires in
-    omega (arith, p.2, half_fits c.args.k c.power-half.result p.1 c.power-half.ensures.0)
-
-pub overflow_add-result-2 : goal.overflow_add-result-2
-overflow_add-result-2 c =
-    let p = c.requires in
-    omega (arith, p.2, half_fits c.args.k c.power-half.result p.1 c.power-half.ensures.0)
 
 pub returns : goal.returns
 returns c =

@@ -9,4 +9,4 @@ returns-then-places-lt53 c = (rw (lt-ltb _ _ c.if-places-lt53.true) c.kept.ensur
 
 pub returns : goal.returns
 unfolding size_of
-returns c = (rw (le-ltb _ _ c.if-places-lt53.false, c.kept-2.ensures.0), omega arith)
+returns c = (rw (le-ltb _ _ c.if-places-lt53.false, c.from.ensures, c.kept-2.ensures.0), omega arith)

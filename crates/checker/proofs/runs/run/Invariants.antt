@@ -1,13 +1,11 @@
-use mathlib.Core.Path.{◌≡◌}
-use Prim.Native.Nat.{◌≤◌, ◌-◌}
-use lib.ListN.{length}
+use Rattle.std.proofs.Common.{◌≤◌, ◌-◌}
 use Rattle.checker.specs.Bounds.{InRun}
 use Rattle.checker.proofs.runs.run.Given as goal
 
--- Idea: the steps of one stage after those of the other. Invariant: at most n steps were made, the marks are as long as at first, and the check
--- stands where the plain run does after k steps.
-abbrev pub invariant-loop-k : goal.invariant-loop-k
-invariant-loop-k l = (l.k ≤ l.n) × (length l.m ≡ length l.initial.m) × InRun l.f l.initial.t l.initial.m l.t l.m l.k
+-- Idea: the steps of one stage after those of the other. Invariant: at most n steps were made, and the check stands where the plain run does
+-- after so many.
+abbrev pub invariant-loop-ran : goal.invariant-loop-ran
+invariant-loop-ran l = (l.ran.made ≤ l.n) × InRun l.f l.fn.s l.initial.m l.ran.state l.m l.ran.made
 
-abbrev pub decreases-loop-k : goal.decreases-loop-k
-decreases-loop-k l = l.n - l.k
+abbrev pub decreases-loop-ran : goal.decreases-loop-ran
+decreases-loop-ran l = l.n - l.ran.made

@@ -1,15 +1,21 @@
-use native.Mathlib.Omega.{arith}
-use borrow.Author.Tests.{eq-eqb, ne_eqb}
+use Rattle.std.proofs.Common.{arith, sym}
+use borrow.Author.Tests.{ltb-false, ne_eqb}
+use Rattle.records.specs.Opening.{too_long}
+use Rattle.records.proofs.Told.{number_some}
 use Rattle.checker.specs.Step.{step_by}
+use Rattle.checker.proofs.Passed.{opened}
 use Rattle.checker.proofs.steps.open.Goals as goal
 
-pub returns-then-number-ne0 : goal.returns-then-number-ne0
+pub returns-in-Err : goal.returns-in-Err
 unfolding step_by
-returns-then-number-ne0 c = simp (c.refused.ensures, c.none_involved.ensures, ne_eqb _ _ c.if-number-ne0.true, ← c.open_number-number.ensures.0)
+returns-in-Err c =
+    simp (c.refused.ensures, c.none_involved.ensures, c.from.ensures, ← c.in-Err.ensures, ne_eqb _ 0 (number_some c.in-Err.breach))
 
 pub overflow_cast-result : goal.overflow_cast-result
-overflow_cast-result c = omega (arith, (c.open_number-number.ensures.1 c.if-number-ne0.false).short)
+unfolding too_long
+overflow_cast-result c =
+    omega (arith, ltb-false _ _ (opened c.args.f.now c.args.m.now (sym c.in_default.ensures)).0)
 
 pub returns : goal.returns
 unfolding step_by
-returns c = simp (eq-eqb _ _ c.if-number-ne0.false, ← c.open_number-number.ensures.0)
+returns c = simp (← c.in_default.ensures)

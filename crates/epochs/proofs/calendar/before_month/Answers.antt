@@ -1,9 +1,5 @@
-use native.Mathlib.Omega.{arith}
 use Rattle.epochs.proofs.Months.{before_early, before_late}
 use Rattle.epochs.proofs.calendar.before_month.Goals as goal
-
-pub overflow_sub-result : goal.overflow_sub-result
-overflow_sub-result c = omega (arith, c.short.ensures)
 
 pub returns-then-m-le2 : goal.returns-then-m-le2
 returns-then-m-le2 c = before_early c.args.l c.args.m c.requires.1 c.if-m-le2.true

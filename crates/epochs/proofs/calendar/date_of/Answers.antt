@@ -1,11 +1,5 @@
-use Rattle.epochs.proofs.Dates.{day_of_year, date_found}
+use Rattle.epochs.proofs.Dates.{date_found}
 use Rattle.epochs.proofs.calendar.date_of.Goals as goal
-
-pub month_of-m-requires : goal.month_of-m-requires
-month_of-m-requires c =
-    let p = c.year_of-p in
-    let l = c.is_leap-l in
-    day_of_year c.args.n p.result.year p.result.day l.result p.ensures l.ensures
 
 pub returns : goal.returns
 returns c =

@@ -3,7 +3,7 @@ use Rattle.epochs.proofs.calendar.is_date.Goals as goal
 
 pub returns : goal.returns
 returns c =
-    let a = c.args in
+    let d = c.args.d in
     let l = c.is_leap in
     let k = c.month_days in
-    date_test a.y a.m a.d l.result k.result k.ensures l.ensures
+    date_test d.year d.month d.day l.result k.result k.ensures l.ensures

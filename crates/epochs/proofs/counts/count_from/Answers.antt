@@ -1,38 +1,47 @@
-use mir.Syntax.{w64}
-use Rattle.format.proofs.SignedTests.{cast_nat}
-use Rattle.epochs.proofs.Moments.{negative_given, none_given, moment_given}
+use mathlib.Core.Path.{refl, sym, ◌∙◌}
+use Rattle.epochs.proofs.Moments.{given}
 use Rattle.epochs.proofs.counts.count_from.Goals as goal
 
-pub returns-then-year-month : goal.returns-then-year-month
-returns-then-year-month c =
+pub returns-in_err-natural : goal.returns-in_err-natural
+returns-in_err-natural c =
     let f = c.ranges in
-    negative_given f.year f.month f.day f.milliseconds c.if-year-month.true
+    given f.year f.month f.day f.milliseconds (sym c.in_err-natural.was ∙ c.natural.ensures) refl refl refl c.from_residual.ensures
 
-pub overflow_cast-year : goal.overflow_cast-year
-overflow_cast-year c =
+pub returns-in_err-natural-2 : goal.returns-in_err-natural-2
+returns-in_err-natural-2 c =
     let f = c.ranges in
-    let k = none_given f.year f.month f.day f.milliseconds c.if-year-month.false in
-    cast_nat w64 0 c.args.year f.year tt k.year
+    given f.year f.month f.day f.milliseconds
+    (sym c.in_ok-natural.was ∙ c.natural.ensures)
+    (sym c.in_err-natural-2.was ∙ c.natural-2.ensures)
+    refl refl
+    c.from_residual-in_err-natural-2.ensures
 
-pub overflow_cast-month : goal.overflow_cast-month
-overflow_cast-month c =
+pub returns-in_err-natural-3 : goal.returns-in_err-natural-3
+returns-in_err-natural-3 c =
     let f = c.ranges in
-    let k = none_given f.year f.month f.day f.milliseconds c.if-year-month.false in
-    cast_nat w64 0 c.args.month f.month tt k.month
+    given f.year f.month f.day f.milliseconds
+    (sym c.in_ok-natural.was ∙ c.natural.ensures)
+    (sym c.in_ok-natural-2.was ∙ c.natural-2.ensures)
+    (sym c.in_err-natural-3.was ∙ c.natural-3.ensures)
+    refl
+    c.from_residual-in_err-natural-3.ensures
 
-pub overflow_cast-day : goal.overflow_cast-day
-overflow_cast-day c =
+pub returns-in_err-natural-4 : goal.returns-in_err-natural-4
+returns-in_err-natural-4 c =
     let f = c.ranges in
-    let k = none_given f.year f.month f.day f.milliseconds c.if-year-month.false in
-    cast_nat w64 0 c.args.day f.day tt k.day
-
-pub overflow_cast-milliseconds : goal.overflow_cast-milliseconds
-overflow_cast-milliseconds c =
-    let f = c.ranges in
-    let k = none_given f.year f.month f.day f.milliseconds c.if-year-month.false in
-    cast_nat w64 0 c.args.milliseconds f.milliseconds tt k.time
+    given f.year f.month f.day f.milliseconds
+    (sym c.in_ok-natural.was ∙ c.natural.ensures)
+    (sym c.in_ok-natural-2.was ∙ c.natural-2.ensures)
+    (sym c.in_ok-natural-3.was ∙ c.natural-3.ensures)
+    (sym c.in_err-natural-4.was ∙ c.natural-4.ensures)
+    c.from_residual-in_err-natural-4.ensures
 
 pub returns : goal.returns
 returns c =
     let f = c.ranges in
-    moment_given f.year f.month f.day f.milliseconds c.if-year-month.false c.count_moment.ensures
+    given f.year f.month f.day f.milliseconds
+    (sym c.in_ok-natural.was ∙ c.natural.ensures)
+    (sym c.in_ok-natural-2.was ∙ c.natural-2.ensures)
+    (sym c.in_ok-natural-3.was ∙ c.natural-3.ensures)
+    (sym c.in_ok-natural-4.was ∙ c.natural-4.ensures)
+    c.count_moment.ensures

@@ -1,11 +1,8 @@
-use mathlib.Core.Path.{sym, ◌∙◌}
+use mathlib.Core.Path.{ap, ◌∙◌}
+use Rattle.std.specs.Prelude.{is_some}
 use Rattle.epochs.specs.Epochs.{is_epoch}
 use Rattle.epochs.proofs.counts.is_epoch.Goals as goal
 
-pub returns-in-Whole : goal.returns-in-Whole
+pub returns : goal.returns
 unfolding is_epoch
-returns-in-Whole c = rw (sym c.count_of.ensures ∙ c.in-Whole.is)
-
-pub returns-in-NoEpoch : goal.returns-in-NoEpoch
-unfolding is_epoch
-returns-in-NoEpoch c = rw (sym c.count_of.ensures ∙ c.in-NoEpoch.is)
+returns c = c.is_some.ensures ∙ ap is_some c.count_of.ensures

@@ -1,60 +1,52 @@
-use native.Mathlib.Omega.{arith}
 use mathlib.Core.Path.{sym, ◌∙◌}
-use Rattle.lookup.specs.declared.indexes.Scan.TheVariants.{Covering, Passed, Broken}
+use Rattle.std.specs.Prelude.{Ok, Err}
+use Rattle.std.proofs.lemmas.Result.{err_from_is_err_and}
+use Rattle.lookup.specs.declared.indexes.Scan.TheVariants.{Covering, Passed}
 use Rattle.lookup.proofs.Lowering.{lowest_here, too_deep, none_left, not_met, one_down}
 use Rattle.lookup.proofs.indexes.+go_down.Goals as goal
 
-pub returns-then-not-is_index : goal.returns-then-not-is_index
-returns-then-not-is_index t c =
+pub returns-then-not-is_index-clause-told : goal.returns-then-not-is_index-clause-told
+returns-then-not-is_index-clause-told t c =
     let a = c.args in
-    let none = sym c.is_index.ensures ∙ c.if-not-is_index.true in
-    (lowest_here a.levels a.f.now a.r a.e a.left none, c.requires)
+    lowest_here a.levels a.f.now a.r a.e a.left (sym c.is_index.ensures ∙ c.if-not-is_index.true)
 
-pub returns-then-levels-eq0 : goal.returns-then-levels-eq0
-returns-then-levels-eq0 t c =
+pub returns-then-levels-eq0-clause-told : goal.returns-then-levels-eq0-clause-told
+returns-then-levels-eq0-clause-told t c =
     let a = c.args in
-    (too_deep a.levels a.f.now a.r a.e a.left c.if-levels-eq0.true (sym c.is_index.ensures ∙ c.if-not-is_index.false), tt)
+    too_deep a.levels a.f.now a.r a.e a.left c.if-levels-eq0.true (sym c.is_index.ensures ∙ c.if-not-is_index.false)
 
-pub returns-then-left-eq0 : goal.returns-then-left-eq0
-returns-then-left-eq0 t c =
+pub returns-then-left-eq0-clause-told : goal.returns-then-left-eq0-clause-told
+returns-then-left-eq0-clause-told t c =
     let a = c.args in
-    (none_left a.levels a.f.now a.r a.e a.left c.if-levels-eq0.false (sym c.is_index.ensures ∙ c.if-not-is_index.false) c.if-left-eq0.true, tt)
+    none_left a.levels a.f.now a.r a.e a.left c.if-levels-eq0.false (sym c.is_index.ensures ∙ c.if-not-is_index.false) c.if-left-eq0.true
 
-pub returns-then-not-lower_met : goal.returns-then-not-lower_met
-returns-then-not-lower_met t c =
+pub returns-then-not-lower_met-clause-told : goal.returns-then-not-lower_met-clause-told
+returns-then-not-lower_met-clause-told t c =
     let a = c.args in
-    let unmet = sym c.lower_met.ensures.0 ∙ c.if-not-lower_met.true in
-    (not_met a.levels a.f.now a.r a.e a.left c.if-levels-eq0.false (sym c.is_index.ensures ∙ c.if-not-is_index.false) unmet, tt)
+    let unmet = sym c.lower_met.ensures.told ∙ c.if-not-lower_met.true in
+    not_met a.levels a.f.now a.r a.e a.left c.if-levels-eq0.false (sym c.is_index.ensures ∙ c.if-not-is_index.false) unmet
 
-pub nat_at-requires : goal.nat_at-requires
-nat_at-requires t c = omega (arith, c.lower_met.ensures.1 c.if-not-lower_met.false)
-
-pub scan_entries-s-requires : goal.scan_entries-s-requires
-scan_entries-s-requires t c = let fits = c.requires in omega (arith, fits.first, fits.last, fits.small)
-
-pub go_down-requires : goal.go_down-requires
-go_down-requires t c = (omega (arith, c.if-levels-eq0.false), rw c.in-Covering.is at c.scan_entries-s.ensures.1)
-
-pub returns-in-Covering : goal.returns-in-Covering
-returns-in-Covering t c =
+pub returns-in_err-s-clause-told : goal.returns-in_err-s-clause-told
+returns-in_err-s-clause-told t c =
     let a = c.args in
-    let met = sym c.lower_met.ensures.0 ∙ c.if-not-lower_met.false in
+    let p = err_from_is_err_and c.from_residual.result c.from_residual.ensures.1 in
+    let met = sym c.lower_met.ensures.told ∙ c.if-not-lower_met.false in
     let down = one_down a.levels a.f.now a.r a.e a.left c.if-levels-eq0.false (sym c.is_index.ensures ∙ c.if-not-is_index.false)
-    c.if-left-eq0.false met c.nat_at.result c.nat_at.ensures.0 (Covering _) (sym c.in-Covering.is ∙ c.scan_entries-s.ensures.0) in
-    (c.go_down.ensures.0 ∙ sym down, c.go_down.ensures.1)
+    c.if-left-eq0.false met c.nat_at-used.result c.nat_at-used.ensures.0 (Err _) c.in_err-s.ensures.told in
+    rw (p.1, p.2) (sym down)
 
-pub returns-in-Passed : goal.returns-in-Passed
-returns-in-Passed t c =
+pub returns-in-Covering-clause-told : goal.returns-in-Covering-clause-told
+returns-in-Covering-clause-told t c =
     let a = c.args in
-    let met = sym c.lower_met.ensures.0 ∙ c.if-not-lower_met.false in
+    let met = sym c.lower_met.ensures.told ∙ c.if-not-lower_met.false in
     let down = one_down a.levels a.f.now a.r a.e a.left c.if-levels-eq0.false (sym c.is_index.ensures ∙ c.if-not-is_index.false)
-    c.if-left-eq0.false met c.nat_at.result c.nat_at.ensures.0 (Passed _) (sym c.in-Passed.is ∙ c.scan_entries-s.ensures.0) in
-    (sym down, tt)
+    c.if-left-eq0.false met c.nat_at-used.result c.nat_at-used.ensures.0 (Ok (Covering _)) (rw c.in-Covering.is at c.in_ok-s.ensures.told) in
+    c.go_down.ensures.told ∙ sym down
 
-pub returns-in-Broken : goal.returns-in-Broken
-returns-in-Broken t c =
+pub returns-in-Passed-clause-told : goal.returns-in-Passed-clause-told
+returns-in-Passed-clause-told t c =
     let a = c.args in
-    let met = sym c.lower_met.ensures.0 ∙ c.if-not-lower_met.false in
+    let met = sym c.lower_met.ensures.told ∙ c.if-not-lower_met.false in
     let down = one_down a.levels a.f.now a.r a.e a.left c.if-levels-eq0.false (sym c.is_index.ensures ∙ c.if-not-is_index.false)
-    c.if-left-eq0.false met c.nat_at.result c.nat_at.ensures.0 Broken (sym c.in-Broken.is ∙ c.scan_entries-s.ensures.0) in
-    (sym down, tt)
+    c.if-left-eq0.false met c.nat_at-used.result c.nat_at-used.ensures.0 (Ok (Passed _)) (rw c.in-Passed.is at c.in_ok-s.ensures.told) in
+    sym down

@@ -1,4 +1,3 @@
-use Prim.Native.Nat.{◌-◌}
 use Rattle.lookup.proofs.Scans.{StillScans}
 use Rattle.lookup.proofs.indexes.scan_entries.Given as goal
 
@@ -6,6 +5,3 @@ use Rattle.lookup.proofs.indexes.scan_entries.Given as goal
 -- may begin below lowest.
 abbrev pub invariant-loop-i : goal.invariant-loop-i
 invariant-loop-i l = StillScans l.f l.x l.r l.most l.used l.floor l.i l.lowest
-
-abbrev pub decreases-loop-i : goal.decreases-loop-i
-decreases-loop-i l = l.used - l.i

@@ -1,24 +1,45 @@
-use mathlib.Core.Path.{◌≡◌}
+use mathlib.Core.Path.{sym, ap, ◌∙◌}
 use mir.Syntax.{w64}
 use mir.Facts.{to_z-of_z}
-use Rattle.lookup.specs.Indexes.{record_number, record_way}
+use Rattle.lookup.specs.Indexes.{Index, lowest_of, values_of, values_by, record_way}
+use Rattle.std.proofs.lemmas.Result.{err_from_is_err_and}
+use Rattle.lookup.proofs.RecordNumbers.{no_values}
 use Rattle.lookup.proofs.indexes.to_record.Goals as goal
 
-pub values_below-requires : goal.values_below-requires
-values_below-requires c = c.seek_record-i.ensures.1
-
-pub returns-in-There : goal.returns-in-There
+pub returns-in_err-n-clause-told : goal.returns-in_err-n-clause-told
 unfolding record_way
-returns-in-There c =
-    let n = c.record_number-n in
-    let e : n.result ≡ record_number c.args.f.now c.args.v c.args.r = rw (to_z-of_z {w = w64} c.ranges.r) at n.ensures in
-    let t = rw c.in-There.is at e in
-    (rw (← t, c.values_below.ensures.0, c.seek_record-i.ensures.0), c.values_below.ensures.1)
+returns-in_err-n-clause-told c =
+    let a = c.args in
+    let p = err_from_is_err_and c.from_residual.result c.from_residual.ensures.1 in
+    let number = rw (to_z-of_z {w = w64} c.ranges.r) at c.record_number.ensures in
+    rw (p.1, p.2) (no_values a.f.now a.v a.bytes a.left _ _ c.in_err-n.ensures.value ∙ ap (values_by a.f.now a.v a.bytes a.left) number)
 
-pub returns-in-Missing : goal.returns-in-Missing
+pub returns-in_err-top-clause-told : goal.returns-in_err-top-clause-told
 unfolding record_way
-returns-in-Missing c =
-    let n = c.record_number-n in
-    let e : n.result ≡ record_number c.args.f.now c.args.v c.args.r = rw (to_z-of_z {w = w64} c.ranges.r) at n.ensures in
-    let t = rw c.in-Missing.is at e in
-    (rw (← t), tt)
+returns-in_err-top-clause-told c =
+    let a = c.args in
+    let n = c.in_ok-n.n in
+    let p = err_from_is_err_and c.from_residual-in_err-top.result c.from_residual-in_err-top.ensures.1 in
+    let number = sym c.in_ok-n.ensures.ok_part ∙ rw (to_z-of_z {w = w64} c.ranges.r) at c.record_number.ensures in
+    rw (p.1, p.2)
+    (ap (λ (s : Index). values_of a.f.now n a.bytes (lowest_of a.f.now n s)) c.in_err-top.ensures.told ∙ ap (values_by a.f.now a.v a.bytes a.left) number)
+
+pub returns-in_err-c-clause-told : goal.returns-in_err-c-clause-told
+unfolding record_way
+returns-in_err-c-clause-told c =
+    let a = c.args in
+    let n = c.in_ok-n.n in
+    let p = err_from_is_err_and c.from_residual-in_err-c.result c.from_residual-in_err-c.ensures.1 in
+    let number = sym c.in_ok-n.ensures.ok_part ∙ rw (to_z-of_z {w = w64} c.ranges.r) at c.record_number.ensures in
+    rw (p.1, p.2)
+    (ap (values_of a.f.now n a.bytes) c.in_err-c.ensures.told
+    ∙ ap (λ (s : Index). values_of a.f.now n a.bytes (lowest_of a.f.now n s)) c.in_ok-top.ensures.told ∙ ap (values_by a.f.now a.v a.bytes a.left) number)
+
+pub returns-clause-told : goal.returns-clause-told
+unfolding record_way
+returns-clause-told c =
+    let a = c.args in
+    let n = c.in_ok-n.n in
+    let number = sym c.in_ok-n.ensures.ok_part ∙ rw (to_z-of_z {w = w64} c.ranges.r) at c.record_number.ensures in
+    c.values_named.ensures.told ∙ ap (values_of a.f.now n a.bytes) c.in_ok-c.ensures.told
+    ∙ ap (λ (s : Index). values_of a.f.now n a.bytes (lowest_of a.f.now n s)) c.in_ok-top.ensures.told ∙ ap (values_by a.f.now a.v a.bytes a.left) number

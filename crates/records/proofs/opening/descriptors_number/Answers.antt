@@ -1,21 +1,22 @@
+use Rattle.std.proofs.Common.{◌∙◌}
 use Rattle.records.specs.Opening.{descriptors_number, single_file, gdr_at}
+use Rattle.records.proofs.Told.{same_breach}
 use Rattle.records.proofs.opening.descriptors_number.Goals as goal
 
-pub returns-then-not-cdr_right : goal.returns-then-not-cdr_right
+pub returns-in_err-check : goal.returns-in_err-check
 unfolding descriptors_number
-returns-then-not-cdr_right c = simp (c.if-not-cdr_right.true, ← c.cdr_right.ensures)
+returns-in_err-check c =
+    let e = c.in_err-check.ensures in
+    same_breach _ _ c.from_residual.ensures.1 ∙ e.told ∙ simp (← c.cdr_right.ensures, e.tests.0)
 
-pub returns-then-not-bit : goal.returns-then-not-bit
+pub returns-in_err-check-2 : goal.returns-in_err-check-2
 unfolding descriptors_number single_file
-returns-then-not-bit c =
-    simp (c.if-not-bit.true, ← c.bit.ensures, c.if-not-cdr_right.false, ← c.cdr_right.ensures)
-
-pub returns-then-not-gdr_right : goal.returns-then-not-gdr_right
-unfolding descriptors_number single_file gdr_at
-returns-then-not-gdr_right c =
-    simp (c.if-not-gdr_right.true, ← c.gdr_right.ensures, ← c.link_at.ensures.0, c.if-not-bit.false, ← c.bit.ensures, c.if-not-cdr_right.false, ← c.cdr_right.ensures)
+returns-in_err-check-2 c =
+    let e = c.in_err-check-2.ensures in
+    same_breach _ _ c.from_residual-in_err-check-2.ensures.1 ∙ e.told ∙ simp (← c.cdr_right.ensures, c.in_ok-check.ensures.tests, ← c.bit.ensures, e.tests.0)
 
 pub returns : goal.returns
 unfolding descriptors_number single_file gdr_at
 returns c =
-    simp (c.if-not-gdr_right.false, ← c.gdr_right.ensures, ← c.link_at.ensures.0, c.if-not-bit.false, ← c.bit.ensures, c.if-not-cdr_right.false, ← c.cdr_right.ensures)
+    c.check-3.ensures.told
+    ∙ simp (← c.cdr_right.ensures, c.in_ok-check.ensures.tests, ← c.bit.ensures, c.in_ok-check-2.ensures.tests, ← c.link_at-gdr.ensures.0, ← c.gdr_right.ensures)

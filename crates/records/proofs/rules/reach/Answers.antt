@@ -1,19 +1,14 @@
 use Prim.Native.Nat.{◌+◌}
 use native.Mathlib.Omega.{arith}
-use borrow.Author.Tests.{lt-ltb, le-ltb}
+use borrow.Author.Tests.{le-ltb}
+use Rattle.std.proofs.Common.{◌∙◌, sym}
 use Rattle.records.specs.Rules.{reach_of}
+use Rattle.records.proofs.Told.{last_test}
 use Rattle.records.proofs.rules.reach.Goals as goal
 
-pub returns-then-nat_at-n : goal.returns-then-nat_at-n
+pub returns-clause-told : goal.returns-clause-told
 unfolding reach_of
-returns-then-nat_at-n c =
+returns-clause-told c =
     let end = c.end in
-    (simp (lt-ltb _ _ c.if-nat_at-n.true, ← c.nat_at.ensures.0, ← end.ensures.0, le-ltb end.result (c.args.at + 4) (omega (arith, c.requires, c.if-end-at.false))), λ e. omega arith)
-
-pub returns : goal.returns
-unfolding reach_of
-returns c =
-    let end = c.end in (
-      simp (le-ltb _ _ c.if-nat_at-n.false, ← c.nat_at.ensures.0, ← end.ensures.0, le-ltb end.result (c.args.at + 4) (omega (arith, c.requires, c.if-end-at.false)), le-ltb _ _ c.if-end-at.false),
-      λ e. omega (arith, c.if-end-at.false, end.ensures.1),
-    )
+    let begins = le-ltb end.result (c.args.at + 4) (omega (arith, c.requires, c.if-end-at.false)) in
+    c.check.ensures.told ∙ simp (← c.nat_at.ensures.0, ← end.ensures.0, begins, le-ltb _ _ c.if-end-at.false) (sym (last_test 10 c.args.n c.nat_at.result))

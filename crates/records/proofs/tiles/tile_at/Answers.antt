@@ -1,21 +1,20 @@
-use borrow.Author.Tests.{lt-leb, le-leb}
+use Rattle.std.proofs.Common.{◌∙◌}
 use Rattle.records.specs.Tiles.{tile, tile_right, type_uncarried}
+use Rattle.records.proofs.Told.{same_breach, last_not}
 use Rattle.records.proofs.tiles.tile_at.Goals as goal
 
-pub returns-then-end-o : goal.returns-then-end-o
-unfolding tile tile_right type_uncarried
-returns-then-end-o c = simp (lt-leb _ _ c.if-end-o.true, ← c.end-end.ensures.0)
+pub returns-in_err-check : goal.returns-in_err-check
+unfolding tile tile_right
+returns-in_err-check c =
+    let e = c.in_err-check.ensures in
+    same_breach _ _ c.from_residual.ensures.1 ∙ e.told ∙ simp (← c.end-end.ensures.0, e.tests.0)
 
-pub returns-then-not-tile_fields : goal.returns-then-not-tile_fields
-unfolding tile tile_right type_uncarried
-returns-then-not-tile_fields c = simp (c.if-not-tile_fields.true, ← c.tile_fields.ensures, le-leb _ _ c.if-end-o.false, ← c.end-end.ensures.0)
-
-pub returns-then-at_least : goal.returns-then-at_least
-unfolding tile tile_right type_uncarried
-returns-then-at_least c =
-    simp (c.if-at_least.true, ← c.at_least.ensures, c.if-not-tile_fields.false, ← c.tile_fields.ensures, le-leb _ _ c.if-end-o.false, ← c.end-end.ensures.0)
+pub returns-in_err-check-2 : goal.returns-in_err-check-2
+unfolding tile tile_right
+returns-in_err-check-2 c =
+    let e = c.in_err-check-2.ensures in
+    same_breach _ _ c.from_residual-in_err-check-2.ensures.1 ∙ e.told ∙ simp (← c.end-end.ensures.0, c.in_ok-check.ensures.tests, ← c.tile_fields.ensures, e.tests.0)
 
 pub returns : goal.returns
 unfolding tile tile_right type_uncarried
-returns c =
-    simp (c.if-at_least.false, ← c.at_least.ensures, c.if-not-tile_fields.false, ← c.tile_fields.ensures, le-leb _ _ c.if-end-o.false, ← c.end-end.ensures.0)
+returns c = c.check-3.ensures.told ∙ simp (← c.end-end.ensures.0, c.in_ok-check.ensures.tests, ← c.tile_fields.ensures, c.in_ok-check-2.ensures.tests, ← c.at_least.ensures, last_not)

@@ -1,8 +1,8 @@
-use mathlib.Core.Path.{◌∙◌}
+use Rattle.std.proofs.Common.{◌∙◌}
 use Rattle.records.specs.Unused.{uir_rule}
 use Rattle.records.proofs.Judged.{judged_reach}
 use Rattle.records.proofs.unused.uir.Goals as goal
 
-pub returns : goal.returns
+pub returns-clause-told : goal.returns-clause-told
 unfolding uir_rule
-returns c = (c.reach.ensures.0 ∙ judged_reach c.args.f.now c.args.at 16, c.reach.ensures.1)
+returns-clause-told c = c.reach.ensures.told ∙ judged_reach c.args.f.now c.args.at 16

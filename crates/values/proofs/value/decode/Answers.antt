@@ -1,50 +1,34 @@
 use mathlib.Core.Path.{sym, ◌∙◌}
-use Rattle.values.proofs.Elements.{lies, there}
-use borrow.Author.Tests.{lt-ltb, eq-eqb, ne_eqb}
-use Rattle.values.specs.Values.{decoded_of, is_nothing}
-use Rattle.values.proofs.Rows.{type_short, element, vax_size}
 use native.Mathlib.Omega.{arith}
+use Rattle.values.proofs.Elements.{there, cut_short}
+use Rattle.values.proofs.Rows.{row_short, row_element, row_vax}
 use Rattle.values.proofs.value.decode.Goals as goal
 
-pub returns-then-size-eq0 : goal.returns-then-size-eq0
-unfolding decoded_of is_nothing
-returns-then-size-eq0 c = rw (← c.type_of-d.ensures, ← c.encoding_of-c.ensures, eq-eqb _ _ c.if-size-eq0.true)
-
-pub returns-then-order-eq0 : goal.returns-then-order-eq0
-unfolding decoded_of is_nothing
-returns-then-order-eq0 c =
-    rw (← c.type_of-d.ensures, ← c.encoding_of-c.ensures, ne_eqb _ _ c.if-size-eq0.false, eq-eqb _ _ c.if-order-eq0.true)
-
-pub returns-then-end-at : goal.returns-then-end-at
-unfolding decoded_of is_nothing
-returns-then-end-at c =
-    rw (
-      ← c.type_of-d.ensures,
-      ← c.encoding_of-c.ensures,
-      ne_eqb _ _ c.if-size-eq0.false,
-      ne_eqb _ _ c.if-order-eq0.false,
-      ← c.end.ensures.0,
-      lt-ltb _ _ c.if-end-at.true,
-    )
+pub returns-then-end-place : goal.returns-then-end-place
+returns-then-end-place c =
+    let a = c.args in
+    let d = sym c.in_ok-d.ensures.ok_part ∙ c.type_of.ensures in
+    sym (cut_short a.f.now a.at a.t a.e (rw (← d) (omega (arith, c.if-end-place.true, c.end.ensures.0))))
 
 pub vax_at-requires : goal.vax_at-requires
 vax_at-requires c =
-    let e = vax_size _ _ c.type_of-d.ensures _ (sym c.is_vax.ensures ∙ c.if-is_vax.true) in
-    omega (arith, e, c.if-end-at.false, c.end.ensures)
+    let size = row_vax c.args.t (sym c.in_ok-d.ensures.ok_part ∙ c.type_of.ensures) _ (sym c.is_vax.ensures ∙ c.if-is_vax.true) in
+    omega (arith, size, c.if-end-place.false, c.end.ensures)
 
 pub returns-then-is_vax : goal.returns-then-is_vax
 returns-then-is_vax c =
-    let fits = lies _ _ _ _ c.end.ensures.0 c.if-size-eq0.false c.if-order-eq0.false c.if-end-at.false in
-    rw (there _ _ _ _ c.type_of-d.ensures c.encoding_of-c.ensures fits c.is_vax.ensures, c.if-is_vax.true, ← c.vax_at.ensures) c.vax_answer.ensures
+    let a = c.args in
+    let is = there a.f.now a.at a.t a.e (sym c.in_ok-d.ensures.ok_part ∙ c.type_of.ensures) (sym c.in_ok-c.ensures.ok_part ∙ c.encoding_of.ensures) (omega arith) c.is_vax.ensures in
+    rw (is, c.if-is_vax.true, ← c.vax_at.ensures) c.vax_answer.ensures
 
-pub raw-n-requires : goal.raw-n-requires
-raw-n-requires c = omega (arith, type_short _ _ c.type_of-d.ensures)
+pub raw-requires : goal.raw-requires
+raw-requires c = (omega arith, row_short c.args.t (sym c.in_ok-d.ensures.ok_part ∙ c.type_of.ensures))
 
-pub answer_of-requires : goal.answer_of-requires
-answer_of-requires c =
-    element _ _ c.type_of-d.ensures _ (omega arith) c.raw-n.ensures.1
+pub invariant_of-number : goal.invariant_of-number
+invariant_of-number c = record { fits = row_element c.args.t (sym c.in_ok-d.ensures.ok_part ∙ c.type_of.ensures) _ c.raw.ensures.1 }
 
 pub returns : goal.returns
 returns c =
-    let fits = lies _ _ _ _ c.end.ensures.0 c.if-size-eq0.false c.if-order-eq0.false c.if-end-at.false in
-    rw (there _ _ _ _ c.type_of-d.ensures c.encoding_of-c.ensures fits c.is_vax.ensures, c.if-is_vax.false, c.answer_of.ensures, c.raw-n.ensures.0)
+    let a = c.args in
+    let is = there a.f.now a.at a.t a.e (sym c.in_ok-d.ensures.ok_part ∙ c.type_of.ensures) (sym c.in_ok-c.ensures.ok_part ∙ c.encoding_of.ensures) (omega arith) c.is_vax.ensures in
+    rw (is, c.if-is_vax.false, c.answer.ensures, c.raw.ensures.0)

@@ -1,18 +1,12 @@
-use native.Mathlib.Omega.{arith}
+use mathlib.Core.Path.{◌∙◌}
 use Rattle.walk.specs.Walk.{lower_number}
-use Rattle.format.proofs.Numbers.{first_some, first_none, first_last}
+use Rattle.walk.proofs.Chained.{stops_at, goes_on}
 use Rattle.walk.proofs.index.lower_number.Goals as goal
 
-pub returns-then-rule-ne0 : goal.returns-then-rule-ne0
+pub returns-in_err-vxr-clause-told : goal.returns-in_err-vxr-clause-told
 unfolding lower_number
-returns-then-rule-ne0 c = (simp (first_some c.if-rule-ne0.true, ← c.vxr-rule.ensures.0), λ e. absurd (c.if-rule-ne0.true e))
+returns-in_err-vxr-clause-told c = stops_at _ _ c.from_residual.ensures.1 c.in_err-vxr.ensures.told _
 
-pub is_nat-requires : goal.is_nat-requires
-is_nat-requires c = omega (arith, c.vxr-rule.ensures.1 c.if-rule-ne0.false)
-
-pub returns : goal.returns
+pub returns-clause-told : goal.returns-clause-told
 unfolding lower_number
-returns c =
-    let v = c.vxr-rule in
-    let zero = c.if-rule-ne0.false in
-    (simp (c.unless_passed.ensures, ← c.is_nat.ensures, first_none zero, ← v.ensures.0, first_last), λ e. v.ensures.1 zero)
+returns-clause-told c = goes_on _ _ c.in_ok-vxr.ensures.told (c.check.ensures.told ∙ simp (← c.is_nat-last.ensures))

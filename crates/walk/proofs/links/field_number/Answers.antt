@@ -1,12 +1,18 @@
-use native.Mathlib.Omega.{arith}
-use borrow.Author.Tests.{lt-ltb, le-ltb}
+use Rattle.std.proofs.Common.{◌∙◌}
+use Rattle.std.proofs.Math.Facts.{to_z-of_z}
+use borrow.Author.Tests.{leb-true, leb-false, lt-ltb, le-ltb}
+use Rattle.records.proofs.Told.{same_breach}
 use Rattle.walk.specs.Walk.{field_number}
 use Rattle.walk.proofs.links.field_number.Goals as goal
 
-pub returns-then-end-p : goal.returns-then-end-p
+pub returns-in_err-check-clause-told : goal.returns-in_err-check-clause-told
 unfolding field_number
-returns-then-end-p c = (simp (lt-ltb _ _ c.if-end-p.true, ← c.end.ensures.0), λ e. omega arith)
+returns-in_err-check-clause-told c =
+    let e = c.in_err-check.ensures in
+    same_breach _ _ c.from_residual.ensures.1 ∙ e.told ∙ simp (← c.end.ensures.0, e.tests.0, lt-ltb _ _ (leb-false _ _ e.tests.0))
 
-pub returns : goal.returns
+pub returns-clause-told : goal.returns-clause-told
 unfolding field_number
-returns c = (simp (c.unless_passed.ensures, ← c.is_nat.ensures, le-ltb _ _ c.if-end-p.false, ← c.end.ensures.0), λ e. omega (arith, c.if-end-p.false, c.end.ensures.1))
+returns-clause-told c =
+    let s = rw (to_z-of_z c.ranges.z) at c.is_at.ensures in
+    c.check-2.ensures.told ∙ simp (← s, ← c.end.ensures.0, le-ltb _ _ (leb-true _ _ c.in_ok-check.ensures.tests))

@@ -1,11 +1,15 @@
-use Rattle.format.proofs.Numbers.{first_some, first_none, first_last}
 use Rattle.walk.specs.Walk.{tallied}
+use Rattle.walk.proofs.Chained.{stops_at, goes_on}
+use Rattle.walk.proofs.Widened.{widened, widened_before}
 use Rattle.walk.proofs.links.tally.Goals as goal
 
-pub returns-then-counted-ne0 : goal.returns-then-counted-ne0
+pub returns-in_err-field_number : goal.returns-in_err-field_number
 unfolding tallied
-returns-then-counted-ne0 c = simp (first_some c.if-counted-ne0.true, ← c.field_number-counted.ensures.0)
+returns-in_err-field_number c =
+    stops_at _ _ c.from_residual.ensures.1 (rw (widened _ _ c.from.ensures c.from.type_inv) at c.in_err-field_number.ensures.told) _
 
 pub returns : goal.returns
 unfolding tallied
-returns c = simp (c.before_number.ensures, first_none c.if-counted-ne0.false, ← c.field_number-counted.ensures.0, first_last)
+returns c =
+    goes_on _ _ (rw (widened _ _ c.from.ensures c.from.type_inv) at c.in_ok-field_number.ensures.told)
+    (rw (widened_before _ _ c.from-2.ensures c.from-2.type_inv) at c.field_number-2.ensures.told)

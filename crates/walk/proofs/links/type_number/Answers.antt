@@ -1,11 +1,18 @@
-use borrow.Author.Tests.{lt-ltb, le-ltb}
+use Rattle.std.proofs.Common.{◌∙◌}
+use Rattle.std.proofs.Math.Facts.{to_z-of_z}
+use borrow.Author.Tests.{leb-true, leb-false, lt-ltb, le-ltb}
+use Rattle.records.proofs.Told.{same_breach}
 use Rattle.walk.specs.Walk.{type_number}
 use Rattle.walk.proofs.links.type_number.Goals as goal
 
-pub returns-then-end-o : goal.returns-then-end-o
+pub returns-in_err-check : goal.returns-in_err-check
 unfolding type_number
-returns-then-end-o c = simp (lt-ltb _ _ c.if-end-o.true, ← c.end.ensures.0)
+returns-in_err-check c =
+    let e = c.in_err-check.ensures in
+    same_breach _ _ c.from_residual.ensures.1 ∙ e.told ∙ simp (← c.end.ensures.0, e.tests.0, lt-ltb _ _ (leb-false _ _ e.tests.0))
 
 pub returns : goal.returns
 unfolding type_number
-returns c = simp (c.unless_passed.ensures, ← c.is_nat.ensures, le-ltb _ _ c.if-end-o.false, ← c.end.ensures.0)
+returns c =
+    let s = rw (to_z-of_z c.ranges.t) at c.is_at.ensures in
+    c.check-2.ensures.told ∙ simp (← s, ← c.end.ensures.0, le-ltb _ _ (leb-true _ _ c.in_ok-check.ensures.tests))
