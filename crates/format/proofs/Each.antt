@@ -1,24 +1,32 @@
--- A row of fields, by the numbers of its fields. Assumes nothing.
-use mathlib.Core.Path.{◌≡◌, refl, ap, ◌∙◌}
-use mathlib.Core.Bool.{Bool, ◌&&◌}
+-- A row of fields, one field after the other. Assumes nothing.
+use mathlib.Core.Path.{◌≡◌, sym, ap, ◌∙◌}
+use mathlib.Core.Bool.{true, false, ◌&&◌}
 use mathlib.Core.List.{List}
-use Prim.Native.Nat.{ℕ, zero, suc, ◌+◌, ◌*◌}
+use Prim.Native.Nat.{ℕ, suc, ◌+◌, ◌-◌, ◌*◌, ◌≤◌, ◌<◌}
 use native.Mathlib.Omega.{arith}
 use lib.IntN.{ℤ}
-use Rattle.std.specs.List.{list_all, range_with_len}
 use Rattle.format.specs.Fields.{within_at, each_within}
 
-module _ (f : List ℕ) (at : ℕ) (lo hi : ℤ) where
-  -- the field number i of the row lies in lo to hi
-  abbrev pub here : ℕ → Bool
-  here i = within_at f (at + 4 * i) lo hi
+module _ (f : List ℕ) (at n : ℕ) (lo hi : ℤ) where
+  -- all of them
+  pub each_start : each_within f at n lo hi ≡ each_within f (at + 4 * 0) (n - 0) lo hi
+  each_start = let a : at + 4 * 0 ≡ at = omega arith in let b : n - 0 ≡ n = omega arith in rw (a, b)
 
-  each_from : (n k : ℕ) → list_all here (range_with_len k n) ≡ each_within f (at + 4 * k) n lo hi
-  unfolding each_within
-  each_from zero k = refl
-  each_from (suc n) k =
-      let next : at + 4 * (k + 1) ≡ at + 4 * k + 4 = omega arith in
-      ap (λ (b : Bool). here k && b) (each_from n (k + 1) ∙ ap (λ (p : ℕ). each_within f p n lo hi) next)
+  module _ (i : ℕ) where
+    -- the field number i, and those behind it
+    each_first : i < n → each_within f (at + 4 * i) (n - i) lo hi ≡ (within_at f (at + 4 * i) lo hi && each_within f (at + 4 * i + 4) (n - i - 1) lo hi)
+    unfolding each_within
+    each_first h = let up : suc (n - i - 1) ≡ n - i = omega arith in ap (λ (k : ℕ). each_within f (at + 4 * i) k lo hi) (sym up)
 
-  pub each_is : (n : ℕ) → list_all here (range_with_len 0 n) ≡ each_within f at n lo hi
-  each_is n = each_from n 0 ∙ ap (λ (p : ℕ). each_within f p n lo hi) (omega arith)
+    pub each_bad : i < n → within_at f (at + 4 * i) lo hi ≡ false → false ≡ each_within f (at + 4 * i) (n - i) lo hi
+    each_bad h e = rw (each_first h, e)
+
+    pub each_good : i < n → within_at f (at + 4 * i) lo hi ≡ true → each_within f (at + 4 * i) (n - i) lo hi ≡ each_within f (at + 4 * (i + 1)) (n - (i + 1)) lo hi
+    each_good h e =
+        let a : at + 4 * i + 4 ≡ at + 4 * (i + 1) = omega arith in
+        let b : n - i - 1 ≡ n - (i + 1) = omega arith in
+        rw (each_first h, e) (ap (λ (p : ℕ). each_within f p (n - i - 1) lo hi) a ∙ ap (λ (k : ℕ). each_within f (at + 4 * (i + 1)) k lo hi) b)
+
+    pub each_none : n ≤ i → true ≡ each_within f (at + 4 * i) (n - i) lo hi
+    unfolding each_within
+    each_none h = let z : n - i ≡ 0 = omega arith in rw z
